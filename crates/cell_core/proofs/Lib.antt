@@ -1,0 +1,6 @@
+pub mod DayExamples
+pub mod DayLemmas
+pub mod OperatorExamples
+pub mod SortedLemmas
+pub mod TextExamples
+pub mod TextLemmas

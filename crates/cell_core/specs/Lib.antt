@@ -1,0 +1,12 @@
+pub mod Calc
+pub mod CellText
+pub mod Day
+pub mod Groups
+pub mod Kinds
+pub mod Operators
+pub mod Order
+pub mod Pairs
+pub mod Relations
+pub mod Same
+pub mod Sorted
+pub mod Tables

@@ -1,0 +1,33 @@
+//! Cells, texts, tables and databases: what every other crate of the project speaks of.
+//!
+//! It stands on no other crate. It promises the one order of cells (`compare`), their stated size
+//! (`stated_bytes`), their text (`write_cell`), the civil days (`read_day`), and values that are
+//! shared and not copied (`Word::share`, `Cell::share`). `Steps` counts stated work.
+//!
+//! Its definitions say what each operator of a plan (`Op`) gives, when it overflows, how much work it
+//! is, and which arguments fit it; a BAT is a list of pairs of cells there.
+#![tactic(auto)]
+
+mod cell;
+mod day;
+mod memory;
+mod operator;
+mod order;
+mod rows;
+mod sequence;
+mod steps;
+mod table;
+mod text;
+mod word;
+
+pub use cell::{Cell, Kind};
+pub use day::{days_read_as_printed, read_day};
+pub use memory::{Memory, RunError};
+pub use operator::{Arg, Instr, Op, Value};
+pub use order::{compare, stated_bytes};
+pub use rows::{compare_rows, sort_rows};
+pub use sequence::Sequence;
+pub use steps::Steps;
+pub use table::{Column, Db, Table, copy_cells, copy_columns, copy_rows, find_column};
+pub use text::write_cell;
+pub use word::{Word, word_of};

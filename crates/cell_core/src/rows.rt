@@ -1,0 +1,42 @@
+ghost use Rattle.std.specs.Prelude.{◌≡◌, OnOk, OnErr};
+ghost use Rattle.std.specs.Ordering.{is_lt};
+ghost use Rattle.cell_core.specs.Order.{cells_cmp, is_row_below};
+ghost use Rattle.cell_core.specs.Sorted.{sorted_by};
+
+use crate::cell::Cell;
+use crate::memory::Memory;
+use crate::order::compare;
+use crate::sequence::Sequence;
+use std::cmp::Ordering;
+
+/// Rows compare by their cells from the left, and a row that begins another comes before it.
+pub fn compare_rows(a: &[Cell], b: &[Cell]) -> Ordering
+    ensures { result ≡ cells_cmp a.now b.now }
+{
+    let (mut left, mut right) = (a, b);
+    'places: while let [x, xs @ ..] = left {
+        let [y, ys @ ..] = right else {
+            return Ordering::Greater;
+        };
+        let order = compare(x, y);
+        if order != Ordering::Equal {
+            return order;
+        }
+        left = xs;
+        right = ys;
+    }
+    if right.is_empty() {
+        Ordering::Equal
+    } else {
+        Ordering::Less
+    }
+}
+
+/// Puts rows into ascending order; rows that tie keep their order. Memory leaves them as they were.
+pub fn sort_rows(rows: &mut Vec<Sequence<Cell>>) -> Result<(), Memory>
+    ensures ok { OnOk result (rows.new.items ≡ sorted_by is_row_below rows.old.items) }
+    ensures err { OnErr result (rows.new.items ≡ rows.old.items) }
+{
+    rows.sort_by(|a, b| compare_rows(a.as_slice(), b.as_slice()))?;
+    Ok(())
+}
