@@ -1,0 +1,113 @@
+ghost use Rattle.causes.specs.Faults.{Rose, next_count};
+ghost use Rattle.causes.specs.InMemory.{bytes_of_name, files_of};
+ghost use Rattle.std.specs.Io.KnownBytes.{Keeps, ReadConsumes};
+ghost use Rattle.std.specs.Io.{ReadsAtMost};
+ghost use Rattle.std.specs.Prelude.{◌≡◌, ℕ, ◌<◌, ◌≤◌, ◌↔◌, ◌⊎◌, List, length, Contains, IsErr, IsNone, IsSome, None, OnErr, OnOk};
+
+use crate::error::Failed;
+use crate::failing_calls::FailingCalls;
+use crate::open_files::OpenFiles;
+use crate::source::Scripts;
+use cell_core::Word;
+use std::marker::Model;
+
+/// Files in memory that fail at chosen calls.
+///
+/// The calls of `start` and `read` are numbered together from 1. A listed call fails, and so does
+/// the start of an unknown name. Of two files with one name the first counts.
+#[derive(Debug, Drop)]
+pub struct MemScripts {
+    files: OpenFiles,
+    calls: FailingCalls,
+}
+
+impl Model for MemScripts {
+    ghost use Rattle.causes.specs.InMemory.{FailingSource};
+
+    ghost Value = { FailingSource };
+
+    ghost view = { λ s. record {
+      files = s.files.files;
+      failing = s.calls.listed.items;
+      remaining = s.files.remaining;
+      calls = s.calls.calls;
+      faults = s.calls.faults;
+    } };
+}
+
+impl MemScripts {
+    /// A source with these files, which fails at the calls with these numbers. Takes no memory.
+    pub fn new(files: Vec<(Word, Vec<u8>)>, failing: Vec<u64>) -> MemScripts
+        ensures files { result.files ≡ files_of files.items }
+        ensures failing { result.failing ≡ failing.items }
+        ensures remaining { result.remaining ≡ None }
+        ensures calls { result.calls ≡ 0 }
+        ensures faults { result.faults ≡ 0 }
+    {
+        MemScripts {
+            files: OpenFiles::new(files),
+            calls: FailingCalls::new(failing),
+        }
+    }
+}
+
+impl Scripts for MemScripts {
+    ghost bytes_of = { λ s name. bytes_of_name s.files name };
+
+    ghost is_started = { λ s. IsSome s.remaining };
+
+    ghost remaining = { λ s. s.remaining };
+
+    ghost faults = { λ s. s.faults };
+
+    fn start(&mut self, name: &str) -> Result<(), Failed>
+        ensures started { OnOk result (IsSome self.new.remaining) }
+        ensures begins { OnOk result (self.new.remaining ≡ bytes_of_name self.old.files name.now) }
+        ensures kept { OnErr result (Keeps self.old.remaining self.new.remaining) }
+        ensures same { (other : List ℕ) →
+            bytes_of_name self.new.files other ≡ bytes_of_name self.old.files other }
+        ensures later { self.old.faults ≤ self.new.faults }
+        ensures failed { OnErr result (Rose self.old.faults self.new.faults) }
+
+        ensures numbered { self.new.calls ≡ next_count self.old.calls }
+        ensures exactly { IsErr result ↔ (Contains self.old.failing self.new.calls
+            ⊎ IsNone (bytes_of_name self.old.files name.now)) }
+        ensures uncounted { OnOk result (self.new.faults ≡ self.old.faults) }
+        ensures files { self.new.files ≡ self.old.files }
+        ensures failing { self.new.failing ≡ self.old.failing }
+    {
+        if self.calls.begins_failing() || !self.files.open(name) {
+            self.calls.fail();
+            return Err(Failed);
+        }
+        Ok(())
+    }
+
+    fn read(&mut self, buf: &mut [u8]) -> Result<usize, Failed>
+        requires started { IsSome self.old.remaining }
+        requires room { 0 < length buf.old }
+        ensures still_started { IsSome self.new.remaining }
+        ensures bound { ReadsAtMost result buf.new }
+        ensures bytes { ReadConsumes self.old.remaining self.new.remaining result buf.new }
+        ensures same { (other : List ℕ) →
+            bytes_of_name self.new.files other ≡ bytes_of_name self.old.files other }
+        ensures later { self.old.faults ≤ self.new.faults }
+        ensures failed { OnErr result (Rose self.old.faults self.new.faults) }
+
+        ensures numbered { self.new.calls ≡ next_count self.old.calls }
+        ensures exactly { IsErr result ↔ Contains self.old.failing self.new.calls }
+        ensures uncounted { OnOk result (self.new.faults ≡ self.old.faults) }
+        ensures files { self.new.files ≡ self.old.files }
+        ensures failing { self.new.failing ≡ self.old.failing }
+    {
+        if self.calls.begins_failing() {
+            self.calls.fail();
+            return Err(Failed);
+        }
+        Ok(self.files.read(buf))
+    }
+
+    fn faults(&self) -> u64 {
+        self.calls.faults
+    }
+}

@@ -1,0 +1,49 @@
+ghost use Rattle.causes.specs.Faults.{Rose};
+ghost use Rattle.std.specs.Io.KnownBytes.{Keeps, ReadConsumes};
+ghost use Rattle.std.specs.Io.{ReadsAtMost};
+ghost use Rattle.std.specs.Prelude.{◌≡◌, ℕ, ◌<◌, ◌≤◌, List, length, OnOk, OnErr, Option};
+
+use crate::error::Failed;
+
+/// Where the bytes of named scripts come from, one script at a time.
+///
+/// A call answers `Failed` only where the count of faults rose in it. The count never falls, and
+/// one that stands at 2^64 - 1 is taken as one that rose.
+pub trait Scripts {
+    // The bytes of each name, where they are told.
+    ghost bytes_of: { Self → List ℕ → Option (List ℕ) };
+
+    // Whether a name is started.
+    ghost is_started: { Self → Type 0 };
+
+    // What is left of the started name, where it is told.
+    ghost remaining: { Self → Option (List ℕ) };
+
+    // How many faults were counted.
+    ghost faults: { Self → ℕ };
+
+    /// Sets the reading at the first byte of that name. `Failed` leaves it where it was.
+    fn start(&mut self, name: &str) -> Result<(), Failed>
+        ensures started { OnOk result (is_started self.new) }
+        ensures begins { OnOk result (remaining self.new ≡ bytes_of self.old name.now) }
+        ensures kept { OnErr result (Keeps (remaining self.old) (remaining self.new)) }
+        ensures same { (other : List ℕ) → bytes_of self.new other ≡ bytes_of self.old other }
+        ensures later { faults self.old ≤ faults self.new }
+        ensures failed { OnErr result (Rose (faults self.old) (faults self.new)) };
+
+    /// Gives the next bytes of the started name at the front of `buf`, at least one of them unless
+    /// none is left. `Failed` takes none.
+    fn read(&mut self, buf: &mut [u8]) -> Result<usize, Failed>
+        requires started { is_started self.old }
+        requires room { 0 < length buf.old }
+        ensures still_started { is_started self.new }
+        ensures bound { ReadsAtMost result buf.new }
+        ensures bytes { ReadConsumes (remaining self.old) (remaining self.new) result buf.new }
+        ensures same { (other : List ℕ) → bytes_of self.new other ≡ bytes_of self.old other }
+        ensures later { faults self.old ≤ faults self.new }
+        ensures failed { OnErr result (Rose (faults self.old) (faults self.new)) };
+
+    /// How many faults were counted; 2^64 - 1 stands for that many or more.
+    fn faults(&self) -> u64
+        ensures { result ≡ faults self.now };
+}
