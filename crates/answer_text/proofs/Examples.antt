@@ -1,0 +1,127 @@
+-- What the definitions say of small cases, and of a whole run.
+use Rattle.std.proofs.Common.{◌≡◌, ℕ, zero, suc, ◌+◌, List, [], ◌∷◌, false, Some, None, Ok, Err, Result, pos, codes, refl, sym, subst, lit≤}
+use Rattle.std.specs.Prelude.{slice_get}
+use Rattle.std.specs.Fmt.{digits}
+use Rattle.cell_core.specs.declared.cell.Cell.{Cell}
+use Rattle.cell_core.specs.declared.cell.Cell.TheVariants as cell
+use Rattle.cell_core.specs.declared.cell.Kind.TheVariants as kind
+use Rattle.sql_core.specs.Names.{is_reserved_word}
+use Rattle.sql_core.specs.declared.tree.Expr.{Expr}
+use Rattle.sql_core.specs.declared.tree.Expr.TheVariants.{Lit, Col}
+use Rattle.sql_core.specs.declared.tree.Cond.TheVariants.{Between}
+use Rattle.sql_core.specs.declared.tree.Query.{Query}
+use Rattle.sql_core.specs.declared.tree.Stmt.{Stmt}
+use Rattle.sql_core.specs.declared.tree.Stmt.TheVariants as stmt
+use Rattle.sql_core.specs.declared.refusal.Refusal.{Refusal}
+use Rattle.sql_core.specs.declared.refusal.Refusal.TheVariants.{Syntax, NoTable}
+use Rattle.answer_text.specs.declared.event.Event.{Event}
+use Rattle.answer_text.specs.declared.event.Act.{Act}
+use Rattle.answer_text.specs.declared.event.Act.TheVariants.{Begin, Write, End}
+use Rattle.answer_text.specs.declared.event.Shown.TheVariants as shown
+use Rattle.answer_text.specs.Log.{acts_of, logged_of, IsOrdered}
+use Rattle.answer_text.specs.Layout.{record_text, reply_text, printed}
+
+-- ## Records and replies
+
+-- no value, an empty text, a comma and quotes
+fields : record_text ((92 ∷ codes "N") ∷ [] ∷ codes "a,b" ∷ codes "say \"x\"" ∷ []) ≡ 92 ∷ codes "N,,\"a,b\",\"say \"\"x\"\"\"\n"
+fields = refl
+
+one_empty_field : record_text ([] ∷ []) ≡ codes "\"\"\n"
+one_empty_field = refl
+
+two_empty_fields : record_text ([] ∷ [] ∷ []) ≡ codes ",\n"
+two_empty_fields = refl
+
+abbrev pub row : ℕ → List Cell
+row n = cell.Int (pos n) ∷ []
+
+rows_reply : reply_text 3 (shown.Rows (row 2 ∷ row 3 ∷ [])) ≡ codes "3 rows 2\n2\n3\n"
+unfolding digits
+rows_reply = refl
+
+no_rows_reply : reply_text 3 (shown.Rows []) ≡ codes "3 rows 0\n"
+unfolding digits
+no_rows_reply = refl
+
+count_reply : reply_text 12 (shown.Count 100) ≡ codes "12 ok 100\n"
+unfolding digits
+count_reply = refl
+
+refused_reply : reply_text 1 (shown.Refused (NoTable (codes "u"))) ≡ codes "1 refused 3 no such table u\n"
+unfolding digits
+refused_reply = refl
+
+-- ## A whole run
+
+-- CREATE TABLE t (a INT)
+abbrev pub create_t : Stmt
+create_t = stmt.Create (codes "t") (record { name = codes "a"; kind = kind.Int; width = 0; not_null = false } ∷ [])
+
+-- INSERT INTO t VALUES (3), (1), (2)
+abbrev pub insert_t : Stmt
+insert_t = stmt.Insert (codes "t") [] (row 3 ∷ row 1 ∷ row 2 ∷ [])
+
+abbrev pub expr_a : Expr
+expr_a = Col (record { table = None; column = codes "a" })
+
+-- SELECT a FROM t WHERE a BETWEEN 2 AND 3
+abbrev pub select_a : Stmt
+select_a = stmt.Query (record {
+  items = record { expr = expr_a } ∷ [];
+  froms = record { table = codes "t" } ∷ [];
+  cond = Some (Between expr_a (Lit (cell.Int (pos 2))) (Lit (cell.Int (pos 3))));
+})
+
+abbrev pub script : List (Result Stmt Refusal)
+script = Ok create_t ∷ Ok insert_t ∷ Ok select_a ∷ []
+
+abbrev pub event : ℕ → ℕ → Act → Event
+event session statement act = record { session = session; statement = statement; act = act }
+
+abbrev pub log : List Event
+log =
+    event 1 1 (Write (Some create_t) 0 0) ∷ event 1 2 (Write (Some insert_t) 0 3)
+    ∷ event 1 3 (Begin 0) ∷ event 1 3 (End 0) ∷ []
+
+acts : acts_of log 1 script ≡ logged_of 1 log
+unfolding is_reserved_word
+acts = refl
+
+statements : (i : ℕ) (readings : List (Result Stmt Refusal)) → slice_get (script ∷ []) i ≡ Some readings → logged_of (i + 1) log ≡ acts_of log (i + 1) readings
+statements zero readings e = let here : script ≡ readings = cc in subst (λ rs. logged_of 1 log ≡ acts_of log 1 rs) here (sym acts)
+statements (suc i) readings e = cc
+
+-- the log is one of this run
+ordered : IsOrdered (script ∷ []) log
+ordered = record {
+  sessions = ((lit≤ tt, lit≤ tt), ((lit≤ tt, lit≤ tt), ((lit≤ tt, lit≤ tt), ((lit≤ tt, lit≤ tt), tt))));
+  statements = statements;
+}
+
+output : printed (codes "a.sql" ∷ []) (script ∷ []) log ≡ codes "session 1 a.sql\n1 ok\n2 ok 3\n3 rows 2\n2\n3\nhistory 2\n1 1 1 CREATE TABLE t (a INT);\n2 1 2 INSERT INTO t VALUES (3), (1), (2);\n"
+unfolding is_reserved_word digits
+output = refl
+
+-- ## Two sessions
+
+-- the second session's insert comes before the table is there, and is refused, and so is a text that is no statement
+abbrev pub two_log : List Event
+two_log =
+    event 2 1 (Write (Some insert_t) 3 0) ∷ event 1 1 (Write (Some create_t) 0 0)
+    ∷ event 2 2 (Write None 1 0) ∷ event 2 3 (Write (Some insert_t) 0 3) ∷ []
+
+abbrev pub second_script : List (Result Stmt Refusal)
+second_script = Ok insert_t ∷ Err Syntax ∷ Ok insert_t ∷ []
+
+first_acts : acts_of two_log 1 (Ok create_t ∷ []) ≡ logged_of 1 two_log
+unfolding is_reserved_word
+first_acts = refl
+
+second_acts : acts_of two_log 2 second_script ≡ logged_of 2 two_log
+unfolding is_reserved_word
+second_acts = refl
+
+two_output : printed (codes "a.sql" ∷ codes "b.sql" ∷ []) ((Ok create_t ∷ []) ∷ second_script ∷ []) two_log ≡ codes "session 1 a.sql\n1 ok\nsession 2 b.sql\n1 refused 3 no such table t\n2 refused 1 syntax\n3 ok 3\nhistory 2\n1 1 1 CREATE TABLE t (a INT);\n2 2 3 INSERT INTO t VALUES (3), (1), (2);\n"
+unfolding is_reserved_word digits
+two_output = refl

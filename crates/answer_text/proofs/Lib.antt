@@ -1,0 +1,3 @@
+pub mod ChangeLemmas
+pub mod Examples
+pub mod RecordLemmas

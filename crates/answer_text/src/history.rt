@@ -1,0 +1,69 @@
+ghost use Rattle.std.specs.Prelude.{◌≡◌, ◌++◌, length, flat_map, OnOk, OnErr, codes, decimal};
+ghost use Rattle.std.specs.List.{enumerate_from};
+ghost use Rattle.sql_core.specs.Canon.{canonical};
+ghost use Rattle.answer_text.specs.Layout.{changes_of, change_line, history_text};
+
+use crate::event::Event;
+use crate::number::write_number;
+use cell_core::Memory;
+use sql_core::{Stmt, print_stmt};
+use std::alloc::Global;
+
+/// Appends the history of a log: how many changes were accepted, and a line for each. Where memory
+/// runs out, `out` stays as it was.
+pub fn write_history(alloc: Global, log: &[Event], out: &mut Vec<u8>) -> Result<(), Memory>
+    ensures ok { OnOk result (out.new.items ≡ out.old.items ++ history_text log.now) }
+    ensures err { OnErr result (out.new.items ≡ out.old.items) }
+{
+    let mut text = Vec::from_slice(alloc, b"history ")?;
+    write_number(count_changes(log) as u64, &mut text)?;
+    text.extend_from_slice(b"\n")?;
+    write_changes(alloc, log, &mut text)?;
+    out.extend_from_slice(&text)?;
+    Ok(())
+}
+
+/// How many changes a log accepts.
+fn count_changes(log: &[Event]) -> usize
+    ensures { result ≡ length (changes_of log.now) }
+{
+    log.iter()
+        .filter(|event| event.act.committed().is_some())
+        .count()
+}
+
+/// Appends a line for each accepted change, numbered from 1.
+fn write_changes(alloc: Global, log: &[Event], out: &mut Vec<u8>) -> Result<(), Memory>
+    ensures { OnOk result (out.new.items ≡ out.old.items ++ flat_map (λ (i, change). change_line i change) (enumerate_from 1 (changes_of log.now))) }
+{
+    let mut count = 0;
+    for event in log {
+        let Some(stmt) = event.act.committed() else {
+            continue;
+        };
+        count += 1;
+        write_change(alloc, count, event, stmt, out)?;
+    }
+    Ok(())
+}
+
+/// Appends the line of an accepted change.
+fn write_change(
+    alloc: Global,
+    count: u64,
+    event: &Event,
+    stmt: &Stmt,
+    out: &mut Vec<u8>,
+) -> Result<(), Memory>
+    ensures { OnOk result (out.new.items ≡ out.old.items ++ change_line count (record { session = event.now.session; statement = event.now.statement; text = canonical stmt.now })) }
+{
+    write_number(count, out)?;
+    out.extend_from_slice(b" ")?;
+    write_number(u64::from(event.session), out)?;
+    out.extend_from_slice(b" ")?;
+    write_number(u64::from(event.statement), out)?;
+    out.extend_from_slice(b" ")?;
+    out.extend_from_slice(&print_stmt(alloc, stmt)?)?;
+    out.extend_from_slice(b";\n")?;
+    Ok(())
+}
