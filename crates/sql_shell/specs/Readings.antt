@@ -1,0 +1,11 @@
+-- What the pieces of a script read as.
+use Rattle.std.specs.Prelude.{ℕ, List, [], ◌∷◌, Result}
+use Rattle.sql_core.specs.Reading.{IsReadAs}
+use Rattle.sql_core.specs.declared.tree.Stmt.{Stmt}
+use Rattle.sql_core.specs.declared.refusal.Refusal.{Refusal}
+
+-- each piece reads so
+abbrev pub AreReadings : List (List ℕ) → List (Result Stmt Refusal) → Type 0
+AreReadings [] [] = Unit {0}
+AreReadings (piece ∷ pieces) (reading ∷ readings) = IsReadAs piece reading × AreReadings pieces readings
+AreReadings _ _ = ⊥

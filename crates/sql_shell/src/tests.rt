@@ -1,0 +1,158 @@
+ghost use Rattle.std.specs.Prelude.{◌≡◌, ◌<◌};
+
+use super::*;
+use causes::{MemScripts, MemSink};
+use cell_core::{Memory, Steps, Word, word_of};
+use std::alloc::Global;
+use std::marker::Brand;
+use std::sync::ledger::{Blank, Ledger};
+use std::test::Fail;
+
+/// The status of a run, the file that it is about, and what is written.
+type Outcome = (u8, u64, Vec<u8>);
+
+/// A run over a script named `a.sql`, with the call of the source and the call of the sink that fail.
+fn run_words<L: Ledger>(
+    alloc: Global,
+    texts: &[&str],
+    script: Vec<u8>,
+    failing: (u64, u64),
+    blank: Blank,
+) -> Result<Outcome, Memory>
+    requires name { blank.name ≡ L.name }
+    requires parts { blank.parts ≡ L.parts }
+    requires some { 0 < blank.parts }
+{
+    let mut words = Vec::new(alloc);
+    for text in texts {
+        words.push(word_of(alloc, text)?)?;
+    }
+    let mut files = Vec::new(alloc);
+    files.push((word_of(alloc, "a.sql")?, script))?;
+    let mut scripts = MemScripts::new(files, vec![in alloc; failing.0]?);
+    let mut out = MemSink::new(alloc, 10, 100_000, vec![in alloc; failing.1]?)?;
+    let mut steps = Steps::<L>::new(blank);
+    let served = top(alloc, words.as_slice(), &mut scripts, &mut out, &mut steps);
+    let held = Vec::from_slice(alloc, out.held())?;
+    Ok((served.status, served.at, held))
+}
+
+fn run(
+    alloc: Global,
+    texts: &[&str],
+    script: &[u8],
+    failing: (u64, u64),
+) -> Result<Outcome, Memory> {
+    let script = Vec::from_slice(alloc, script)?;
+    run_words::<Brand>(alloc, texts, script, failing, Blank::new(1))
+}
+
+const THREE: &str = "CREATE TABLE t (a INT); INSERT INTO t VALUES (3), (1), (2); \
+    SELECT a FROM t WHERE a BETWEEN 2 AND 3;";
+
+const THREE_SERVED: &str = "session 1 a.sql\n1 ok\n2 ok 3\n3 rows 2\n2\n3\nhistory 2\n\
+    1 1 1 CREATE TABLE t (a INT);\n2 1 2 INSERT INTO t VALUES (3), (1), (2);\n";
+
+#[test]
+fn scripts_and_what_is_written(rt: HostRuntime) -> Result<(), Fail> {
+    let alloc = rt.alloc();
+    for (script, want) in [
+        ("", "session 1 a.sql\nhistory 0\n"),
+        (" ;\n\t; ", "session 1 a.sql\nhistory 0\n"),
+        (THREE, THREE_SERVED),
+        (
+            "insert into T values (1); create table T (A int); create table t (b int); \
+             select b from t where a between 1 and 2; select a from t where b between 1 and 2; \
+             select a from u where a between 1 and 2; Select A From T Where A Between -1 And 1",
+            "session 1 a.sql\n1 refused 3 no such table t\n2 ok\n3 refused 4 table exists t\n\
+             4 refused 5 no such column b\n5 refused 5 no such column b\n\
+             6 refused 3 no such table u\n7 rows 0\nhistory 1\n1 1 2 CREATE TABLE t (a INT);\n",
+        ),
+        (
+            "CREATE TABLE t (a INT); INSERT INTO t VALUES (- 5), (007), (-9223372036854775808); \
+             INSERT INTO t VALUES (9223372036854775808); DROP TABLE t; \
+             SELECT a FROM t WHERE a BETWEEN -9223372036854775808 AND 9223372036854775807; \
+             INSERT INTO t VALUES (7); SELECT a FROM t WHERE a BETWEEN 7 AND 7",
+            "session 1 a.sql\n1 ok\n2 ok 3\n3 refused 2 unsupported NOT BUILT\n\
+             4 refused 2 unsupported NOT BUILT\n5 rows 3\n-9223372036854775808\n-5\n7\n6 ok 1\n\
+             7 rows 2\n7\n7\nhistory 3\n1 1 1 CREATE TABLE t (a INT);\n\
+             2 1 2 INSERT INTO t VALUES (-5), (7), (-9223372036854775808);\n\
+             3 1 6 INSERT INTO t VALUES (7);\n",
+        ),
+    ] {
+        let (status, at, text) = run(alloc, &["run", "a.sql"], script.as_bytes(), (0, 0))?;
+        assert_eq!(rt; (status, at), (0, 0), "{script}");
+        assert_eq!(rt; text.as_slice(), want.as_bytes(), "{script}");
+    }
+    Ok(())
+}
+
+#[test]
+fn statuses_and_what_they_are_about(rt: HostRuntime) -> Result<(), Fail> {
+    let alloc = rt.alloc();
+    let longest = vec![in alloc; b' '; 1_048_576]?;
+    let too_long = vec![in alloc; b' '; 1_048_577]?;
+    let many = vec![in alloc; b'x'; 257]?;
+    let mut many_pieces = Vec::new(alloc);
+    for b in many {
+        many_pieces.extend_from_slice(&[b, b';'])?;
+    }
+    let three = THREE.as_bytes();
+    let run_a: &[&str] = &["run", "a.sql"];
+    for (name, texts, script, failing, status, at, written) in [
+        ("no words", &[] as &[&str], three, (0, 0), 1, 0, ""),
+        ("run alone", &["run"], three, (0, 0), 1, 0, ""),
+        (
+            "two files",
+            &["run", "a.sql", "b.sql"],
+            three,
+            (0, 0),
+            1,
+            0,
+            "",
+        ),
+        ("an option", &["run", "-a.sql"], three, (0, 0), 1, 0, ""),
+        (
+            "another command",
+            &["replay", "a.sql"],
+            three,
+            (0, 0),
+            1,
+            0,
+            "",
+        ),
+        ("a missing file", &["run", "b.sql"], three, (0, 0), 2, 1, ""),
+        ("a failing start", run_a, three, (1, 0), 2, 1, ""),
+        ("a failing read", run_a, three, (2, 0), 2, 1, ""),
+        ("a failing write", run_a, three, (0, 2), 3, 0, "session 1 "),
+        (
+            "the longest",
+            run_a,
+            longest.as_slice(),
+            (0, 0),
+            0,
+            0,
+            "session 1 a.sql\nhistory 0\n",
+        ),
+        ("too long", run_a, too_long.as_slice(), (0, 0), 1, 0, ""),
+        ("no text", run_a, &[0xff], (0, 0), 1, 0, ""),
+        (
+            "257 statements",
+            run_a,
+            many_pieces.as_slice(),
+            (0, 0),
+            1,
+            0,
+            "",
+        ),
+        ("a string", run_a, b"'", (0, 0), 1, 0, ""),
+        ("a quoted name", run_a, b"\"", (0, 0), 1, 0, ""),
+        ("a comment", run_a, b"a --", (0, 0), 1, 0, ""),
+        ("a long comment", run_a, b"/*", (0, 0), 1, 0, ""),
+    ] {
+        let (got, about, text) = run(alloc, texts, script, failing)?;
+        assert_eq!(rt; (got, about), (status, at), "{name}");
+        assert_eq!(rt; text.as_slice(), written.as_bytes(), "{name}");
+    }
+    Ok(())
+}
