@@ -1,0 +1,77 @@
+//! The program `recycle_sql`: it hands the words of the command line, the files of the system and
+//! standard output to `sql_shell::top`, and ends with the status.
+//!
+//! Where the status isn't 0, `status <s> at <at>` stands on standard error.
+#![tactic(auto)]
+
+ghost use Rattle.std.specs.Prelude.{◌≡◌, ◌<◌};
+
+use causes::{FileScripts, OutSink};
+use cell_core::{Steps, Word, word_of};
+use sql_shell::top;
+use std::alloc::Global;
+use std::io::Write;
+use std::marker::Brand;
+use std::process::ExitCode;
+use std::rt::Files;
+use std::sync::ledger::{Blank, Ledger};
+use std::{env, io};
+
+/// A status, and the file that it is about.
+type Outcome = (u8, u64);
+
+fn main(rt: HostRuntime) -> ExitCode {
+    let (status, at) = match words_of(&rt) {
+        Ok(words) => run::<Brand, _, _>(
+            rt.alloc(),
+            words.as_slice(),
+            &rt,
+            rt.stdout(),
+            Blank::new(1),
+        ),
+        Err(outcome) => outcome,
+    };
+    if status != 0 {
+        let _ = eprintln!(rt; "status {status} at {at}");
+    }
+    ExitCode::from(status)
+}
+
+/// Runs the program over the files of the system, with a writer for its output.
+fn run<L: Ledger, F: Files + Drop, W: Write + Drop>(
+    alloc: Global,
+    words: &[Word],
+    files: F,
+    writer: W,
+    blank: Blank,
+) -> Outcome
+    requires name { blank.name ≡ L.name }
+    requires parts { blank.parts ≡ L.parts }
+    requires some { 0 < blank.parts }
+{
+    let mut steps = Steps::<L>::new(blank);
+    let mut scripts = FileScripts::new(files);
+    let mut out = OutSink::new(writer);
+    let served = top(alloc, words, &mut scripts, &mut out, &mut steps);
+    (served.status, served.at)
+}
+
+/// The words behind the program's name. Words that the system can't tell as text are outside the
+/// grammar.
+fn words_of(rt: &HostRuntime) -> Result<Vec<Word>, Outcome> {
+    let args = match env::args(rt) {
+        Ok(args) => args,
+        Err(e) if e.kind() == io::ErrorKind::OutOfMemory => return Err((5, 0)),
+        Err(_) => return Err((1, 0)),
+    };
+    let mut words = Vec::new(rt.alloc());
+    for arg in args.skip(1) {
+        let Ok(word) = word_of(rt.alloc(), arg.as_str()) else {
+            return Err((5, 0));
+        };
+        if words.push(word).is_err() {
+            return Err((5, 0));
+        }
+    }
+    Ok(words)
+}
