@@ -1,0 +1,5 @@
+pub mod Lists
+pub mod Views
+pub mod Keeps
+pub mod Lifecycle
+pub mod Calls
