@@ -1,0 +1,4 @@
+pub mod Bats
+pub mod Chunks
+pub mod Facts
+pub mod Objects

@@ -1,0 +1,152 @@
+//! A list of pairs of cells, kept as two columns.
+ghost use Rattle.std.specs.Prelude.{◌≡◌, [], ◌∷◌, ◌+◌, ◌++◌, ◌^◌, ◌<◌, length, take, slice_index_or, IfOk, OnOk, OnErr};
+ghost use Rattle.std.specs.List.{zip};
+ghost use Rattle.cell_core.specs.Pairs.{heads_of, tails_of};
+ghost use Rattle.cell_core.specs.Relations.{reversed, mirrored};
+ghost use Rattle.bat_core.specs.Facts.{rises};
+ghost use Rattle.bat_core.specs.Bats.{bat_bytes};
+
+use crate::cells::{Cells, push_both};
+use cell_core::{Cell, Memory};
+use std::alloc::Global;
+use std::marker::Model;
+
+/// A binary association table, which contracts see as its list of pairs (head, tail). It has fewer
+/// than 2^60 pairs and fewer than 2^62 stated bytes; one that would grow past its limit answers
+/// `Memory`.
+#[derive(Drop)]
+pub struct Bat {
+    heads: Cells,
+    tails: Cells,
+}
+
+impl Model for Bat {
+    ghost use Rattle.std.specs.Prelude.{◌≡◌, List, length};
+    ghost use Rattle.std.specs.List.{zip};
+    ghost use Rattle.cell_core.specs.declared.cell.Cell.{Cell};
+
+    ghost Value = { List (Cell × Cell) };
+
+    ghost view = { λ b. zip b.heads b.tails };
+
+    ghost invariant = { λ b. length b.tails ≡ length b.heads };
+}
+
+impl Bat {
+    /// The BAT without pairs.
+    pub fn new(alloc: Global) -> Bat
+        ensures { result ≡ [] }
+    {
+        Bat {
+            heads: Cells::new(alloc),
+            tails: Cells::new(alloc),
+        }
+    }
+
+    /// The BAT that pairs two columns place by place, without a copy.
+    pub fn from_columns(heads: Cells, tails: Cells) -> Bat
+        requires { length tails ≡ length heads }
+        ensures { result ≡ zip heads tails }
+    {
+        Bat { heads, tails }
+    }
+
+    /// The column of the heads.
+    pub fn heads(&self) -> &Cells
+        ensures { result.now ≡ heads_of self.now }
+    {
+        &self.heads
+    }
+
+    /// The column of the tails.
+    pub fn tails(&self) -> &Cells
+        ensures { result.now ≡ tails_of self.now }
+    {
+        &self.tails
+    }
+
+    /// How many pairs there are.
+    pub fn len(&self) -> u64
+        ensures len { result ≡ length self.now }
+        ensures small { result < 2 ^ 60 }
+    {
+        self.heads().len()
+    }
+
+    /// The pair at a place, counted from 0.
+    pub fn pair(&self, i: u64) -> (&Cell, &Cell)
+        requires { i < length self.now }
+        ensures { (result.0.now, result.1.now) ≡ slice_index_or self.now i (result.0.now, result.1.now) }
+    {
+        (self.heads().get(i), self.tails().get(i))
+    }
+
+    /// The heads and the tails from a place on, as far as both lie together.
+    pub fn run(&self, from: u64) -> (&[Cell], &[Cell])
+        requires { from < length self.now }
+        ensures some { 0 < length result.0.now }
+        ensures even { length result.1.now ≡ length result.0.now }
+        ensures pairs { take (from + length result.0.now) self.now ≡ take from self.now ++ zip result.0.now result.1.now }
+    {
+        let heads = self.heads().run(from);
+        let tails = self.tails().run(from);
+        let count = heads.len().min(tails.len());
+        (&heads[..count], &tails[..count])
+    }
+
+    /// The stated bytes, which are kept and not counted.
+    pub fn bytes(&self) -> u64
+        ensures bytes { result ≡ bat_bytes self.now }
+        ensures small { result < 2 ^ 62 }
+    {
+        let heads = if self.heads().is_dense() {
+            0
+        } else {
+            self.heads().bytes()
+        };
+        64 + self.tails().bytes() + heads
+    }
+
+    /// Whether each head stands strictly before the next, which is kept and not tested.
+    pub fn heads_rise(&self) -> bool
+        ensures { result ≡ rises (heads_of self.now) }
+    {
+        self.heads().rises()
+    }
+
+    /// Adds a pair at the end.
+    pub fn append(&mut self, alloc: Global, head: Cell, tail: Cell) -> Result<(), Memory>
+        ensures ok { OnOk result (self.new ≡ self.old ++ (head, tail) ∷ []) }
+        ensures err { OnErr result (self.new ≡ self.old) }
+    {
+        push_both(alloc, &mut self.heads, &mut self.tails, head, tail)?;
+        Ok(())
+    }
+
+    /// The pairs with their cells exchanged, in columns that both BATs share.
+    pub fn reversed(&self, alloc: Global) -> Result<Bat, Memory>
+        ensures { IfOk result (λ out. out ≡ reversed self.now) }
+    {
+        let heads = self.tails().share(alloc)?;
+        let tails = self.heads().share(alloc)?;
+        Ok(Bat { heads, tails })
+    }
+
+    /// Each head paired with itself, in columns that both BATs share.
+    pub fn mirrored(&self, alloc: Global) -> Result<Bat, Memory>
+        ensures { IfOk result (λ out. out ≡ mirrored self.now) }
+    {
+        let heads = self.heads().share(alloc)?;
+        let tails = self.heads().share(alloc)?;
+        Ok(Bat { heads, tails })
+    }
+
+    /// The heads, in a column that both BATs share, with other tails.
+    pub fn with_tails(&self, alloc: Global, tails: Cells) -> Result<Bat, Memory>
+        requires { length tails ≡ length self.now }
+        ensures { IfOk result (λ out. out ≡ zip (heads_of self.now) tails) }
+    {
+        let heads = self.heads().share(alloc)?;
+        Ok(Bat { heads, tails })
+    }
+}

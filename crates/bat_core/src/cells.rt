@@ -1,0 +1,203 @@
+//! A column of cells, in chunks that several columns share.
+ghost use Rattle.std.specs.Prelude.{◌≡◌, [], ◌∷◌, ◌+◌, ◌++◌, ◌^◌, ◌<◌, length, slice_index_or, take, IfOk, OnOk, OnErr, IfSome, vec_len};
+ghost use Rattle.std.specs.Vec.{vec_capacity};
+ghost use Rattle.std.specs.Option.{option_copied};
+ghost use Rattle.bat_core.specs.Facts.{rises, is_dense, cells_bytes, last_cell, AreToldOf};
+
+use crate::facts::{Facts, bytes_with, dense_after, rises_after};
+use crate::pile::{CHUNK, Pile};
+use cell_core::{Cell, Memory, copy_cells};
+use std::alloc::Global;
+use std::marker::Model;
+use std::mem;
+
+/// The cells of a column, which contracts see as their list. A column that grows past its limit of
+/// 2^60 stated bytes answers `Memory`.
+#[derive(Drop)]
+pub struct Cells {
+    pile: Pile,
+    loose: Vec<Cell>,
+    facts: Facts,
+}
+
+impl Model for Cells {
+    ghost use Rattle.std.specs.Prelude.{List, ◌++◌};
+    ghost use Rattle.cell_core.specs.declared.cell.Cell.{Cell};
+    ghost use Rattle.bat_core.specs.Facts.{AreToldOf};
+
+    ghost Value = { List Cell };
+
+    ghost view = { λ c. c.pile ++ c.loose.items };
+
+    ghost invariant = { λ c. AreToldOf c.facts (c.pile ++ c.loose.items) };
+}
+
+impl Cells {
+    /// The column without cells.
+    pub fn new(alloc: Global) -> Cells
+        ensures { result ≡ [] }
+    {
+        Cells {
+            pile: Pile::new(alloc),
+            loose: Vec::new(alloc),
+            facts: Facts::none(),
+        }
+    }
+
+    /// How many cells there are.
+    pub fn len(&self) -> u64
+        ensures len { result ≡ length self.now }
+        ensures small { result < 2 ^ 60 }
+    {
+        (self.pile.len() + self.loose.len()) as u64
+    }
+
+    /// The cells from a place on, as far as they lie together.
+    pub fn run(&self, from: u64) -> &[Cell]
+        requires { from < length self.now }
+        ensures some { 0 < length result.now }
+        ensures cells { take (from + length result.now) self.now ≡ take from self.now ++ result.now }
+    {
+        let from = from as usize;
+        let piled = self.pile.len();
+        if from < piled {
+            self.pile.run(from)
+        } else {
+            &self.loose[from - piled..]
+        }
+    }
+
+    /// The cell at a place, counted from 0.
+    pub fn get(&self, at: u64) -> &Cell
+        requires { at < length self.now }
+        ensures { result.now ≡ slice_index_or self.now at result.now }
+    {
+        &self.run(at)[0]
+    }
+
+    /// The last cell, if there is one.
+    pub fn last(&self) -> Option<&Cell>
+        ensures { option_copied result ≡ last_cell self.now }
+    {
+        let count = self.len();
+        if count == 0 {
+            None
+        } else {
+            Some(self.get(count - 1))
+        }
+    }
+
+    /// The sum of the cells' stated bytes.
+    pub fn bytes(&self) -> u64
+        ensures sum { result ≡ cells_bytes self.now }
+        ensures small { result < 2 ^ 60 }
+    {
+        self.facts.bytes
+    }
+
+    /// Whether each cell stands strictly before the next.
+    pub fn rises(&self) -> bool
+        ensures { result ≡ rises self.now }
+    {
+        self.facts.rises
+    }
+
+    /// Whether the cells are oids that rise by one each.
+    pub fn is_dense(&self) -> bool
+        ensures { result ≡ is_dense self.now }
+    {
+        self.facts.dense
+    }
+
+    /// An equal column, which shares the full chunks.
+    pub fn share(&self, alloc: Global) -> Result<Cells, Memory>
+        ensures { IfOk result (λ cells. cells ≡ self.now) }
+    {
+        let pile = self.pile.share(alloc)?;
+        let loose = copy_cells(alloc, self.loose.as_slice())?.into_vec();
+        Ok(Cells {
+            pile,
+            loose,
+            facts: self.facts,
+        })
+    }
+
+    /// Adds a cell at the end.
+    pub fn push(&mut self, alloc: Global, cell: Cell) -> Result<(), Memory>
+        ensures ok { OnOk result (self.new ≡ self.old ++ cell ∷ []) }
+        ensures err { OnErr result (self.new ≡ self.old) }
+    {
+        let facts = self.facts_with(&cell)?;
+        make_room(alloc, &mut self.pile, &mut self.loose)?;
+        put(&mut self.loose, cell);
+        self.facts = facts;
+        Ok(())
+    }
+
+    /// The facts once a cell is added, where the column may still grow by it.
+    fn facts_with(&self, cell: &Cell) -> Result<Facts, Memory>
+        ensures { IfOk result (λ facts. AreToldOf facts (self.now ++ cell.now ∷ [])) }
+    {
+        let Some(bytes) = bytes_with(self.facts.bytes, cell) else {
+            return Err(Memory);
+        };
+        let last = self.last();
+        Ok(Facts {
+            bytes,
+            rises: rises_after(self.facts.rises, last, cell),
+            dense: dense_after(self.facts.dense, last, cell),
+        })
+    }
+}
+
+/// Adds one cell at the end of each of two columns, or changes neither.
+pub(crate) fn push_both(
+    alloc: Global,
+    heads: &mut Cells,
+    tails: &mut Cells,
+    head: Cell,
+    tail: Cell,
+) -> Result<(), Memory>
+    ensures heads_ok { OnOk result (heads.new ≡ heads.old ++ head ∷ []) }
+    ensures tails_ok { OnOk result (tails.new ≡ tails.old ++ tail ∷ []) }
+    ensures heads_err { OnErr result (heads.new ≡ heads.old) }
+    ensures tails_err { OnErr result (tails.new ≡ tails.old) }
+{
+    let head_facts = heads.facts_with(&head)?;
+    let tail_facts = tails.facts_with(&tail)?;
+    make_room(alloc, &mut heads.pile, &mut heads.loose)?;
+    make_room(alloc, &mut tails.pile, &mut tails.loose)?;
+    put(&mut heads.loose, head);
+    heads.facts = head_facts;
+    put(&mut tails.loose, tail);
+    tails.facts = tail_facts;
+    Ok(())
+}
+
+/// Makes room for one more loose cell, and moves the loose cells to the pile once they fill a chunk.
+fn make_room(alloc: Global, pile: &mut Pile, loose: &mut Vec<Cell>) -> Result<(), Memory>
+    ensures cells { pile.new ++ loose.new.items ≡ pile.old ++ loose.old.items }
+    ensures room { OnOk result (vec_len loose.new < vec_capacity loose.new) }
+{
+    if loose.len() != CHUNK {
+        loose.reserve(1)?;
+        return Ok(());
+    }
+    let fresh = Vec::with_capacity(alloc, CHUNK)?;
+    let full = mem::replace(loose, fresh);
+    if let Err(back) = pile.add(alloc, full) {
+        *loose = back;
+        return Err(Memory);
+    }
+    Ok(())
+}
+
+/// Adds a cell where there is room for it.
+fn put(loose: &mut Vec<Cell>, cell: Cell)
+    requires { vec_len loose.old < vec_capacity loose.old }
+    ensures { loose.new.items ≡ loose.old.items ++ cell ∷ [] }
+{
+    if loose.push(cell).is_err() {
+        unreachable!();
+    }
+}
