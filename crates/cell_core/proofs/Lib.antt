@@ -1,3 +1,4 @@
+pub mod CutExamples
 pub mod DayExamples
 pub mod DayLemmas
 pub mod OperatorExamples

@@ -1,5 +1,6 @@
 pub mod Calc
 pub mod CellText
+pub mod Cuts
 pub mod Day
 pub mod Groups
 pub mod Kinds

@@ -5,10 +5,12 @@
 //! shared and not copied (`Word::share`, `Cell::share`). `Steps` counts stated work.
 //!
 //! Its definitions say what each operator of a plan (`Op`) gives, when it overflows, how much work it
-//! is, and which arguments fit it; a BAT is a list of pairs of cells there.
+//! is, and which arguments fit it; a BAT is a list of pairs of cells there. A span of cells lies
+//! between two cuts of their order (`Cut`, `Span`), and spans may cover another.
 #![tactic(auto)]
 
 mod cell;
+mod cut;
 mod day;
 mod memory;
 mod operator;
@@ -21,6 +23,7 @@ mod text;
 mod word;
 
 pub use cell::{Cell, Kind};
+pub use cut::{Cut, Span, compare_cuts};
 pub use day::{days_read_as_printed, read_day};
 pub use memory::{Memory, RunError};
 pub use operator::{Arg, Instr, Op, Value};
