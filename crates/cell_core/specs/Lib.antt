@@ -3,6 +3,7 @@ pub mod CellText
 pub mod Cuts
 pub mod Day
 pub mod Groups
+pub mod Keys
 pub mod Kinds
 pub mod Operators
 pub mod Order

@@ -28,7 +28,7 @@ pub use day::{days_read_as_printed, read_day};
 pub use memory::{Memory, RunError};
 pub use operator::{Arg, Instr, Op, Value};
 pub use order::{compare, stated_bytes};
-pub use rows::{compare_rows, sort_rows};
+pub use rows::{compare_rows, compare_rows_by, sort_rows, sort_rows_by};
 pub use sequence::Sequence;
 pub use steps::Steps;
 pub use table::{Column, Db, Table, copy_cells, copy_columns, copy_rows, find_column};

@@ -1,6 +1,7 @@
 ghost use Rattle.std.specs.Prelude.{◌≡◌, OnOk, OnErr};
 ghost use Rattle.std.specs.Ordering.{is_lt};
 ghost use Rattle.cell_core.specs.Order.{cells_cmp, is_row_below};
+ghost use Rattle.cell_core.specs.Keys.{key_cmp, keyed_cmp, is_keyed_below};
 ghost use Rattle.cell_core.specs.Sorted.{sorted_by};
 
 use crate::cell::Cell;
@@ -38,5 +39,46 @@ pub fn sort_rows(rows: &mut Vec<Sequence<Cell>>) -> Result<(), Memory>
     ensures err { OnErr result (rows.new.items ≡ rows.old.items) }
 {
     rows.sort_by(|a, b| compare_rows(a.as_slice(), b.as_slice()))?;
+    Ok(())
+}
+
+/// Rows compare by the cells at some places, each ascending (true) or descending, and then by all
+/// cells. A place behind a row's end counts as Nil.
+pub fn compare_rows_by(keys: &[(u32, bool)], a: &[Cell], b: &[Cell]) -> Ordering
+    ensures { result ≡ keyed_cmp keys.now a.now b.now }
+{
+    let mut rest = keys;
+    'keys: while let [key, others @ ..] = rest {
+        let order = compare_at(*key, a, b);
+        if order != Ordering::Equal {
+            return order;
+        }
+        rest = others;
+    }
+    compare_rows(a, b)
+}
+
+/// Rows compare by the cell at one place.
+fn compare_at(key: (u32, bool), a: &[Cell], b: &[Cell]) -> Ordering
+    ensures { result ≡ key_cmp key a.now b.now }
+{
+    let (place, is_ascending) = key;
+    let nil = Cell::Nil;
+    let left = a.get(place as usize).unwrap_or(&nil);
+    let right = b.get(place as usize).unwrap_or(&nil);
+    if is_ascending {
+        compare(left, right)
+    } else {
+        compare(right, left)
+    }
+}
+
+/// Puts rows into their order by keys; rows that tie keep their order. Memory leaves them as they
+/// were.
+pub fn sort_rows_by(rows: &mut Vec<Sequence<Cell>>, keys: &[(u32, bool)]) -> Result<(), Memory>
+    ensures ok { OnOk result (rows.new.items ≡ sorted_by (is_keyed_below keys.now) rows.old.items) }
+    ensures err { OnErr result (rows.new.items ≡ rows.old.items) }
+{
+    rows.sort_by(|a, b| compare_rows_by(keys, a.as_slice(), b.as_slice()))?;
     Ok(())
 }

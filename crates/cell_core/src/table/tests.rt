@@ -1,6 +1,6 @@
 use super::*;
 use crate::order::{compare, stated_bytes};
-use crate::rows::sort_rows;
+use crate::rows::{sort_rows, sort_rows_by};
 use crate::word::word_of;
 use std::cmp::Ordering;
 use std::test::Fail;
@@ -101,5 +101,14 @@ fn rows_are_added_and_sorted(rt: HostRuntime) -> Result<(), Fail> {
     sort_rows(&mut two)?;
     let least = two.first().and_then(|row| row.get(0));
     assert!(rt; least == Some(&Cell::Int(1)));
+    Ok(())
+}
+
+#[test]
+fn rows_are_sorted_by_keys(rt: HostRuntime) -> Result<(), Fail> {
+    let mut three = rows(rt.alloc(), &[2, 3, 1])?;
+    sort_rows_by(&mut three, &[(0, false)])?;
+    let greatest = three.first().and_then(|row| row.get(0));
+    assert!(rt; greatest == Some(&Cell::Int(3)));
     Ok(())
 }
