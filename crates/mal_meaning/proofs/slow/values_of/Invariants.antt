@@ -1,0 +1,11 @@
+use Rattle.std.proofs.Common.{◌≡◌, ◌++◌, map, Some, length}
+use Rattle.std.specs.Option.{option_map}
+use Rattle.mal_meaning.specs.Meaning.{arg_values}
+use Rattle.mal_meaning.proofs.slow.values_of.Given as goal
+
+-- what is made so far, and what the rest gives, is what all give
+abbrev pub invariant-args-2 : goal.invariant-args-2
+invariant-args-2 l = option_map (λ more. l.found.items ++ more) (arg_values (map Some l.values) l.rest) ≡ arg_values (map Some l.values) l.args
+
+abbrev pub decreases-args-2 : goal.decreases-args-2
+decreases-args-2 l = length l.rest

@@ -1,0 +1,140 @@
+-- The parts of which the plain operators are made.
+use Rattle.std.specs.Prelude.{ℕ, min, List, length, map, filter, Bool, true, false, ◌+ℤ◌, ◌-ℤ◌, ◌*ℤ◌, find, unwrap_or, Option, None, Some}
+use Rattle.std.specs.List.{list_all, position_or_len}
+use Rattle.std.specs.Ordering.{is_eq, is_ne, is_lt, is_le, is_gt, is_ge}
+use Rattle.cell_core.specs.declared.cell.Cell.{Cell}
+use Rattle.cell_core.specs.declared.cell.Cell.TheVariants.{Nil, Oid}
+use Rattle.cell_core.specs.declared.operator.Op.{Op}
+use Rattle.cell_core.specs.declared.operator.Op.TheVariants as op
+use Rattle.cell_core.specs.declared.operator.Value.{Value}
+use Rattle.cell_core.specs.declared.operator.Value.TheVariants.{Bat, One}
+use Rattle.cell_core.specs.Order.{cell_cmp}
+use Rattle.cell_core.specs.Same.{same_cell}
+use Rattle.cell_core.specs.Pairs.{Pairs, heads_of}
+use Rattle.cell_core.specs.Groups.{same_pair, counted, summed, least, greatest}
+use Rattle.cell_core.specs.Calc.{arithmetic, comparison, conjunction, disjunction, negation, over_two, over_one}
+use Rattle.mal_meaning.specs.declared.groups.Sameness.{Sameness}
+use Rattle.mal_meaning.specs.declared.groups.Sameness.TheVariants as sameness
+use Rattle.mal_meaning.specs.declared.aggregates.Aggregate.{Aggregate}
+use Rattle.mal_meaning.specs.declared.aggregates.Aggregate.TheVariants as aggregate
+
+-- the head of a pair beside each head of r
+abbrev pub beside_heads : Pairs → Cell × Cell → Pairs
+beside_heads r p = map (λ q. (p.0, q.0)) r
+
+-- two pairs with the same cells, or with the same tail
+abbrev pub are_same : Sameness → Cell × Cell → Cell × Cell → Bool
+are_same sameness.Pair p q = same_pair p q
+are_same sameness.Tail p q = same_cell p.1 q.1
+
+-- the number of a pair: the place of the first that is the same
+abbrev pub number_among : Sameness → Pairs → Cell × Cell → ℕ
+number_among by names p = position_or_len (λ q. are_same by q p) names
+
+-- the head of a pair beside its number
+abbrev pub head_numbered : Pairs → Cell × Cell → Cell × Cell
+head_numbered names p = (p.0, Oid (number_among sameness.Tail names p))
+
+-- the number of a pair as a cell
+abbrev pub pair_numbered : Pairs → Cell × Cell → Cell
+pair_numbered names p = Oid (number_among sameness.Pair names p)
+
+-- a cell is at most each
+abbrev pub is_least_of : List Cell → Cell → Bool
+is_least_of cells c = list_all (λ x. is_le (cell_cmp c x)) cells
+
+-- a cell is at least each
+abbrev pub is_greatest_of : List Cell → Cell → Bool
+is_greatest_of cells c = list_all (λ x. is_ge (cell_cmp c x)) cells
+
+-- the first cell that is at most each, and the first that is at least each; Nil where there is none
+abbrev pub first_least_of : List Cell → Cell
+first_least_of cells = unwrap_or (find (is_least_of cells) cells) Nil
+
+abbrev pub first_greatest_of : List Cell → Cell
+first_greatest_of cells = unwrap_or (find (is_greatest_of cells) cells) Nil
+
+-- an aggregate over cells
+abbrev pub aggregate_of : Aggregate → List Cell → Cell
+aggregate_of aggregate.Count = counted
+aggregate_of aggregate.Sum = summed
+aggregate_of aggregate.Min = least
+aggregate_of aggregate.Max = greatest
+
+-- an aggregate over the heads of the pairs with this tail
+abbrev pub group_folded : Aggregate → Pairs → Cell → Cell
+group_folded which paired tail = aggregate_of which (heads_of (filter (λ p. same_cell p.1 tail) paired))
+
+-- a function of cells over a row of arguments
+abbrev pub function_of : Op → List Cell → Option Cell
+function_of op.Plus = over_two (arithmetic (λ x y. x +ℤ y))
+function_of op.Minus = over_two (arithmetic (λ x y. x -ℤ y))
+function_of op.Times = over_two (arithmetic (λ x y. x *ℤ y))
+function_of op.Eq = over_two (λ x y. Some (comparison is_eq x y))
+function_of op.Ne = over_two (λ x y. Some (comparison is_ne x y))
+function_of op.Lt = over_two (λ x y. Some (comparison is_lt x y))
+function_of op.Le = over_two (λ x y. Some (comparison is_le x y))
+function_of op.Gt = over_two (λ x y. Some (comparison is_gt x y))
+function_of op.Ge = over_two (λ x y. Some (comparison is_ge x y))
+function_of op.And = over_two (λ x y. Some (conjunction x y))
+function_of op.Or = over_two (λ x y. Some (disjunction x y))
+function_of op.Not = over_one (λ x. Some (negation x))
+function_of _ = λ row. None
+
+-- the shorter of two lengths, of which the first may be missing
+abbrev pub min_of : Option ℕ → ℕ → ℕ
+min_of None n = n
+min_of (Some m) n = min m n
+
+-- the shorter of a length and a BAT's; a scalar has none
+abbrev pub shorter_of : Option ℕ → Value → Option ℕ
+shorter_of least (One cell) = least
+shorter_of least (Bat b) = Some (min_of least (length b))
+
+-- the operators of one BAT
+abbrev pub takes_bat : Op → Bool
+takes_bat op.Reverse = true
+takes_bat op.Mirror = true
+takes_bat op.GroupNew = true
+takes_bat op.GroupHeads = true
+takes_bat op.Count = true
+takes_bat op.Sum = true
+takes_bat op.Min = true
+takes_bat op.Max = true
+takes_bat _ = false
+
+-- the operators of two BATs
+abbrev pub takes_bats : Op → Bool
+takes_bats op.Semijoin = true
+takes_bats op.Kdifference = true
+takes_bats op.Kunion = true
+takes_bats op.Cross = true
+takes_bats op.Join = true
+takes_bats op.GroupDerive = true
+takes_bats op.Subcount = true
+takes_bats op.Subsum = true
+takes_bats op.Submin = true
+takes_bats op.Submax = true
+takes_bats _ = false
+
+-- the operators of a BAT and a scalar
+abbrev pub takes_cell : Op → Bool
+takes_cell op.MarkT = true
+takes_cell op.Project = true
+takes_cell _ = false
+
+-- the functions of cells
+abbrev pub is_function : Op → Bool
+is_function op.Plus = true
+is_function op.Minus = true
+is_function op.Times = true
+is_function op.Eq = true
+is_function op.Ne = true
+is_function op.Lt = true
+is_function op.Le = true
+is_function op.Gt = true
+is_function op.Ge = true
+is_function op.And = true
+is_function op.Or = true
+is_function op.Not = true
+is_function _ = false

@@ -1,0 +1,270 @@
+//! The functions of cells, as plain loops over lists.
+ghost use Rattle.std.specs.Prelude.{◌≡◌, ◌∷◌, [], map, ◌||◌, if◌then◌else◌, ◌+ℤ◌, ◌-ℤ◌, ◌*ℤ◌, IfOk};
+ghost use Rattle.cell_core.specs.declared.cell.Cell.TheVariants.{Nil, Bit};
+ghost use Rattle.cell_core.specs.Pairs.{is_nil, bats_in, shortest, cell_at, row_at, rows_of};
+ghost use Rattle.cell_core.specs.Calc.{as_int, arithmetic, conjunction, disjunction, negation, all_or_none, first_heads, calculated};
+ghost use Rattle.mal_meaning.specs.Slow.{function_of, shorter_of};
+
+use crate::aggregates::number_of;
+use crate::columns::{heads, pair_up};
+use cell_core::{Cell, Memory, Op, Sequence, Value, compare};
+use std::alloc::Global;
+use std::cmp::Ordering;
+
+/// The number as a cell, where it fits.
+fn int_cell(number: i128) -> Option<Cell>
+    ensures { result ≡ as_int number }
+{
+    match i64::try_from(number) {
+        Ok(number) => Some(Cell::Int(number)),
+        Err(_) => None,
+    }
+}
+
+/// The sum of two cells; of Nil it is Nil.
+#[tactic(auto, using(crate::proofs::SlowLemmas::wide_out))]
+fn plus(x: &Cell, y: &Cell) -> Option<Cell>
+    ensures { result ≡ arithmetic (λ a b. a +ℤ b) x.now y.now }
+{
+    if *x == Cell::Nil || *y == Cell::Nil {
+        return Some(Cell::Nil);
+    }
+    match number_of(x).checked_add(number_of(y)) {
+        Some(number) => int_cell(number),
+        None => None,
+    }
+}
+
+/// The difference of two cells; of Nil it is Nil.
+#[tactic(auto, using(crate::proofs::SlowLemmas::wide_out))]
+fn minus(x: &Cell, y: &Cell) -> Option<Cell>
+    ensures { result ≡ arithmetic (λ a b. a -ℤ b) x.now y.now }
+{
+    if *x == Cell::Nil || *y == Cell::Nil {
+        return Some(Cell::Nil);
+    }
+    match number_of(x).checked_sub(number_of(y)) {
+        Some(number) => int_cell(number),
+        None => None,
+    }
+}
+
+/// The product of two cells; of Nil it is Nil.
+#[tactic(auto, using(crate::proofs::SlowLemmas::wide_out))]
+fn times(x: &Cell, y: &Cell) -> Option<Cell>
+    ensures { result ≡ arithmetic (λ a b. a *ℤ b) x.now y.now }
+{
+    if *x == Cell::Nil || *y == Cell::Nil {
+        return Some(Cell::Nil);
+    }
+    match number_of(x).checked_mul(number_of(y)) {
+        Some(number) => int_cell(number),
+        None => None,
+    }
+}
+
+/// The outcome of a test of two cells; of Nil it is Nil.
+fn tested(x: &Cell, y: &Cell, outcome: bool) -> Cell
+    ensures { result ≡ (if is_nil x.now || is_nil y.now then Nil else Bit outcome) }
+{
+    if *x == Cell::Nil || *y == Cell::Nil {
+        Cell::Nil
+    } else {
+        Cell::Bit(outcome)
+    }
+}
+
+/// Whether both cells are true, where Nil is unknown.
+fn both(x: &Cell, y: &Cell) -> Cell
+    ensures { result ≡ conjunction x.now y.now }
+{
+    match (x, y) {
+        (Cell::Bit(false), _) | (_, Cell::Bit(false)) => Cell::Bit(false),
+        (Cell::Bit(true), Cell::Bit(true)) => Cell::Bit(true),
+        _ => Cell::Nil,
+    }
+}
+
+/// Whether one of the cells is true, where Nil is unknown.
+fn either(x: &Cell, y: &Cell) -> Cell
+    ensures { result ≡ disjunction x.now y.now }
+{
+    match (x, y) {
+        (Cell::Bit(true), _) | (_, Cell::Bit(true)) => Cell::Bit(true),
+        (Cell::Bit(false), Cell::Bit(false)) => Cell::Bit(false),
+        _ => Cell::Nil,
+    }
+}
+
+/// The opposite of a cell, where Nil is unknown.
+fn opposite(x: &Cell) -> Cell
+    ensures { result ≡ negation x.now }
+{
+    match x {
+        Cell::Bit(bit) => Cell::Bit(!*bit),
+        _ => Cell::Nil,
+    }
+}
+
+/// A function of two cells.
+fn apply_two(op: Op, x: &Cell, y: &Cell) -> Option<Cell>
+    ensures { result ≡ function_of op (x.now ∷ y.now ∷ []) }
+{
+    let order = compare(x, y);
+    match op {
+        Op::Plus => plus(x, y),
+        Op::Minus => minus(x, y),
+        Op::Times => times(x, y),
+        Op::Eq => Some(tested(x, y, order == Ordering::Equal)),
+        Op::Ne => Some(tested(x, y, order != Ordering::Equal)),
+        Op::Lt => Some(tested(x, y, order == Ordering::Less)),
+        Op::Le => Some(tested(x, y, order != Ordering::Greater)),
+        Op::Gt => Some(tested(x, y, order == Ordering::Greater)),
+        Op::Ge => Some(tested(x, y, order != Ordering::Less)),
+        Op::And => Some(both(x, y)),
+        Op::Or => Some(either(x, y)),
+        _ => None,
+    }
+}
+
+/// A function of cells over a row of arguments.
+fn apply_function(op: Op, row: &[Cell]) -> Option<Cell>
+    ensures { result ≡ function_of op row.now }
+{
+    match row {
+        [x] => {
+            if op == Op::Not {
+                Some(opposite(x))
+            } else {
+                None
+            }
+        }
+        [x, y] => apply_two(op, x, y),
+        _ => None,
+    }
+}
+
+/// The cell of a value at a place: the tail there, or the scalar.
+#[tactic(auto, using(crate::proofs::SlowLemmas::tail_past))]
+fn cell_of(value: &Value, place: usize) -> Result<Cell, Memory>
+    ensures { IfOk result (λ cell. cell ≡ cell_at place value.now) }
+{
+    match value {
+        Value::One(cell) => cell.share(),
+        Value::Bat(b) => {
+            if place < b.len() {
+                b.as_slice()[place].1.share()
+            } else {
+                Ok(Cell::Nil)
+            }
+        }
+    }
+}
+
+/// The cells of the values at a place, side by side.
+fn row_of(alloc: Global, values: &[Value], place: usize) -> Result<Sequence<Cell>, Memory>
+    ensures { IfOk result (λ row. row ≡ row_at values.now place) }
+{
+    let mut row = Sequence::new(alloc);
+    let mut rest = values;
+    'values: while let [value, more @ ..] = rest {
+        row.push(cell_of(value, place)?)?;
+        rest = more;
+    }
+    Ok(row)
+}
+
+/// The cells of the values at the first places.
+#[tactic(auto, using(crate::proofs::SlowLemmas::rows_more))]
+pub(crate) fn first_rows(
+    alloc: Global,
+    values: &[Value],
+    count: usize,
+) -> Result<Vec<Sequence<Cell>>, Memory>
+    ensures { IfOk result (λ rows. rows.items ≡ rows_of values.now count) }
+{
+    let mut rows = Vec::new(alloc);
+    for place in 0..count {
+        rows.push(row_of(alloc, values, place)?)?;
+    }
+    Ok(rows)
+}
+
+/// A function of cells over rows of arguments, or nothing where it overflows.
+fn apply_to_rows(
+    alloc: Global,
+    op: Op,
+    rows: &[Sequence<Cell>],
+) -> Result<Option<Sequence<Cell>>, Memory>
+    ensures { IfOk result (λ cells. cells ≡ all_or_none (map (function_of op) rows.now)) }
+{
+    let mut cells = Sequence::new(alloc);
+    let mut rest = rows;
+    'rows: while let [row, more @ ..] = rest {
+        let Some(cell) = apply_function(op, row.as_slice()) else {
+            return Ok(None);
+        };
+        cells.push(cell)?;
+        rest = more;
+    }
+    Ok(Some(cells))
+}
+
+/// The length of the shortest BAT, if there is one.
+#[tactic(auto, using(crate::proofs::SlowLemmas::least_at_end, crate::proofs::SlowLemmas::least_step))]
+pub(crate) fn shortest_bat(values: &[Value]) -> Option<usize>
+    ensures { result ≡ shortest values.now }
+{
+    let mut least = None;
+    let mut rest = values;
+    'values: while let [value, more @ ..] = rest {
+        least = shorter(least, value);
+        rest = more;
+    }
+    least
+}
+
+/// The shorter of what is known and a BAT.
+fn shorter(least: Option<usize>, value: &Value) -> Option<usize>
+    ensures { result ≡ shorter_of least value.now }
+{
+    match (value, least) {
+        (Value::One(_), _) => least,
+        (Value::Bat(b), None) => Some(b.len()),
+        (Value::Bat(b), Some(least)) => Some(least.min(b.len())),
+    }
+}
+
+/// The heads of the first BAT.
+fn heads_of_first(alloc: Global, values: &[Value]) -> Result<Sequence<Cell>, Memory>
+    ensures { IfOk result (λ cells. cells ≡ first_heads (bats_in values.now)) }
+{
+    let mut rest = values;
+    'values: while let [value, more @ ..] = rest {
+        if let Value::Bat(b) = value {
+            return heads(alloc, b.as_slice());
+        }
+        rest = more;
+    }
+    Ok(Sequence::new(alloc))
+}
+
+/// A function over scalars, or by position up to the shortest BAT.
+pub(crate) fn calculate(alloc: Global, op: Op, args: &[Value]) -> Result<Option<Value>, Memory>
+    ensures { IfOk result (λ value. value ≡ calculated (function_of op) args.now) }
+{
+    let Some(count) = shortest_bat(args) else {
+        let row = row_of(alloc, args, 0)?;
+        return Ok(match apply_function(op, row.as_slice()) {
+            Some(cell) => Some(Value::One(cell)),
+            None => None,
+        });
+    };
+    let rows = first_rows(alloc, args, count)?;
+    let Some(cells) = apply_to_rows(alloc, op, rows.as_slice())? else {
+        return Ok(None);
+    };
+    let heads = heads_of_first(alloc, args)?;
+    let pairs = pair_up(alloc, heads.as_slice(), cells.as_slice())?;
+    Ok(Some(Value::Bat(pairs)))
+}

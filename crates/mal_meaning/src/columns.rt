@@ -1,0 +1,68 @@
+//! Columns of pairs, as plain lists of cells.
+ghost use Rattle.std.specs.Prelude.{◌≡◌, zip, IfOk};
+ghost use Rattle.cell_core.specs.Pairs.{heads_of, tails_of, numbered};
+
+use cell_core::{Cell, Memory, Sequence};
+use std::alloc::Global;
+
+/// The heads.
+pub(crate) fn heads(alloc: Global, b: &[(Cell, Cell)]) -> Result<Sequence<Cell>, Memory>
+    ensures { IfOk result (λ cells. cells ≡ heads_of b.now) }
+{
+    let mut cells = Sequence::new(alloc);
+    let mut rest = b;
+    'pairs: while let [pair, more @ ..] = rest {
+        cells.push(pair.0.share()?)?;
+        rest = more;
+    }
+    Ok(cells)
+}
+
+/// The tails.
+pub(crate) fn tails(alloc: Global, b: &[(Cell, Cell)]) -> Result<Sequence<Cell>, Memory>
+    ensures { IfOk result (λ cells. cells ≡ tails_of b.now) }
+{
+    let mut cells = Sequence::new(alloc);
+    let mut rest = b;
+    'pairs: while let [pair, more @ ..] = rest {
+        cells.push(pair.1.share()?)?;
+        rest = more;
+    }
+    Ok(cells)
+}
+
+/// The cells of two columns side by side, as far as the shorter goes.
+pub(crate) fn pair_up(
+    alloc: Global,
+    heads: &[Cell],
+    tails: &[Cell],
+) -> Result<Sequence<(Cell, Cell)>, Memory>
+    ensures { IfOk result (λ out. out ≡ zip heads.now tails.now) }
+{
+    let mut out = Sequence::new(alloc);
+    let (mut left, mut right) = (heads, tails);
+    'places: while let [head, heads @ ..] = left {
+        let [tail, tails @ ..] = right else {
+            return Ok(out);
+        };
+        out.push((head.share()?, tail.share()?))?;
+        left = heads;
+        right = tails;
+    }
+    Ok(out)
+}
+
+/// The cells beside the oids 0, 1, 2 and so on.
+pub(crate) fn number(alloc: Global, cells: &[Cell]) -> Result<Sequence<(Cell, Cell)>, Memory>
+    ensures { IfOk result (λ out. out ≡ numbered cells.now) }
+{
+    let mut out = Sequence::new(alloc);
+    let mut place = 0;
+    let mut rest = cells;
+    'cells: while let [cell, more @ ..] = rest {
+        out.push((Cell::Oid(place), cell.share()?))?;
+        place += 1;
+        rest = more;
+    }
+    Ok(out)
+}

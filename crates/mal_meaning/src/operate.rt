@@ -1,0 +1,164 @@
+//! The operators by name, over plain values.
+ghost use Rattle.std.specs.Prelude.{◌≡◌, ◌∷◌, [], Some, IfOk, IsTrue};
+ghost use Rattle.cell_core.specs.declared.operator.Value.TheVariants as value;
+ghost use Rattle.cell_core.specs.Operators.{operate};
+ghost use Rattle.cell_core.specs.declared.operator.Op.TheVariants as operator;
+ghost use Rattle.cell_core.specs.Pairs.{tails_of};
+ghost use Rattle.mal_meaning.specs.Slow.{takes_bat, takes_bats, takes_cell, is_function, aggregate_of};
+
+use crate::aggregates::{Aggregate, fold_cells};
+use crate::calc::calculate;
+use crate::columns::tails;
+use crate::groups::{group_derive, group_heads, group_new, subaggregate};
+use crate::relations::{
+    cross, join, kdifference, kunion, mark_t, mirror, project, reverse, select, semijoin,
+};
+use cell_core::{Cell, Memory, Op, Value};
+use std::alloc::Global;
+
+/// An operator of one BAT.
+fn run_on_bat(alloc: Global, op: Op, b: &[(Cell, Cell)]) -> Result<Value, Memory>
+    requires { IsTrue (takes_bat op) }
+    ensures { IfOk result (λ out. Some out ≡ operate op (value.Bat b.now ∷ [])) }
+{
+    Ok(match op {
+        Op::Reverse => Value::Bat(reverse(alloc, b)?),
+        Op::Mirror => Value::Bat(mirror(alloc, b)?),
+        Op::GroupNew => Value::Bat(group_new(alloc, b)?),
+        Op::GroupHeads => Value::Bat(group_heads(alloc, b)?),
+        Op::Count => Value::One(fold_tails(alloc, Aggregate::Count, b)?),
+        Op::Sum => Value::One(fold_tails(alloc, Aggregate::Sum, b)?),
+        Op::Min => Value::One(fold_tails(alloc, Aggregate::Min, b)?),
+        Op::Max => Value::One(fold_tails(alloc, Aggregate::Max, b)?),
+        _ => unreachable!(),
+    })
+}
+
+/// An aggregate over the tails of a BAT.
+fn fold_tails(alloc: Global, which: Aggregate, b: &[(Cell, Cell)]) -> Result<Cell, Memory>
+    ensures { IfOk result (λ cell. cell ≡ aggregate_of which (tails_of b.now)) }
+{
+    let cells = tails(alloc, b)?;
+    fold_cells(alloc, which, cells.as_slice())
+}
+
+/// An operator of two BATs.
+fn run_on_bats(
+    alloc: Global,
+    op: Op,
+    l: &[(Cell, Cell)],
+    r: &[(Cell, Cell)],
+) -> Result<Value, Memory>
+    requires { IsTrue (takes_bats op) }
+    ensures { IfOk result (λ out. Some out ≡ operate op (value.Bat l.now ∷ value.Bat r.now ∷ [])) }
+{
+    Ok(Value::Bat(match op {
+        Op::Semijoin => semijoin(alloc, l, r)?,
+        Op::Kdifference => kdifference(alloc, l, r)?,
+        Op::Kunion => kunion(alloc, l, r)?,
+        Op::Cross => cross(alloc, l, r)?,
+        Op::Join => join(alloc, l, r)?,
+        Op::GroupDerive => group_derive(alloc, l, r)?,
+        Op::Subcount => subaggregate(alloc, Aggregate::Count, l, r)?,
+        Op::Subsum => subaggregate(alloc, Aggregate::Sum, l, r)?,
+        Op::Submin => subaggregate(alloc, Aggregate::Min, l, r)?,
+        Op::Submax => subaggregate(alloc, Aggregate::Max, l, r)?,
+        _ => unreachable!(),
+    }))
+}
+
+/// An operator of a BAT and a cell.
+fn run_on_cell(alloc: Global, op: Op, b: &[(Cell, Cell)], cell: &Cell) -> Result<Value, Memory>
+    requires { IsTrue (takes_cell op) }
+    ensures { IfOk result (λ out. Some out ≡ operate op (value.Bat b.now ∷ value.One cell.now ∷ [])) }
+{
+    Ok(Value::Bat(match op {
+        Op::MarkT => mark_t(alloc, b, cell)?,
+        Op::Project => project(alloc, b, cell)?,
+        _ => unreachable!(),
+    }))
+}
+
+/// The pairs in a range.
+fn run_select(alloc: Global, args: &[Value]) -> Result<Option<Value>, Memory>
+    ensures { IfOk result (λ out. out ≡ operate operator.Select args.now) }
+{
+    let [
+        Value::Bat(b),
+        Value::One(low),
+        Value::One(high),
+        Value::One(li),
+        Value::One(hi),
+    ] = args
+    else {
+        return Ok(None);
+    };
+    let (li, hi) = (*li == Cell::Bit(true), *hi == Cell::Bit(true));
+    let pairs = select(alloc, b.as_slice(), low, high, li, hi)?;
+    Ok(Some(Value::Bat(pairs)))
+}
+
+/// A function of cells, over scalars or by position.
+fn run_function(alloc: Global, op: Op, args: &[Value]) -> Result<Option<Value>, Memory>
+    requires { IsTrue (is_function op) }
+    ensures { IfOk result (λ out. out ≡ operate op args.now) }
+{
+    calculate(alloc, op, args)
+}
+
+/// The value of an operator other than bind, or nothing where it overflows or its arguments don't
+/// fit.
+pub(crate) fn run(alloc: Global, op: Op, args: &[Value]) -> Result<Option<Value>, Memory>
+    ensures { IfOk result (λ out. out ≡ operate op args.now) }
+{
+    match op {
+        Op::Bind => Ok(None),
+        Op::Select => run_select(alloc, args),
+        Op::Reverse
+        | Op::Mirror
+        | Op::GroupNew
+        | Op::GroupHeads
+        | Op::Count
+        | Op::Sum
+        | Op::Min
+        | Op::Max => {
+            let [Value::Bat(b)] = args else {
+                return Ok(None);
+            };
+            Ok(Some(run_on_bat(alloc, op, b.as_slice())?))
+        }
+        Op::MarkT | Op::Project => {
+            let [Value::Bat(b), Value::One(cell)] = args else {
+                return Ok(None);
+            };
+            Ok(Some(run_on_cell(alloc, op, b.as_slice(), cell)?))
+        }
+        Op::Semijoin
+        | Op::Kdifference
+        | Op::Kunion
+        | Op::Cross
+        | Op::Join
+        | Op::GroupDerive
+        | Op::Subcount
+        | Op::Subsum
+        | Op::Submin
+        | Op::Submax => {
+            let [Value::Bat(l), Value::Bat(r)] = args else {
+                return Ok(None);
+            };
+            Ok(Some(run_on_bats(alloc, op, l.as_slice(), r.as_slice())?))
+        }
+        Op::Plus
+        | Op::Minus
+        | Op::Times
+        | Op::Eq
+        | Op::Ne
+        | Op::Lt
+        | Op::Le
+        | Op::Gt
+        | Op::Ge
+        | Op::And
+        | Op::Or
+        | Op::Not => run_function(alloc, op, args),
+    }
+}
