@@ -1,8 +1,8 @@
 -- How the facts of a list of cells follow one more cell.
-use Rattle.std.proofs.Common.{◌≡◌, ℕ, suc, zero, ◌+◌, ◌-◌, ◌^◌, ◌<◌, ◌≤◌, Bool, true, false, List, [], ◌∷◌, ◌++◌, length, get_or, Option, None, Some, refl, sym, ap, ◌∙◌, arith}
+use Rattle.std.proofs.Common.{◌≡◌, ◌+◌, ◌-◌, ◌^◌, ◌<◌, ◌≤◌, Bool, true, false, List, [], ◌∷◌, ◌++◌, length, get_or, Some, refl, sym, ap, ◌∙◌, arith}
 use Rattle.std.specs.Prelude.{◌&&◌}
-use Rattle.std.specs.List.{sum_by}
 use Rattle.std.proofs.Math.Bool.{and-true}
+use Rattle.std.proofs.lemmas.List.{length-append, get_or-append-add}
 use Rattle.std.proofs.lemmas.List.Sums.{sum_by-cons, sum_by_push}
 use Rattle.cell_core.specs.declared.cell.Cell.{Cell}
 use Rattle.cell_core.specs.declared.cell.Cell.TheVariants.{Nil, Int, Huge, Text, Day, Bit, Oid}
@@ -36,6 +36,14 @@ last_at x (y ∷ ys) d = last_at y ys d
 pub last_cell_at : (cells : List Cell) (d : Cell) → 0 < length cells → last_cell cells ≡ Some (get_or cells (length cells - 1) d)
 last_cell_at [] d some = absurd (omega arith)
 last_cell_at (x ∷ xs) d some = let place : length (x ∷ xs) - 1 ≡ length xs = omega arith in ap Some (sym (ap (λ k. get_or (x ∷ xs) k d) place ∙ last_at x xs d))
+
+-- the last cell is that of the back, where there is one
+pub last_cell_behind : (front back : List Cell) (d : Cell) → 0 < length back → last_cell (front ++ back) ≡ Some (get_or back (length back - 1) d)
+last_cell_behind front back d some =
+    let place : length (front ++ back) - 1 ≡ length front + (length back - 1) = omega (arith, length-append front back) in
+    last_cell_at (front ++ back) d (omega (arith, length-append front back))
+    ∙ ap (λ k. Some (get_or (front ++ back) k d)) place
+    ∙ ap Some (get_or-append-add front back (length back - 1) d)
 
 -- each cell has at least one stated byte
 some_bytes : (c : Cell) → 1 ≤ cell_bytes c

@@ -1,3 +1,4 @@
 pub mod ChunkLemmas
 pub mod FactLemmas
+pub mod FilledLemmas
 pub mod PairLemmas

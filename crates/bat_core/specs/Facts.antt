@@ -3,7 +3,7 @@ use Rattle.std.specs.Prelude.{◌≡◌, ℕ, ◌+◌, ◌==◌, ◌<◌, ◌^�
 use Rattle.std.specs.Ordering.{is_lt}
 use Rattle.std.specs.List.{sum_by}
 use Rattle.cell_core.specs.declared.cell.Cell.{Cell}
-use Rattle.cell_core.specs.declared.cell.Cell.TheVariants.{Nil, Int, Huge, Text, Day, Bit, Oid}
+use Rattle.cell_core.specs.declared.cell.Cell.TheVariants.{Oid}
 use Rattle.cell_core.specs.Order.{cell_cmp, cell_bytes}
 use Rattle.bat_core.specs.declared.facts.Facts.{Facts}
 

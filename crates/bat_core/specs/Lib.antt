@@ -1,4 +1,5 @@
 pub mod Bats
 pub mod Chunks
 pub mod Facts
+pub mod Filled
 pub mod Objects

@@ -1,10 +1,14 @@
 //! A column of cells, in chunks that several columns share.
-ghost use Rattle.std.specs.Prelude.{◌≡◌, [], ◌∷◌, ◌+◌, ◌++◌, ◌^◌, ◌<◌, length, slice_index_or, take, IfOk, OnOk, OnErr, IfSome, vec_len};
+ghost use Rattle.std.specs.Prelude.{◌≡◌, [], ◌∷◌, ◌+◌, ◌++◌, ◌^◌, ◌<◌, length, slice_index_or, take, IfOk, OnOk, OnErr, IfSome, vec_len, replicate};
 ghost use Rattle.std.specs.Vec.{vec_capacity};
 ghost use Rattle.std.specs.Option.{option_copied};
 ghost use Rattle.bat_core.specs.Facts.{rises, is_dense, cells_bytes, last_cell, AreToldOf};
+ghost use Rattle.bat_core.specs.Filled.{oids_from};
 
 use crate::facts::{Facts, bytes_with, dense_after, rises_after};
+use crate::filled::{
+    oid_chunk, oid_facts, oid_pile, repeated_chunk, repeated_facts, repeated_pile,
+};
 use crate::pile::{CHUNK, Pile};
 use cell_core::{Cell, Memory, copy_cells};
 use std::alloc::Global;
@@ -44,6 +48,34 @@ impl Cells {
         }
     }
 
+    /// That many oids from a number on, each one more than the one before.
+    pub fn oids(alloc: Global, from: u64, count: u64) -> Result<Cells, Memory>
+        requires { from + count < 2 ^ 64 }
+        ensures { IfOk result (λ cells. cells ≡ oids_from from count) }
+    {
+        let Some(facts) = oid_facts(from, count) else {
+            return Err(Memory);
+        };
+        let chunks = count / CHUNK as u64;
+        let piled = chunks * CHUNK as u64;
+        let pile = oid_pile(alloc, from, chunks)?;
+        let loose = oid_chunk(alloc, from + piled, (count - piled) as usize)?;
+        Ok(Cells { pile, loose, facts })
+    }
+
+    /// One cell, that many times. The full chunks are one chunk.
+    pub fn repeated(alloc: Global, cell: &Cell, count: u64) -> Result<Cells, Memory>
+        ensures { IfOk result (λ cells. cells ≡ replicate count cell.now) }
+    {
+        let Some(facts) = repeated_facts(cell, count) else {
+            return Err(Memory);
+        };
+        let chunks = count / CHUNK as u64;
+        let pile = repeated_pile(alloc, cell, chunks)?;
+        let loose = repeated_chunk(alloc, cell, (count % CHUNK as u64) as usize)?;
+        Ok(Cells { pile, loose, facts })
+    }
+
     /// How many cells there are.
     pub fn len(&self) -> u64
         ensures len { result ≡ length self.now }
@@ -79,6 +111,10 @@ impl Cells {
     pub fn last(&self) -> Option<&Cell>
         ensures { option_copied result ≡ last_cell self.now }
     {
+        let loose = self.loose.len();
+        if loose != 0 {
+            return Some(&self.loose[loose - 1]);
+        }
         let count = self.len();
         if count == 0 {
             None

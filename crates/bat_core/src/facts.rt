@@ -19,7 +19,7 @@ pub(crate) struct Facts {
 }
 
 /// The stated bytes of a column stay below this.
-const BYTES_LIMIT: u64 = 1 << 60;
+pub(crate) const BYTES_LIMIT: u64 = 1 << 60;
 
 impl Facts {
     /// The facts about no cells.

@@ -11,6 +11,7 @@ mod bat;
 mod cells;
 mod columns;
 mod facts;
+mod filled;
 mod operate;
 mod pile;
 mod shared;

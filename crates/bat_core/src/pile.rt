@@ -75,6 +75,20 @@ impl Pile {
         }
     }
 
+    /// Adds a full chunk at the end, and shares it.
+    pub fn add_shared(&mut self, chunk: &Arc<Vec<Cell>>) -> Result<(), Memory>
+        requires { length (chunk_items chunk.now) ≡ CHUNK }
+        ensures ok { OnOk result (self.new ≡ self.old ++ chunk_items chunk.now) }
+        ensures err { OnErr result (self.new ≡ self.old) }
+    {
+        if self.chunks.len() >= MOST_CHUNKS {
+            return Err(Memory);
+        }
+        let shared = Arc::try_clone(chunk)?;
+        self.chunks.push(shared)?;
+        Ok(())
+    }
+
     /// The same cells, in chunks that both share.
     pub fn share(&self, alloc: Global) -> Result<Pile, Memory>
         ensures { IfOk result (λ pile. pile ≡ self.now) }

@@ -71,3 +71,18 @@ fn values_are_shared(rt: HostRuntime) -> Result<(), Fail> {
     assert!(rt; matches!(&shared, Obj::Bat(inner) if inner.bat().len() == 1));
     Ok(())
 }
+
+#[test]
+fn columns_made_whole(rt: HostRuntime) -> Result<(), Fail> {
+    let alloc = rt.alloc();
+    let oids = Cells::oids(alloc, 7, 5_000)?;
+    let same = Cells::repeated(alloc, &Cell::Bit(true), 5_000)?;
+    assert!(rt; oids.len() == 5_000 && oids.is_dense() && oids.rises());
+    assert!(rt; same.len() == 5_000 && !same.is_dense() && !same.rises());
+    assert_eq!(rt; same.bytes(), 5_000);
+    for place in [0, 4_095, 4_096, 4_999] {
+        assert!(rt; place < oids.len() && *oids.get(place) == Cell::Oid(7 + place));
+        assert!(rt; place < same.len() && *same.get(place) == Cell::Bit(true));
+    }
+    Ok(())
+}

@@ -1,4 +1,4 @@
-use Rattle.std.proofs.Common.{◌≡◌, ◌+◌, length, take, ap, ◌∙◌, arith}
+use Rattle.std.proofs.Common.{◌+◌, take, ap, ◌∙◌, arith}
 use Rattle.std.proofs.lemmas.List.{length-take-le}
 use Rattle.bat_core.proofs.PairLemmas.{run_more}
 use Rattle.bat_core.proofs.bat.Bat.run.Goals as goal

@@ -1,5 +1,5 @@
-use Rattle.std.proofs.Common.{subst, ap, ◌∙◌}
-use Rattle.bat_core.specs.Facts.{AreToldOf, rises_with, dense_with}
+use Rattle.std.proofs.Common.{ap, ◌∙◌}
+use Rattle.bat_core.specs.Facts.{rises_with, dense_with}
 use Rattle.bat_core.proofs.FactLemmas.{told_push}
 use Rattle.bat_core.proofs.cells.Cells.facts_with.Goals as goal
 

@@ -1,4 +1,4 @@
-use Rattle.std.proofs.Common.{◌++◌, ◌-◌, length, ap, ◌∙◌, arith}
+use Rattle.std.proofs.Common.{◌++◌, ◌-◌, ap, ◌∙◌, arith}
 use Rattle.bat_core.proofs.ChunkLemmas.{rest_more}
 use Rattle.bat_core.proofs.cells.Cells.run.Goals as goal
 

@@ -1,6 +1,6 @@
-use Rattle.std.proofs.Common.{◌≡◌, ◌∷◌, [], ◌++◌, length, sym, ap, ◌∙◌, subst, arith}
+use Rattle.std.proofs.Common.{◌≡◌, ◌∷◌, [], ◌++◌, length, ap, ◌∙◌, arith}
 use Rattle.std.proofs.lemmas.List.{length_push}
-use Rattle.bat_core.specs.Chunks.{chunk_items, AreFull}
+use Rattle.bat_core.specs.Chunks.{chunk_items}
 use Rattle.bat_core.proofs.ChunkLemmas.{full_push}
 use Rattle.bat_core.proofs.pile.Pile.add.Goals as goal
 
