@@ -1,0 +1,16 @@
+//! The operators of plans on one BAT or two, but for joins: which pairs are kept, how they are turned,
+//! and what stands beside their heads.
+//!
+//! It stands on `cell_core`, whose definitions say what each operator gives, and on `bat_core`. Each
+//! call gives exactly the pairs of its definition, in order, and its counter rises by the stated work:
+//! the pairs that it reads and those of its result. Columns that stay as they are, are shared.
+#![tactic(auto)]
+
+mod mark;
+mod pass;
+mod range;
+mod turn;
+
+pub use mark::mark_t;
+pub use range::select;
+pub use turn::{mirror, reverse};

@@ -1,0 +1,14 @@
+//! What passes over the pairs of a BAT share.
+ghost use Rattle.std.specs.Prelude.{◌≡◌, [], ◌∷◌, ◌++◌, OnOk};
+
+use bat_core::Bat;
+use cell_core::{Cell, Memory};
+use std::alloc::Global;
+
+/// Adds a pair of equal cells at the end.
+#[inline]
+pub(crate) fn add_pair(alloc: Global, out: &mut Bat, head: &Cell, tail: &Cell) -> Result<(), Memory>
+    ensures { OnOk result (out.new ≡ out.old ++ (head.now, tail.now) ∷ []) }
+{
+    out.append(alloc, head.share()?, tail.share()?)
+}
