@@ -1,0 +1,2 @@
+pub mod NotLemmas
+pub mod RowLemmas

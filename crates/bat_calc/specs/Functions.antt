@@ -1,0 +1,29 @@
+-- What each function gives of two cells.
+use Rattle.std.specs.Prelude.{ℕ, ◌≤◌, length, Option, Some, ◌+ℤ◌, ◌-ℤ◌, ◌*ℤ◌}
+use Rattle.std.specs.Ordering.{is_eq, is_ne, is_lt, is_le, is_gt, is_ge}
+use Rattle.cell_core.specs.declared.cell.Cell.{Cell}
+use Rattle.cell_core.specs.declared.operator.Value.{Value}
+use Rattle.cell_core.specs.declared.operator.Value.TheVariants.{Bat, One}
+use Rattle.cell_core.specs.Calc.{arithmetic, comparison, conjunction, disjunction, negation}
+use Rattle.bat_calc.specs.declared.function.Function.{Function}
+use Rattle.bat_calc.specs.declared.function.Function.TheVariants as function
+
+-- a function of two cells, where None is an overflow; Not takes no notice of the second
+abbrev pub function_of : Function → Cell → Cell → Option Cell
+function_of function.Plus = arithmetic (λ x y. x +ℤ y)
+function_of function.Minus = arithmetic (λ x y. x -ℤ y)
+function_of function.Times = arithmetic (λ x y. x *ℤ y)
+function_of function.Eq = λ x y. Some (comparison is_eq x y)
+function_of function.Ne = λ x y. Some (comparison is_ne x y)
+function_of function.Lt = λ x y. Some (comparison is_lt x y)
+function_of function.Le = λ x y. Some (comparison is_le x y)
+function_of function.Gt = λ x y. Some (comparison is_gt x y)
+function_of function.Ge = λ x y. Some (comparison is_ge x y)
+function_of function.And = λ x y. Some (conjunction x y)
+function_of function.Or = λ x y. Some (disjunction x y)
+function_of function.Not = λ x y. Some (negation x)
+
+-- a value has a cell at each of the first places
+abbrev pub Reaches : ℕ → Value → Type 0
+Reaches count (Bat b) = count ≤ length b
+Reaches count (One cell) = Unit {0}

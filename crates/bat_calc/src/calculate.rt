@@ -1,0 +1,144 @@
+//! A function over scalars, and over BATs place by place.
+ghost use Rattle.std.specs.Prelude.{◌≡◌, [], ◌∷◌, ◌+◌, ◌<◌, ◌≤◌, ◌^◌, length, map, take, Some, None, IfOk, OnErr};
+ghost use Rattle.std.specs.List.{zip};
+ghost use Rattle.cell_core.specs.declared.operator.Value.TheVariants.{Bat as BatValue};
+ghost use Rattle.cell_core.specs.Pairs.{heads_of, pair_count, cell_at, rows_of, shortest, bats_in};
+ghost use Rattle.cell_core.specs.Calc.{calculated, over_two, all_or_none, first_heads};
+ghost use Rattle.bat_core.specs.Objects.{value_of};
+ghost use Rattle.bat_calc.specs.Functions.{function_of, Reaches};
+
+use crate::function::{Function, apply};
+use bat_core::{Bat, Cells, Obj, Shared};
+use cell_core::{Cell, Memory, RunError, Steps};
+use std::alloc::Global;
+use std::sync::ledger::Ledger;
+
+/// A function over two values. The counter stays where it was if there is no value.
+pub(crate) fn calculate<L: Ledger>(
+    alloc: Global,
+    function: Function,
+    x: &Obj,
+    y: &Obj,
+    steps: &mut Steps<L>,
+) -> Result<Obj, RunError>
+    ensures value { IfOk result (λ out. calculated (over_two (function_of function)) (value_of x.now ∷ value_of y.now ∷ []) ≡ Some (value_of out)) }
+    ensures overflow { result ≡ Err RunError.Overflow → calculated (over_two (function_of function)) (value_of x.now ∷ value_of y.now ∷ []) ≡ None }
+    ensures work { IfOk result (λ out. steps.new ≡ steps.old + (pair_count (value_of x.now) + pair_count (value_of y.now) + pair_count (value_of out))) }
+    ensures unchanged { OnErr result (steps.new ≡ steps.old) }
+{
+    let out = value_over(alloc, function, x, y)?;
+    steps.add(count_of(x) + count_of(y) + count_of(&out));
+    Ok(out)
+}
+
+/// How many pairs a value has; a scalar has none.
+fn count_of(obj: &Obj) -> u64
+    ensures count { result ≡ pair_count (value_of obj.now) }
+    ensures small { result < 2 ^ 60 }
+{
+    match obj {
+        Obj::Bat(b) => b.bat().len(),
+        Obj::One(_) => 0,
+    }
+}
+
+/// The value of a function over two values.
+fn value_over(alloc: Global, function: Function, x: &Obj, y: &Obj) -> Result<Obj, RunError>
+    ensures value { IfOk result (λ out. calculated (over_two (function_of function)) (value_of x.now ∷ value_of y.now ∷ []) ≡ Some (value_of out)) }
+    ensures overflow { result ≡ Err RunError.Overflow → calculated (over_two (function_of function)) (value_of x.now ∷ value_of y.now ∷ []) ≡ None }
+{
+    match (x, y) {
+        (Obj::One(a), Obj::One(b)) => match apply(function, a, b) {
+            Some(cell) => Ok(Obj::One(cell)),
+            None => Err(RunError::Overflow),
+        },
+        (Obj::Bat(b), Obj::One(_)) => bat_over(alloc, function, x, y, b.bat(), b.bat().len()),
+        (Obj::One(_), Obj::Bat(b)) => bat_over(alloc, function, x, y, b.bat(), b.bat().len()),
+        (Obj::Bat(l), Obj::Bat(r)) => {
+            let count = l.bat().len().min(r.bat().len());
+            bat_over(alloc, function, x, y, l.bat(), count)
+        }
+    }
+}
+
+/// The value of a function over two values of which one is a BAT, with the heads of the first BAT.
+fn bat_over(
+    alloc: Global,
+    function: Function,
+    x: &Obj,
+    y: &Obj,
+    first: &Bat,
+    count: u64,
+) -> Result<Obj, RunError>
+    requires shortest { shortest (value_of x.now ∷ value_of y.now ∷ []) ≡ Some count }
+    requires first { first_heads (bats_in (value_of x.now ∷ value_of y.now ∷ [])) ≡ heads_of first.now }
+    requires within { count ≤ length first.now }
+    requires left { Reaches count (value_of x.now) }
+    requires right { Reaches count (value_of y.now) }
+    ensures value { IfOk result (λ out. calculated (over_two (function_of function)) (value_of x.now ∷ value_of y.now ∷ []) ≡ Some (value_of out)) }
+    ensures overflow { result ≡ Err RunError.Overflow → calculated (over_two (function_of function)) (value_of x.now ∷ value_of y.now ∷ []) ≡ None }
+{
+    let tails = cells_over(alloc, function, x, y, count)?;
+    let bat = with_first_heads(alloc, first, tails)?;
+    Ok(Obj::Bat(Shared::new(alloc, bat)?))
+}
+
+/// The cells of a function over the first rows.
+fn cells_over(
+    alloc: Global,
+    function: Function,
+    x: &Obj,
+    y: &Obj,
+    count: u64,
+) -> Result<Cells, RunError>
+    requires left { Reaches count (value_of x.now) }
+    requires right { Reaches count (value_of y.now) }
+    ensures value { IfOk result (λ cells. all_or_none (map (over_two (function_of function)) (rows_of (value_of x.now ∷ value_of y.now ∷ []) count)) ≡ Some cells) }
+    ensures len { IfOk result (λ cells. length cells ≡ count) }
+    ensures overflow { result ≡ Err RunError.Overflow → all_or_none (map (over_two (function_of function)) (rows_of (value_of x.now ∷ value_of y.now ∷ []) count)) ≡ None }
+{
+    let mut cells = Cells::new(alloc);
+    for i in 0..count {
+        match apply(function, cell_of(x, i), cell_of(y, i)) {
+            Some(cell) => cells.push(alloc, cell)?,
+            None => return Err(RunError::Overflow),
+        }
+    }
+    Ok(cells)
+}
+
+/// The cell of a value at a place: the tail there, or the scalar.
+fn cell_of(obj: &Obj, i: u64) -> &Cell
+    requires { Reaches (i + 1) (value_of obj.now) }
+    ensures { result.now ≡ cell_at i (value_of obj.now) }
+{
+    match obj {
+        Obj::Bat(b) => b.bat().tails().get(i),
+        Obj::One(cell) => cell,
+    }
+}
+
+/// Tails beside the first heads of a BAT, which are shared where none is left out.
+fn with_first_heads(alloc: Global, first: &Bat, tails: Cells) -> Result<Bat, Memory>
+    requires { length tails ≤ length first.now }
+    ensures { IfOk result (λ out. out ≡ zip (heads_of first.now) tails) }
+{
+    let count = tails.len();
+    if count == first.len() {
+        return first.with_tails(alloc, tails);
+    }
+    let heads = front_of(alloc, first.heads(), count)?;
+    Ok(Bat::from_columns(heads, tails))
+}
+
+/// The first cells of a column.
+fn front_of(alloc: Global, cells: &Cells, count: u64) -> Result<Cells, Memory>
+    requires { count ≤ length cells.now }
+    ensures { IfOk result (λ front. front ≡ take count cells.now) }
+{
+    let mut front = Cells::new(alloc);
+    for i in 0..count {
+        front.push(alloc, cells.get(i).share()?)?;
+    }
+    Ok(front)
+}
