@@ -1,0 +1,216 @@
+-- The forms of arguments that fit an operator.
+use Rattle.std.proofs.Common.{◌≡◌, suc, ◌≤◌, Bool, true, false, List, [], ◌∷◌, length, Option, refl, ap, subst, ◌∙◌, arith}
+use Rattle.std.specs.Prelude.{IsTrue, IsSome, ◌&&◌}
+use Rattle.cell_core.specs.declared.cell.Cell.{Cell}
+use Rattle.cell_core.specs.declared.cell.Kind.{Kind}
+use Rattle.cell_core.specs.declared.cell.Kind.TheVariants as kind
+use Rattle.cell_core.specs.declared.operator.Op.{Op}
+use Rattle.cell_core.specs.declared.operator.Op.TheVariants as op
+use Rattle.cell_core.specs.declared.operator.Value.{Value}
+use Rattle.cell_core.specs.declared.operator.Value.TheVariants.{Bat, One}
+use Rattle.cell_core.specs.Pairs.{Pairs}
+use Rattle.cell_core.specs.Kinds.{ValueType, OneOf, BatOf, is_of_type, are_of_types, from_bat, from_bats, from_bat_and_cell, from_range, from_two, from_one, both_are, are_comparable, result_type, Fits}
+use Rattle.bat_kernel.specs.Shapes.{is_bat, is_two_bats, is_bat_and_cell, is_range}
+
+-- ## Values of types
+
+both_true : (a b : Bool) → (a && b) ≡ true → (a ≡ true) × (b ≡ true)
+both_true true b e = (refl, e)
+both_true false b e = cc
+
+no_values : (vs : List Value) → are_of_types vs [] ≡ true → vs ≡ []
+no_values [] e = refl
+no_values (v ∷ vs) e = cc
+
+first_value : (vs : List Value) (t : ValueType) (ts : List ValueType) → are_of_types vs (t ∷ ts) ≡ true → (v : Value) × (ws : List Value) × (vs ≡ v ∷ ws) × (is_of_type v t ≡ true) × (are_of_types ws ts ≡ true)
+first_value [] t ts e = cc
+first_value (v ∷ ws) t ts e = let both = both_true (is_of_type v t) (are_of_types ws ts) e in (v, ws, refl, both.0, both.1)
+
+bat_value : (v : Value) (h t : Option Kind) → is_of_type v (BatOf h t) ≡ true → (b : Pairs) × (v ≡ Bat b)
+bat_value (Bat b) h t e = (b, refl)
+bat_value (One c) h t e = cc
+
+one_value : (v : Value) (k : Option Kind) → is_of_type v (OneOf k) ≡ true → (c : Cell) × (v ≡ One c)
+one_value (Bat b) k e = cc
+one_value (One c) k e = (c, refl)
+
+-- a BAT in front, and a scalar in front
+first_bat : (vs : List Value) (h t : Option Kind) (ts : List ValueType) → are_of_types vs (BatOf h t ∷ ts) ≡ true → (b : Pairs) × (ws : List Value) × (vs ≡ Bat b ∷ ws) × (are_of_types ws ts ≡ true)
+first_bat vs h t ts e =
+    let first = first_value vs (BatOf h t) ts e in
+    let bat = bat_value first.0 h t first.3 in
+    (bat.0, first.1, first.2 ∙ ap (λ v. v ∷ first.1) bat.1, first.4)
+
+first_one : (vs : List Value) (k : Option Kind) (ts : List ValueType) → are_of_types vs (OneOf k ∷ ts) ≡ true → (c : Cell) × (ws : List Value) × (vs ≡ One c ∷ ws) × (are_of_types ws ts ≡ true)
+first_one vs k ts e =
+    let first = first_value vs (OneOf k) ts e in
+    let one = one_value first.0 k first.3 in
+    (one.0, first.1, first.2 ∙ ap (λ v. v ∷ first.1) one.1, first.4)
+
+-- ## Forms
+
+bat_fits : (f : Option Kind → Option Kind → Option ValueType) (vs : List Value) (types : List ValueType) → are_of_types vs types ≡ true → IsSome (from_bat f types) → is_bat vs ≡ true
+bat_fits f vs [] typed fit = cc
+bat_fits f vs (OneOf k ∷ ts) typed fit = cc
+bat_fits f vs (BatOf h t ∷ x ∷ ts) typed fit = cc
+bat_fits f vs (BatOf h t ∷ []) typed fit =
+    let b = first_bat vs h t [] typed in
+    ap is_bat (b.2 ∙ ap (λ ws. Bat b.0 ∷ ws) (no_values b.1 b.3))
+
+bats_fit : (f : Option Kind → Option Kind → Option Kind → Option Kind → Option ValueType) (vs : List Value) (types : List ValueType) → are_of_types vs types ≡ true → IsSome (from_bats f types) → is_two_bats vs ≡ true
+bats_fit f vs [] typed fit = cc
+bats_fit f vs (OneOf k ∷ ts) typed fit = cc
+bats_fit f vs (BatOf h t ∷ []) typed fit = cc
+bats_fit f vs (BatOf h t ∷ OneOf k ∷ ts) typed fit = cc
+bats_fit f vs (BatOf h t ∷ BatOf h' t' ∷ x ∷ ts) typed fit = cc
+bats_fit f vs (BatOf h t ∷ BatOf h' t' ∷ []) typed fit =
+    let l = first_bat vs h t (BatOf h' t' ∷ []) typed in
+    let r = first_bat l.1 h' t' [] l.3 in
+    ap is_two_bats (l.2 ∙ ap (λ ws. Bat l.0 ∷ ws) (r.2 ∙ ap (λ ws. Bat r.0 ∷ ws) (no_values r.1 r.3)))
+
+bat_and_cell_fit : (f : Option Kind → Option Kind → Option Kind → Option ValueType) (vs : List Value) (types : List ValueType) → are_of_types vs types ≡ true → IsSome (from_bat_and_cell f types) → is_bat_and_cell vs ≡ true
+bat_and_cell_fit f vs [] typed fit = cc
+bat_and_cell_fit f vs (OneOf k ∷ ts) typed fit = cc
+bat_and_cell_fit f vs (BatOf h t ∷ []) typed fit = cc
+bat_and_cell_fit f vs (BatOf h t ∷ BatOf h' t' ∷ ts) typed fit = cc
+bat_and_cell_fit f vs (BatOf h t ∷ OneOf k ∷ x ∷ ts) typed fit = cc
+bat_and_cell_fit f vs (BatOf h t ∷ OneOf k ∷ []) typed fit =
+    let b = first_bat vs h t (OneOf k ∷ []) typed in
+    let c = first_one b.1 k [] b.3 in
+    ap is_bat_and_cell (b.2 ∙ ap (λ ws. Bat b.0 ∷ ws) (c.2 ∙ ap (λ ws. One c.0 ∷ ws) (no_values c.1 c.3)))
+
+range_fits : (vs : List Value) (types : List ValueType) → are_of_types vs types ≡ true → IsSome (from_range types) → is_range vs ≡ true
+range_fits vs [] typed fit = cc
+range_fits vs (OneOf k ∷ ts) typed fit = cc
+range_fits vs (BatOf h t ∷ []) typed fit = cc
+range_fits vs (BatOf h t ∷ BatOf h' t' ∷ ts) typed fit = cc
+range_fits vs (BatOf h t ∷ OneOf k ∷ []) typed fit = cc
+range_fits vs (BatOf h t ∷ OneOf k ∷ BatOf h' t' ∷ ts) typed fit = cc
+range_fits vs (BatOf h t ∷ OneOf k ∷ OneOf m ∷ []) typed fit = cc
+range_fits vs (BatOf h t ∷ OneOf k ∷ OneOf m ∷ BatOf h' t' ∷ ts) typed fit = cc
+range_fits vs (BatOf h t ∷ OneOf k ∷ OneOf m ∷ OneOf li ∷ []) typed fit = cc
+range_fits vs (BatOf h t ∷ OneOf k ∷ OneOf m ∷ OneOf li ∷ BatOf h' t' ∷ ts) typed fit = cc
+range_fits vs (BatOf h t ∷ OneOf k ∷ OneOf m ∷ OneOf li ∷ OneOf hi ∷ x ∷ ts) typed fit = cc
+range_fits vs (BatOf h t ∷ OneOf k ∷ OneOf m ∷ OneOf li ∷ OneOf hi ∷ []) typed fit =
+    let b = first_bat vs h t (OneOf k ∷ OneOf m ∷ OneOf li ∷ OneOf hi ∷ []) typed in
+    let low = first_one b.1 k (OneOf m ∷ OneOf li ∷ OneOf hi ∷ []) b.3 in
+    let high = first_one low.1 m (OneOf li ∷ OneOf hi ∷ []) low.3 in
+    let left = first_one high.1 li (OneOf hi ∷ []) high.3 in
+    let right = first_one left.1 hi [] left.3 in
+    ap is_range (b.2 ∙ ap (λ ws. Bat b.0 ∷ ws) (low.2 ∙ ap (λ ws. One low.0 ∷ ws) (high.2 ∙ ap (λ ws. One high.0 ∷ ws) (left.2 ∙ ap (λ ws. One left.0 ∷ ws) (right.2 ∙ ap (λ ws. One right.0 ∷ ws) (no_values right.1 right.3))))))
+
+-- ## How many
+
+same_count : (vs : List Value) (types : List ValueType) → are_of_types vs types ≡ true → length vs ≡ length types
+same_count [] [] e = refl
+same_count [] (t ∷ ts) e = cc
+same_count (v ∷ vs) [] e = cc
+same_count (v ∷ vs) (t ∷ ts) e = ap (λ n. suc n) (same_count vs ts (both_true (is_of_type v t) (are_of_types vs ts) e).1)
+
+few_bat : (f : Option Kind → Option Kind → Option ValueType) (types : List ValueType) → IsSome (from_bat f types) → length types ≤ 5
+few_bat f [] fit = omega arith
+few_bat f (OneOf k ∷ ts) fit = cc
+few_bat f (BatOf h t ∷ x ∷ ts) fit = cc
+few_bat f (BatOf h t ∷ []) fit = omega arith
+
+few_bats : (f : Option Kind → Option Kind → Option Kind → Option Kind → Option ValueType) (types : List ValueType) → IsSome (from_bats f types) → length types ≤ 5
+few_bats f [] fit = omega arith
+few_bats f (OneOf k ∷ ts) fit = cc
+few_bats f (BatOf h t ∷ []) fit = omega arith
+few_bats f (BatOf h t ∷ OneOf k ∷ ts) fit = cc
+few_bats f (BatOf h t ∷ BatOf h' t' ∷ x ∷ ts) fit = cc
+few_bats f (BatOf h t ∷ BatOf h' t' ∷ []) fit = omega arith
+
+few_bat_and_cell : (f : Option Kind → Option Kind → Option Kind → Option ValueType) (types : List ValueType) → IsSome (from_bat_and_cell f types) → length types ≤ 5
+few_bat_and_cell f [] fit = omega arith
+few_bat_and_cell f (OneOf k ∷ ts) fit = cc
+few_bat_and_cell f (BatOf h t ∷ []) fit = omega arith
+few_bat_and_cell f (BatOf h t ∷ BatOf h' t' ∷ ts) fit = cc
+few_bat_and_cell f (BatOf h t ∷ OneOf k ∷ x ∷ ts) fit = cc
+few_bat_and_cell f (BatOf h t ∷ OneOf k ∷ []) fit = omega arith
+
+few_range : (types : List ValueType) → IsSome (from_range types) → length types ≤ 5
+few_range [] fit = omega arith
+few_range (OneOf k ∷ ts) fit = cc
+few_range (BatOf h t ∷ []) fit = omega arith
+few_range (BatOf h t ∷ BatOf h' t' ∷ ts) fit = cc
+few_range (BatOf h t ∷ OneOf k ∷ []) fit = omega arith
+few_range (BatOf h t ∷ OneOf k ∷ BatOf h' t' ∷ ts) fit = cc
+few_range (BatOf h t ∷ OneOf k ∷ OneOf m ∷ []) fit = omega arith
+few_range (BatOf h t ∷ OneOf k ∷ OneOf m ∷ BatOf h' t' ∷ ts) fit = cc
+few_range (BatOf h t ∷ OneOf k ∷ OneOf m ∷ OneOf li ∷ []) fit = omega arith
+few_range (BatOf h t ∷ OneOf k ∷ OneOf m ∷ OneOf li ∷ BatOf h' t' ∷ ts) fit = cc
+few_range (BatOf h t ∷ OneOf k ∷ OneOf m ∷ OneOf li ∷ OneOf hi ∷ x ∷ ts) fit = cc
+few_range (BatOf h t ∷ OneOf k ∷ OneOf m ∷ OneOf li ∷ OneOf hi ∷ []) fit = omega arith
+
+few_two : (test : Option Kind → Option Kind → Bool) (k : Kind) (types : List ValueType) → IsSome (from_two test k types) → length types ≤ 5
+few_two test k [] fit = omega arith
+few_two test k (x ∷ []) fit = omega arith
+few_two test k (x ∷ y ∷ []) fit = omega arith
+few_two test k (x ∷ y ∷ z ∷ ts) fit = cc
+
+few_one : (taken k : Kind) (types : List ValueType) → IsSome (from_one taken k types) → length types ≤ 5
+few_one taken k [] fit = omega arith
+few_one taken k (x ∷ []) fit = omega arith
+few_one taken k (x ∷ y ∷ ts) fit = cc
+
+few_types : (o : Op) (types : List ValueType) → IsSome (result_type o types) → length types ≤ 5
+few_types op.Bind types fit = cc
+few_types op.Select types fit = few_range types fit
+few_types op.Semijoin types fit = few_bats _ types fit
+few_types op.Kdifference types fit = few_bats _ types fit
+few_types op.Kunion types fit = few_bats _ types fit
+few_types op.Cross types fit = few_bats _ types fit
+few_types op.Join types fit = few_bats _ types fit
+few_types op.GroupDerive types fit = few_bats _ types fit
+few_types op.Subcount types fit = few_bats _ types fit
+few_types op.Subsum types fit = few_bats _ types fit
+few_types op.Submin types fit = few_bats _ types fit
+few_types op.Submax types fit = few_bats _ types fit
+few_types op.Reverse types fit = few_bat _ types fit
+few_types op.Mirror types fit = few_bat _ types fit
+few_types op.GroupNew types fit = few_bat _ types fit
+few_types op.GroupHeads types fit = few_bat _ types fit
+few_types op.Count types fit = few_bat _ types fit
+few_types op.Sum types fit = few_bat _ types fit
+few_types op.Min types fit = few_bat _ types fit
+few_types op.Max types fit = few_bat _ types fit
+few_types op.MarkT types fit = few_bat_and_cell _ types fit
+few_types op.Project types fit = few_bat_and_cell _ types fit
+few_types op.Plus types fit = few_two (both_are kind.Int) kind.Int types fit
+few_types op.Minus types fit = few_two (both_are kind.Int) kind.Int types fit
+few_types op.Times types fit = few_two (both_are kind.Int) kind.Int types fit
+few_types op.Eq types fit = few_two are_comparable kind.Bit types fit
+few_types op.Ne types fit = few_two are_comparable kind.Bit types fit
+few_types op.Lt types fit = few_two are_comparable kind.Bit types fit
+few_types op.Le types fit = few_two are_comparable kind.Bit types fit
+few_types op.Gt types fit = few_two are_comparable kind.Bit types fit
+few_types op.Ge types fit = few_two are_comparable kind.Bit types fit
+few_types op.And types fit = few_two (both_are kind.Bit) kind.Bit types fit
+few_types op.Or types fit = few_two (both_are kind.Bit) kind.Bit types fit
+few_types op.Not types fit = few_one kind.Bit kind.Bit types fit
+
+-- arguments that fit are few
+pub few_fit : (o : Op) (vs : List Value) → Fits o vs → length vs ≤ 5
+few_fit o vs fits = omega (arith, same_count vs fits.types fits.are_typed, few_types o fits.types fits.fit)
+
+-- ## Operators
+
+module _ (vs : List Value) (o : Op) (fits : Fits o vs) where
+  fit_along : (p : Op) → o ≡ p → Fits p vs
+  fit_along p same = let P : Op → Type 0 = λ q. Fits q vs in subst P same fits
+
+  pub select_fits : o ≡ op.Select → IsTrue (is_range vs)
+  select_fits same = let f = fit_along op.Select same in range_fits vs f.types f.are_typed f.fit
+
+  pub reverse_fits : o ≡ op.Reverse → IsTrue (is_bat vs)
+  reverse_fits same = let f = fit_along op.Reverse same in bat_fits _ vs f.types f.are_typed f.fit
+
+  pub mirror_fits : o ≡ op.Mirror → IsTrue (is_bat vs)
+  mirror_fits same = let f = fit_along op.Mirror same in bat_fits _ vs f.types f.are_typed f.fit
+
+  pub mark_fits : o ≡ op.MarkT → IsTrue (is_bat_and_cell vs)
+  mark_fits same = let f = fit_along op.MarkT same in bat_and_cell_fit _ vs f.types f.are_typed f.fit
+
+  pub join_fits : o ≡ op.Join → IsTrue (is_two_bats vs)
+  join_fits same = let f = fit_along op.Join same in bats_fit _ vs f.types f.are_typed f.fit

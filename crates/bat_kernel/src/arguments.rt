@@ -1,0 +1,91 @@
+//! The arguments of operators by their forms.
+ghost use Rattle.std.specs.Prelude.{◌≡◌, [], ◌∷◌, ◌<◌, ◌≤◌, ◌^◌, length, IsTrue, sum_by};
+ghost use Rattle.cell_core.specs.declared.operator.Value.TheVariants.{Bat as BatValue, One as OneValue};
+ghost use Rattle.cell_core.specs.Operators.{pairs_read};
+ghost use Rattle.cell_core.specs.Pairs.{is_true as is_true_cell, pair_count};
+ghost use Rattle.bat_core.specs.Objects.{value_of, values_of};
+ghost use Rattle.bat_kernel.specs.Shapes.{is_bat, is_two_bats, is_bat_and_cell, is_range};
+
+use bat_core::{Bat, Obj};
+use cell_core::Cell;
+
+/// One BAT.
+pub(crate) fn one_bat(args: &[Obj]) -> &Bat
+    requires { IsTrue (is_bat (values_of args.now)) }
+    ensures { values_of args.now ≡ BatValue result.now ∷ [] }
+{
+    match args {
+        [Obj::Bat(b)] => b.bat(),
+        [] | [Obj::One(_)] | [_, _, ..] => unreachable!(),
+    }
+}
+
+/// Two BATs.
+pub(crate) fn two_bats(args: &[Obj]) -> (&Bat, &Bat)
+    requires { IsTrue (is_two_bats (values_of args.now)) }
+    ensures { values_of args.now ≡ BatValue result.0.now ∷ BatValue result.1.now ∷ [] }
+{
+    match args {
+        [Obj::Bat(l), Obj::Bat(r)] => (l.bat(), r.bat()),
+        _ => unreachable!(),
+    }
+}
+
+/// A BAT and a scalar.
+pub(crate) fn bat_and_cell(args: &[Obj]) -> (&Bat, &Cell)
+    requires { IsTrue (is_bat_and_cell (values_of args.now)) }
+    ensures { values_of args.now ≡ BatValue result.0.now ∷ OneValue result.1.now ∷ [] }
+{
+    match args {
+        [Obj::Bat(b), Obj::One(cell)] => (b.bat(), cell),
+        _ => unreachable!(),
+    }
+}
+
+/// A BAT, two bounds of a range, and whether the bounds are in it.
+pub(crate) fn range(args: &[Obj]) -> (&Bat, &Cell, &Cell, &Cell, &Cell)
+    requires { IsTrue (is_range (values_of args.now)) }
+    ensures { values_of args.now ≡ BatValue result.0.now ∷ OneValue result.1.now ∷ OneValue result.2.now ∷ OneValue result.3.now ∷ OneValue result.4.now ∷ [] }
+{
+    match args {
+        [
+            Obj::Bat(b),
+            Obj::One(low),
+            Obj::One(high),
+            Obj::One(li),
+            Obj::One(hi),
+        ] => { (b.bat(), low, high, li, hi) }
+        _ => unreachable!(),
+    }
+}
+
+/// How many pairs the arguments have.
+pub(crate) fn pairs_of(args: &[Obj]) -> u64
+    requires { length args.now ≤ 5 }
+    ensures read { result ≡ pairs_read (values_of args.now) }
+    ensures small { result < 2 ^ 63 }
+{
+    let mut pairs = 0;
+    for arg in args {
+        pairs += count_of(arg);
+    }
+    pairs
+}
+
+/// How many pairs a value has; a scalar has none.
+pub(crate) fn count_of(obj: &Obj) -> u64
+    ensures count { result ≡ pair_count (value_of obj.now) }
+    ensures small { result < 2 ^ 60 }
+{
+    match obj {
+        Obj::Bat(b) => b.bat().len(),
+        Obj::One(_) => 0,
+    }
+}
+
+/// Whether a cell is true, and neither false nor Nil.
+pub(crate) fn is_true(cell: &Cell) -> bool
+    ensures { result ≡ is_true_cell cell.now }
+{
+    matches!(cell, Cell::Bit(true))
+}

@@ -1,0 +1,32 @@
+//! The kernel.
+use crate::arguments::{count_of, pairs_of};
+use crate::value::value;
+use bat_core::{Obj, Operate};
+use cell_core::{Op, RunError, Steps};
+use std::alloc::Global;
+use std::sync::ledger::Ledger;
+
+/// The machine that runs the operators of plans over BATs and scalars. It keeps nothing.
+#[derive(Clone, Copy, Debug, Default, PartialEq, Eq)]
+pub struct Kernel;
+
+impl Kernel {
+    /// The kernel, which takes no memory.
+    pub fn new() -> Kernel {
+        Kernel
+    }
+}
+
+impl Operate for Kernel {
+    fn run<L: Ledger>(
+        &self,
+        alloc: Global,
+        op: Op,
+        args: &[Obj],
+        steps: &mut Steps<L>,
+    ) -> Result<Obj, RunError> {
+        let out = value(alloc, op, args)?;
+        steps.add(pairs_of(args) + count_of(&out));
+        Ok(out)
+    }
+}
