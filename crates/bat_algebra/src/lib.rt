@@ -6,11 +6,15 @@
 //! the pairs that it reads and those of its result. Columns that stay as they are, are shared.
 #![tactic(auto)]
 
+mod heads;
 mod mark;
 mod pass;
+mod product;
 mod range;
 mod turn;
 
+pub use heads::{kdifference, kunion, semijoin};
 pub use mark::mark_t;
+pub use product::{cross, project};
 pub use range::select;
 pub use turn::{mirror, reverse};
