@@ -1,0 +1,127 @@
+//! The numbers of groups, and their heads.
+ghost use Rattle.std.specs.Prelude.{◌≡◌, ℕ, ◌+◌, ◌≤◌, length, min, map, take, IfOk, OnErr};
+ghost use Rattle.std.specs.List.{zip};
+ghost use Rattle.cell_core.specs.declared.cell.Cell.{Cell};
+ghost use Rattle.cell_core.specs.Same.{same_cell};
+ghost use Rattle.cell_core.specs.Pairs.{heads_of};
+ghost use Rattle.cell_core.specs.Groups.{grouped, derived, group_heads_of, group_number, same_pair};
+
+use crate::numbers::number_of;
+use bat_core::{Bat, Cells};
+use cell_core::{Cell, Memory, Steps};
+use std::alloc::Global;
+use std::collections::HashMap;
+use std::sync::ledger::Ledger;
+
+/// Each head beside the number of its tail, an oid. The counter rises by the pairs of `b` and of the
+/// result.
+pub fn group_new<L: Ledger>(alloc: Global, b: &Bat, steps: &mut Steps<L>) -> Result<Bat, Memory>
+    ensures value { IfOk result (λ out. out ≡ grouped b.now) }
+    ensures work { IfOk result (λ out. steps.new ≡ steps.old + (length b.now + length out)) }
+    ensures unchanged { OnErr result (steps.new ≡ steps.old) }
+{
+    let numbers = number_cells(alloc, b.tails())?;
+    let out = b.with_tails(alloc, numbers)?;
+    steps.add(b.len() + out.len());
+    Ok(out)
+}
+
+/// The numbers of the cells.
+fn number_cells(alloc: Global, cells: &Cells) -> Result<Cells, Memory>
+    ensures { IfOk result (λ out. out ≡ map (λ c. Cell.Oid (group_number same_cell cells.now c)) cells.now) }
+{
+    let mut numbers = HashMap::new(alloc);
+    let mut count = 0;
+    let mut out = Cells::new(alloc);
+    for i in 0..cells.len() {
+        let number = number_of(&mut numbers, &mut count, cells.get(i).share()?)?;
+        out.push(alloc, Cell::Oid(number))?;
+    }
+    Ok(out)
+}
+
+/// By position, up to the shorter: each head of `g` beside the number of the pair of tails, an oid.
+/// The counter rises by the pairs of both and of the result.
+pub fn group_derive<L: Ledger>(
+    alloc: Global,
+    g: &Bat,
+    b: &Bat,
+    steps: &mut Steps<L>,
+) -> Result<Bat, Memory>
+    ensures value { IfOk result (λ out. out ≡ derived g.now b.now) }
+    ensures work { IfOk result (λ out. steps.new ≡ steps.old + (length g.now + length b.now + length out)) }
+    ensures unchanged { OnErr result (steps.new ≡ steps.old) }
+{
+    let numbers = number_pairs(alloc, g.tails(), b.tails())?;
+    let out = beside_heads(alloc, g, numbers)?;
+    steps.add(g.len() + b.len() + out.len());
+    Ok(out)
+}
+
+/// The numbers of the pairs of cells that stand side by side.
+fn number_pairs(alloc: Global, left: &Cells, right: &Cells) -> Result<Cells, Memory>
+    ensures { IfOk result (λ out. out ≡ map (λ p. Cell.Oid (group_number same_pair (zip left.now right.now) p)) (zip left.now right.now)) }
+{
+    let mut numbers = HashMap::new(alloc);
+    let mut count = 0;
+    let mut out = Cells::new(alloc);
+    for i in 0..left.len().min(right.len()) {
+        let pair = (left.get(i).share()?, right.get(i).share()?);
+        let number = number_of(&mut numbers, &mut count, pair)?;
+        out.push(alloc, Cell::Oid(number))?;
+    }
+    Ok(out)
+}
+
+/// The first heads beside these tails, of which there may be fewer than heads.
+fn beside_heads(alloc: Global, g: &Bat, tails: Cells) -> Result<Bat, Memory>
+    requires { length tails ≤ length g.now }
+    ensures { IfOk result (λ out. out ≡ zip (heads_of g.now) tails) }
+{
+    if tails.len() == g.len() {
+        return g.with_tails(alloc, tails);
+    }
+    let heads = first_cells(alloc, g.heads(), tails.len())?;
+    Ok(Bat::from_columns(heads, tails))
+}
+
+/// The first cells of a column.
+fn first_cells(alloc: Global, cells: &Cells, count: u64) -> Result<Cells, Memory>
+    requires { count ≤ length cells.now }
+    ensures { IfOk result (λ out. out ≡ take count cells.now) }
+{
+    let mut out = Cells::new(alloc);
+    for i in 0..count {
+        out.push(alloc, cells.get(i).share()?)?;
+    }
+    Ok(out)
+}
+
+/// The oid of each group beside the head of its first pair. The counter rises by the pairs of `g`
+/// and of the result.
+pub fn group_heads<L: Ledger>(alloc: Global, g: &Bat, steps: &mut Steps<L>) -> Result<Bat, Memory>
+    ensures value { IfOk result (λ out. out ≡ group_heads_of g.now) }
+    ensures work { IfOk result (λ out. steps.new ≡ steps.old + (length g.now + length out)) }
+    ensures unchanged { OnErr result (steps.new ≡ steps.old) }
+{
+    let out = first_heads(alloc, g)?;
+    steps.add(g.len() + out.len());
+    Ok(out)
+}
+
+/// The oid of each group beside the head of its first pair.
+fn first_heads(alloc: Global, g: &Bat) -> Result<Bat, Memory>
+    ensures { IfOk result (λ out. out ≡ group_heads_of g.now) }
+{
+    let mut numbers = HashMap::new(alloc);
+    let mut count = 0;
+    let mut out = Bat::new(alloc);
+    for i in 0..g.len() {
+        let (head, tail) = g.pair(i);
+        let number = number_of(&mut numbers, &mut count, tail.share()?)?;
+        if number == out.len() {
+            out.append(alloc, Cell::Oid(number), head.share()?)?;
+        }
+    }
+    Ok(out)
+}
