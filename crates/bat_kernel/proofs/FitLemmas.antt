@@ -10,7 +10,7 @@ use Rattle.cell_core.specs.declared.operator.Value.{Value}
 use Rattle.cell_core.specs.declared.operator.Value.TheVariants.{Bat, One}
 use Rattle.cell_core.specs.Pairs.{Pairs}
 use Rattle.cell_core.specs.Kinds.{ValueType, OneOf, BatOf, is_of_type, are_of_types, from_bat, from_bats, from_bat_and_cell, from_range, from_two, from_one, both_are, are_comparable, result_type, Fits}
-use Rattle.bat_kernel.specs.Shapes.{is_bat, is_two_bats, is_bat_and_cell, is_range}
+use Rattle.bat_kernel.specs.Shapes.{is_bat, is_two_bats, is_bat_and_cell, is_range, is_two, is_one, makes_bat_of_bat, makes_bat_of_two, calculates}
 
 -- ## Values of types
 
@@ -196,21 +196,61 @@ few_fit o vs fits = omega (arith, same_count vs fits.types fits.are_typed, few_t
 
 -- ## Operators
 
-module _ (vs : List Value) (o : Op) (fits : Fits o vs) where
-  fit_along : (p : Op) → o ≡ p → Fits p vs
-  fit_along p same = let P : Op → Type 0 = λ q. Fits q vs in subst P same fits
+two_fit : (test : Option Kind → Option Kind → Bool) (k : Kind) (vs : List Value) (types : List ValueType) → are_of_types vs types ≡ true → IsSome (from_two test k types) → is_two vs ≡ true
+two_fit test k vs [] typed fit = cc
+two_fit test k vs (x ∷ []) typed fit = cc
+two_fit test k vs (x ∷ y ∷ z ∷ ts) typed fit = cc
+two_fit test k vs (x ∷ y ∷ []) typed fit =
+    let first = first_value vs x (y ∷ []) typed in
+    let second = first_value first.1 y [] first.4 in
+    ap is_two (first.2 ∙ ap (λ ws. first.0 ∷ ws) (second.2 ∙ ap (λ ws. second.0 ∷ ws) (no_values second.1 second.4)))
 
-  pub select_fits : o ≡ op.Select → IsTrue (is_range vs)
-  select_fits same = let f = fit_along op.Select same in range_fits vs f.types f.are_typed f.fit
+one_fits : (taken k : Kind) (vs : List Value) (types : List ValueType) → are_of_types vs types ≡ true → IsSome (from_one taken k types) → is_one vs ≡ true
+one_fits taken k vs [] typed fit = cc
+one_fits taken k vs (x ∷ y ∷ ts) typed fit = cc
+one_fits taken k vs (x ∷ []) typed fit =
+    let first = first_value vs x [] typed in
+    ap is_one (first.2 ∙ ap (λ ws. first.0 ∷ ws) (no_values first.1 first.4))
 
-  pub reverse_fits : o ≡ op.Reverse → IsTrue (is_bat vs)
-  reverse_fits same = let f = fit_along op.Reverse same in bat_fits _ vs f.types f.are_typed f.fit
+module _ (vs : List Value) where
+  pub select_fits : Fits op.Select vs → IsTrue (is_range vs)
+  select_fits f = range_fits vs f.types f.are_typed f.fit
 
-  pub mirror_fits : o ≡ op.Mirror → IsTrue (is_bat vs)
-  mirror_fits same = let f = fit_along op.Mirror same in bat_fits _ vs f.types f.are_typed f.fit
+  pub mark_fits : Fits op.MarkT vs → IsTrue (is_bat_and_cell vs)
+  mark_fits f = bat_and_cell_fit _ vs f.types f.are_typed f.fit
 
-  pub mark_fits : o ≡ op.MarkT → IsTrue (is_bat_and_cell vs)
-  mark_fits same = let f = fit_along op.MarkT same in bat_and_cell_fit _ vs f.types f.are_typed f.fit
+  pub project_fits : Fits op.Project vs → IsTrue (is_bat_and_cell vs)
+  project_fits f = bat_and_cell_fit _ vs f.types f.are_typed f.fit
 
-  pub join_fits : o ≡ op.Join → IsTrue (is_two_bats vs)
-  join_fits same = let f = fit_along op.Join same in bats_fit _ vs f.types f.are_typed f.fit
+  pub not_fits : Fits op.Not vs → IsTrue (is_one vs)
+  not_fits f = one_fits kind.Bit kind.Bit vs f.types f.are_typed f.fit
+
+  pub of_bat_fits : (o : Op) → IsTrue (makes_bat_of_bat o) → Fits o vs → IsTrue (is_bat vs)
+  of_bat_fits op.Reverse made f = bat_fits _ vs f.types f.are_typed f.fit
+  of_bat_fits op.Mirror made f = bat_fits _ vs f.types f.are_typed f.fit
+  of_bat_fits op.GroupNew made f = bat_fits _ vs f.types f.are_typed f.fit
+  of_bat_fits op.GroupHeads made f = bat_fits _ vs f.types f.are_typed f.fit
+  of_bat_fits _ made f = cc
+
+  pub of_two_fit : (o : Op) → IsTrue (makes_bat_of_two o) → Fits o vs → IsTrue (is_two_bats vs)
+  of_two_fit op.Semijoin made f = bats_fit _ vs f.types f.are_typed f.fit
+  of_two_fit op.Kdifference made f = bats_fit _ vs f.types f.are_typed f.fit
+  of_two_fit op.Kunion made f = bats_fit _ vs f.types f.are_typed f.fit
+  of_two_fit op.Cross made f = bats_fit _ vs f.types f.are_typed f.fit
+  of_two_fit op.Join made f = bats_fit _ vs f.types f.are_typed f.fit
+  of_two_fit op.GroupDerive made f = bats_fit _ vs f.types f.are_typed f.fit
+  of_two_fit _ made f = cc
+
+  pub cells_fit : (o : Op) → IsTrue (calculates o) → Fits o vs → IsTrue (is_two vs)
+  cells_fit op.Plus made f = two_fit (both_are kind.Int) kind.Int vs f.types f.are_typed f.fit
+  cells_fit op.Minus made f = two_fit (both_are kind.Int) kind.Int vs f.types f.are_typed f.fit
+  cells_fit op.Times made f = two_fit (both_are kind.Int) kind.Int vs f.types f.are_typed f.fit
+  cells_fit op.Eq made f = two_fit are_comparable kind.Bit vs f.types f.are_typed f.fit
+  cells_fit op.Ne made f = two_fit are_comparable kind.Bit vs f.types f.are_typed f.fit
+  cells_fit op.Lt made f = two_fit are_comparable kind.Bit vs f.types f.are_typed f.fit
+  cells_fit op.Le made f = two_fit are_comparable kind.Bit vs f.types f.are_typed f.fit
+  cells_fit op.Gt made f = two_fit are_comparable kind.Bit vs f.types f.are_typed f.fit
+  cells_fit op.Ge made f = two_fit are_comparable kind.Bit vs f.types f.are_typed f.fit
+  cells_fit op.And made f = two_fit (both_are kind.Bit) kind.Bit vs f.types f.are_typed f.fit
+  cells_fit op.Or made f = two_fit (both_are kind.Bit) kind.Bit vs f.types f.are_typed f.fit
+  cells_fit _ made f = cc

@@ -4,7 +4,7 @@ ghost use Rattle.cell_core.specs.declared.operator.Value.TheVariants.{Bat as Bat
 ghost use Rattle.cell_core.specs.Operators.{pairs_read};
 ghost use Rattle.cell_core.specs.Pairs.{is_true as is_true_cell, pair_count};
 ghost use Rattle.bat_core.specs.Objects.{value_of, values_of};
-ghost use Rattle.bat_kernel.specs.Shapes.{is_bat, is_two_bats, is_bat_and_cell, is_range};
+ghost use Rattle.bat_kernel.specs.Shapes.{is_bat, is_two_bats, is_bat_and_cell, is_range, is_two, is_one};
 
 use bat_core::{Bat, Obj};
 use cell_core::Cell;
@@ -27,6 +27,28 @@ pub(crate) fn two_bats(args: &[Obj]) -> (&Bat, &Bat)
 {
     match args {
         [Obj::Bat(l), Obj::Bat(r)] => (l.bat(), r.bat()),
+        _ => unreachable!(),
+    }
+}
+
+/// Two values.
+pub(crate) fn two_values(args: &[Obj]) -> (&Obj, &Obj)
+    requires { IsTrue (is_two (values_of args.now)) }
+    ensures { values_of args.now ≡ value_of result.0.now ∷ value_of result.1.now ∷ [] }
+{
+    match args {
+        [x, y] => (x, y),
+        _ => unreachable!(),
+    }
+}
+
+/// One value.
+pub(crate) fn one_value(args: &[Obj]) -> &Obj
+    requires { IsTrue (is_one (values_of args.now)) }
+    ensures { values_of args.now ≡ value_of result.now ∷ [] }
+{
+    match args {
+        [x] => x,
         _ => unreachable!(),
     }
 }
