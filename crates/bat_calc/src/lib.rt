@@ -9,5 +9,7 @@
 mod calculate;
 mod function;
 mod operators;
+#[cfg(test)]
+mod tests;
 
 pub use operators::{bit_and, bit_not, bit_or, eq, ge, gt, le, lt, minus, ne, plus, times};
