@@ -1,2 +1,4 @@
+pub mod AggregateLemmas
 pub mod GroupLemmas
 pub mod NumberLemmas
+pub mod TotalLemmas

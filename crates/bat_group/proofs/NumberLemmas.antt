@@ -80,7 +80,7 @@ or_none (Some x) = refl
 
 module _ {X : Type 0} (same : X → X → Bool) (laws : IsEquivalence same) where
   -- what is the same as an element is the same as another one that is the same
-  same_as : (x k y : X) → same x k ≡ true → same y k ≡ same y x
+  pub same_as : (x k y : X) → same x k ≡ true → same y k ≡ same y x
   same_as x k y e = laws.symm y k ∙ sym (laws.congr x k y e) ∙ laws.symm x y
 
   -- ## One key more
@@ -128,7 +128,7 @@ module _ {X : Type 0} (same : X → X → Bool) (laws : IsEquivalence same) wher
         | false ↦ λ e. ap (λ b. same d x || b) (any_filter z x ds apart)
       ] refl
 
-  any_step : (z x : X) (ds : List X) (s : Bool) → same z x ≡ s → (s || list_any (λ y. same y x) (filter (λ y. not (same z y)) ds)) ≡ (s || list_any (λ y. same y x) ds)
+  pub any_step : (z x : X) (ds : List X) (s : Bool) → same z x ≡ s → (s || list_any (λ y. same y x) (filter (λ y. not (same z y)) ds)) ≡ (s || list_any (λ y. same y x) ds)
   any_step z x ds true e = refl
   any_step z x ds false e = any_filter z x ds e
 
@@ -150,7 +150,7 @@ module _ {X : Type 0} (same : X → X → Bool) (laws : IsEquivalence same) wher
         | false ↦ λ e. (y ∷ rest.0, ap (distinct same) (sym split) ∙ rest.1 ∙ ap (λ l. l ++ rest.0) e ∙ append_assoc (distinct same xs) (y ∷ []) rest.0)
       ] (distinct_push xs y)
 
-  number_kept : (ds : List X) (x : X) (more : List X) → position_or_len (λ y. same y x) (with_first same ds x ++ more) ≡ position_or_len (λ y. same y x) ds
+  pub number_kept : (ds : List X) (x : X) (more : List X) → position_or_len (λ y. same y x) (with_first same ds x ++ more) ≡ position_or_len (λ y. same y x) ds
   number_kept ds x more =
       elim (list_any (λ y. same y x) ds) as (λ b. list_any (λ y. same y x) ds ≡ b → position_or_len (λ y. same y x) (cond b ds (ds ++ x ∷ []) ++ more) ≡ position_or_len (λ y. same y x) ds) [
         | true ↦ λ e. number_found (λ y. same y x) ds more e

@@ -1,1 +1,3 @@
+pub mod Aggregates
+pub mod Fitting
 pub mod Numbers

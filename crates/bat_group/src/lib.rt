@@ -6,7 +6,14 @@
 //! as Nil there.
 #![tactic(auto)]
 
+mod aggregate;
 mod grouping;
 mod numbers;
+mod subtotals;
+#[cfg(test)]
+mod tests;
+mod totals;
 
 pub use grouping::{group_derive, group_heads, group_new};
+pub use subtotals::{subcount, submax, submin, subsum};
+pub use totals::{count, max, min, sum};

@@ -1,0 +1,233 @@
+-- The aggregates of groups, one group and one cell on.
+use Rattle.std.proofs.Common.{◌≡◌, ℕ, suc, zero, ◌+◌, ◌<◌, ◌≤◌, ◌==◌, Bool, true, false, not, ◌||◌, cond, List, [], ◌∷◌, ◌++◌, length, get_or, take, drop, set, map, refl, sym, ap, ◌∙◌, arith, append-nil}
+use Rattle.std.specs.Prelude.{filter}
+use Rattle.std.specs.List.{list_any, position_or_len, zip, AllByRecursion}
+use Rattle.std.specs.Cmp.{IsEquivalence}
+use Rattle.std.proofs.lemmas.Bool.{eqb-true, eqb-false}
+use Rattle.std.proofs.lemmas.List.{length-map, length-take-le, drop_all, map_push, get_or-map}
+use Rattle.std.proofs.lemmas.List.Folds.{list_any-append}
+use Rattle.std.proofs.lemmas.List.Sums.{prefix_len-le-length, passes_at_first}
+use Rattle.cell_core.specs.declared.cell.Cell.{Cell}
+use Rattle.cell_core.specs.declared.cell.Cell.TheVariants.{Nil}
+use Rattle.cell_core.specs.Same.{same_cell, same_equivalence}
+use Rattle.cell_core.specs.Groups.{distinct}
+use Rattle.bat_group.specs.Numbers.{with_first}
+use Rattle.bat_group.specs.Aggregates.{members_of}
+use Rattle.bat_group.proofs.NumberLemmas.{take_next, distinct_next, any_step, same_as, number_kept, found_by_number, missed_by_number}
+
+module _ {X : Type 0} (same : X → X → Bool) (laws : IsEquivalence same) where
+  -- each element differs from all that follow
+  abbrev Apart : List X → Type 0
+  Apart [] = Unit {0}
+  Apart (x ∷ xs) = (list_any (same x) xs ≡ false) × Apart xs
+
+  left_out : (x : X) (xs : List X) → list_any (same x) (filter (λ y. not (same x y)) xs) ≡ false
+  left_out x [] = refl
+  left_out x (y ∷ ys) =
+      elim (same x y) as (λ b. same x y ≡ b → list_any (same x) (cond (not b) (y ∷ filter (λ z. not (same x z)) ys) (filter (λ z. not (same x z)) ys)) ≡ false) [
+        | true ↦ λ e. left_out x ys
+        | false ↦ λ e. ap (λ b. b || list_any (same x) (filter (λ z. not (same x z)) ys)) e ∙ left_out x ys
+      ] refl
+
+  none_of_filter : (q p : X → Bool) (xs : List X) → list_any q xs ≡ false → list_any q (filter p xs) ≡ false
+  none_of_filter q p [] e = refl
+  none_of_filter q p (x ∷ xs) e =
+      let here : q x ≡ false = or_left (q x) (list_any q xs) e in
+      let rest : list_any q xs ≡ false = or_right (q x) (list_any q xs) e in
+      elim (p x) as (λ b. list_any q (cond b (x ∷ filter p xs) (filter p xs)) ≡ false) [
+        | true ↦ ap (λ b. b || list_any q (filter p xs)) here ∙ none_of_filter q p xs rest
+        | false ↦ none_of_filter q p xs rest
+      ]
+    where
+      or_left : (a b : Bool) → (a || b) ≡ false → a ≡ false
+      or_left true b e = e
+      or_left false b e = refl
+
+      or_right : (a b : Bool) → (a || b) ≡ false → b ≡ false
+      or_right true b e = cc
+      or_right false b e = e
+
+  apart_filter : (p : X → Bool) (xs : List X) → Apart xs → Apart (filter p xs)
+  apart_filter p [] a = tt
+  apart_filter p (x ∷ xs) a =
+      elim (p x) as (λ b. Apart (cond b (x ∷ filter p xs) (filter p xs))) [
+        | true ↦ (none_of_filter (same x) p xs a.0, apart_filter p xs a.1)
+        | false ↦ apart_filter p xs a.1
+      ]
+
+  distinct_apart : (xs : List X) → Apart (distinct same xs)
+  distinct_apart [] = tt
+  distinct_apart (x ∷ xs) = (left_out x (distinct same xs), apart_filter (λ y. not (same x y)) (distinct same xs) (distinct_apart xs))
+
+  any_distinct : (x : X) (xs : List X) → list_any (λ y. same y x) (distinct same xs) ≡ list_any (λ y. same y x) xs
+  any_distinct x [] = refl
+  any_distinct x (z ∷ xs) = any_step same laws z x (distinct same xs) (same z x) refl ∙ ap (λ b. same z x || b) (any_distinct x xs)
+
+  -- a function that changes at what is the same as k alone
+  module _ {Y : Type 0} (f g : X → Y) (k : X) (others : (y : X) → same y k ≡ false → g y ≡ f y) where
+    map_apart : (x : X) (xs : List X) → same x k ≡ true → list_any (same x) xs ≡ false → map g xs ≡ map f xs
+    map_apart x [] e none = refl
+    map_apart x (y ∷ ys) e none =
+        let here : same y k ≡ false = same_as same laws x k y e ∙ laws.symm y x ∙ or_first (same x y) (list_any (same x) ys) none in
+        ap (λ v. v ∷ map g ys) (others y here) ∙ ap (λ l. f y ∷ l) (map_apart x ys e (or_last (same x y) (list_any (same x) ys) none))
+      where
+        or_first : (a b : Bool) → (a || b) ≡ false → a ≡ false
+        or_first true b h = h
+        or_first false b h = refl
+
+        or_last : (a b : Bool) → (a || b) ≡ false → b ≡ false
+        or_last true b h = cc
+        or_last false b h = h
+
+    map_changed : (ds : List X) (d : X) (w : Y) → Apart ds → position_or_len (λ y. same y k) ds < length ds → w ≡ g (get_or ds (position_or_len (λ y. same y k) ds) d)
+        → map g ds ≡ set (map f ds) (position_or_len (λ y. same y k) ds) w
+    map_changed [] d w apart within is = absurd (omega arith)
+    map_changed (x ∷ xs) d w apart within is =
+        elim (same x k) as (λ b. same x k ≡ b → cond (not b) (1 + position_or_len (λ y. same y k) xs) 0 < suc (length xs) → w ≡ g (get_or (x ∷ xs) (cond (not b) (1 + position_or_len (λ y. same y k) xs) 0) d)
+        → g x ∷ map g xs ≡ set (f x ∷ map f xs) (cond (not b) (1 + position_or_len (λ y. same y k) xs) 0) w) [
+          | true ↦ λ e small at. ap (λ v. v ∷ map g xs) (sym at) ∙ ap (λ l. w ∷ l) (map_apart x xs e apart.0)
+          | false ↦ λ e small at.
+              let next : 1 + position_or_len (λ y. same y k) xs ≡ suc (position_or_len (λ y. same y k) xs) = omega arith in
+              let there : w ≡ g (get_or xs (position_or_len (λ y. same y k) xs) d) = at ∙ ap (λ n. g (get_or (x ∷ xs) n d)) next in
+              ap (λ v. v ∷ map g xs) (others x e) ∙ ap (λ l. f x ∷ l) (map_changed xs d w apart.1 (omega arith) there)
+              ∙ ap (λ n. set (f x ∷ map f xs) n w) (sym next)
+        ] refl within is
+
+-- ## The cells beside a group
+no_member : (cells groups : List Cell) (k : Cell) → list_any (λ y. same_cell y k) groups ≡ false → members_of cells groups k ≡ []
+no_member [] groups k none = refl
+no_member (c ∷ cells) [] k none = refl
+no_member (c ∷ cells) (y ∷ groups) k none =
+    elim (same_cell y k) as (λ b. (b || list_any (λ z. same_cell z k) groups) ≡ false → map (λ (p : Cell × Cell). p.0) (cond b ((c, y) ∷ filter (λ p. same_cell p.1 k) (zip cells groups)) (filter (λ p. same_cell p.1 k) (zip cells groups))) ≡ []) [
+      | true ↦ λ e. cc
+      | false ↦ λ e. no_member cells groups k e
+    ] none
+
+zip_none : (xs : List Cell) → let none : List Cell = [] in zip xs none ≡ []
+zip_none [] = refl
+zip_none (x ∷ xs) = refl
+
+-- one group more, and the cell beside it, if there is one
+member_more : (cells groups : List Cell) (k group : Cell) → members_of cells (groups ++ k ∷ []) group ≡ members_of cells groups group ++ cond (same_cell k group) (take 1 (drop (length groups) cells)) []
+member_more [] groups k group = sym (ap (λ l. cond (same_cell k group) (take 1 l) []) (drop_all (length groups) [] (omega arith)) ∙ either (same_cell k group))
+  where
+    either : (b : Bool) → cond {A = List Cell} b [] [] ≡ []
+    either true = refl
+    either false = refl
+member_more (c ∷ cells) [] k group = ap (λ r. map (λ (p : Cell × Cell). p.0) (cond (same_cell k group) ((c, k) ∷ filter (λ p. same_cell p.1 group) r) (filter (λ p. same_cell p.1 group) r))) (zip_none cells) ∙ pick (same_cell k group)
+  where
+    pick : (b : Bool) → map (λ (p : Cell × Cell). p.0) (cond b ((c, k) ∷ []) []) ≡ cond b (c ∷ []) []
+    pick true = refl
+    pick false = refl
+member_more (c ∷ cells) (y ∷ groups) k group =
+    elim (same_cell y group) as (λ b. map (λ (p : Cell × Cell). p.0) (cond b ((c, y) ∷ filter (λ p. same_cell p.1 group) (zip cells (groups ++ k ∷ []))) (filter (λ p. same_cell p.1 group) (zip cells (groups ++ k ∷ []))))
+    ≡ map (λ (p : Cell × Cell). p.0) (cond b ((c, y) ∷ filter (λ p. same_cell p.1 group) (zip cells groups)) (filter (λ p. same_cell p.1 group) (zip cells groups))) ++ cond (same_cell k group) (take 1 (drop (length groups) cells)) []) [
+      | true ↦ ap (λ l. c ∷ l) (member_more cells groups k group)
+      | false ↦ member_more cells groups k group
+    ]
+
+-- ## One step over the groups, where A is the aggregate
+module _ (A : List Cell → Cell) (cells groups : List Cell) (i : ℕ) (k : Cell) (within : i < length groups) (is : k ≡ get_or groups i k) where
+  abbrev pub before : Cell → Cell
+  before group = A (members_of cells (take i groups) group)
+
+  abbrev pub after : Cell → Cell
+  after group = A (members_of cells (take (i + 1) groups) group)
+
+  abbrev pub firsts : List Cell
+  firsts = distinct same_cell (take i groups)
+
+  abbrev pub firsts_now : List Cell
+  firsts_now = distinct same_cell (take (i + 1) groups)
+
+  abbrev pub place : List Cell → ℕ
+  place l = position_or_len (λ y. same_cell y k) l
+
+  step : (group : Cell) → members_of cells (take (i + 1) groups) group ≡ members_of cells (take i groups) group ++ cond (same_cell k group) (take 1 (drop i cells)) []
+  step group =
+      ap (λ l. members_of cells l group) (take_next same_cell same_equivalence groups i k within is) ∙ member_more cells (take i groups) k group
+      ∙ ap (λ n. members_of cells (take i groups) group ++ cond (same_cell k group) (take 1 (drop n cells)) []) (length-take-le i groups (omega arith))
+
+  at_most : (l : List Cell) → place l ≤ length l
+  at_most l = prefix_len-le-length (λ y. not (same_cell y k)) l
+
+  pub number_fits : (n : ℕ) (old : List Cell) → n ≡ place firsts → old ≡ map before firsts → n ≤ length old
+  number_fits n old number value = omega (arith, at_most firsts, ap length value, length-map firsts before)
+
+  -- a new group has no cells so far
+  pub begun : (n : ℕ) (old new : List Cell) → n ≡ place firsts → old ≡ map before firsts → new ≡ cond (n == length old) (old ++ A [] ∷ []) old → new ≡ map before firsts_now
+  begun n old new number value next =
+      let long : length old ≡ length firsts = ap length value ∙ length-map firsts before in
+      next ∙ elim (n == length old) as (λ b. (n == length old) ≡ b → cond b (old ++ A [] ∷ []) old ≡ map before firsts_now) [
+        | true ↦ λ e.
+            let missed : list_any (λ y. same_cell y k) firsts ≡ false = missed_by_number (λ y. same_cell y k) firsts (sym number ∙ eqb-true n (length old) e ∙ long) in
+            let none : before k ≡ A [] = ap A (no_member cells (take i groups) k (sym (any_distinct same_cell same_equivalence k (take i groups)) ∙ missed)) in
+            ap (λ l. l ++ A [] ∷ []) value ∙ ap (λ c. map before firsts ++ c ∷ []) (sym none) ∙ sym (map_push before firsts k)
+            ∙ ap (map before) (ap (λ b. cond b firsts (firsts ++ k ∷ [])) (sym missed) ∙ sym (distinct_next same_cell same_equivalence groups i k within is))
+        | false ↦ λ e.
+            let other : n ≡ length old → ⊥ = eqb-false n (length old) e in
+            let met : list_any (λ y. same_cell y k) firsts ≡ true = found_by_number (λ y. same_cell y k) firsts (omega (arith, at_most firsts, number, long, other)) in
+            value ∙ ap (map before) (ap (λ b. cond b firsts (firsts ++ k ∷ [])) (sym met) ∙ sym (distinct_next same_cell same_equivalence groups i k within is))
+      ] refl
+
+  same_place : place firsts_now ≡ place firsts
+  same_place =
+      ap place (distinct_next same_cell same_equivalence groups i k within is ∙ sym (append-nil (with_first same_cell firsts k)))
+      ∙ number_kept same_cell same_equivalence firsts k []
+
+  among : list_any (λ y. same_cell y k) firsts_now ≡ true
+  among =
+      ap (list_any (λ y. same_cell y k)) (distinct_next same_cell same_equivalence groups i k within is)
+      ∙ elim (list_any (λ y. same_cell y k) firsts) as (λ b. list_any (λ y. same_cell y k) firsts ≡ b → list_any (λ y. same_cell y k) (cond b firsts (firsts ++ k ∷ [])) ≡ true) [
+        | true ↦ λ e. e
+        | false ↦ λ e.
+            list_any-append (λ y. same_cell y k) firsts (k ∷ []) ∙ ap (λ b. b || (same_cell k k || false)) e ∙ ap (λ b. b || false) (same_equivalence.refl k)
+      ] refl
+
+  pub number_inside : (n : ℕ) → n ≡ place firsts → n < length firsts_now
+  number_inside n number =
+      let other : place firsts_now ≡ length firsts_now → ⊥ = λ e. true_false (sym among ∙ missed_by_number (λ y. same_cell y k) firsts_now e) in
+      omega (arith, at_most firsts_now, other, number, same_place)
+    where
+      true_false : true ≡ false → ⊥
+      true_false e = cc
+
+  -- the cell beside the group is taken into its total
+  pub finished : (n : ℕ) (old : List Cell) (w : Cell) → n ≡ place firsts → old ≡ map before firsts_now → w ≡ A (members_of cells (take i groups) (get_or firsts_now n Nil) ++ take 1 (drop i cells)) → set old n w ≡ map after firsts_now
+  finished n old w number value taken =
+      let at : n ≡ place firsts_now = number ∙ sym same_place in
+      let inside : place firsts_now < length firsts_now = omega (arith, number_inside n number, at) in
+      let met : same_cell k (get_or firsts_now (place firsts_now) Nil) ≡ true =
+      same_equivalence.symm k (get_or firsts_now (place firsts_now) Nil) ∙ passes_at_first (λ y. same_cell y k) firsts_now Nil inside in
+      let changed : w ≡ after (get_or firsts_now (place firsts_now) Nil) =
+      taken ∙ ap (λ m. A (members_of cells (take i groups) (get_or firsts_now m Nil) ++ take 1 (drop i cells))) at
+      ∙ ap (λ b. A (members_of cells (take i groups) (get_or firsts_now (place firsts_now) Nil) ++ cond b (take 1 (drop i cells)) [])) (sym met)
+      ∙ ap A (sym (step (get_or firsts_now (place firsts_now) Nil))) in
+      ap (λ l. set l n w) value ∙ ap (λ m. set (map before firsts_now) m w) at
+      ∙ sym (map_changed same_cell same_equivalence before after k
+      (λ y e. ap A (step y ∙ ap (λ b. members_of cells (take i groups) y ++ cond b (take 1 (drop i cells)) []) (same_equivalence.symm k y ∙ e) ∙ append-nil (members_of cells (take i groups) y)))
+      firsts_now Nil w (distinct_apart same_cell same_equivalence (take (i + 1) groups)) inside changed)
+
+  -- the total of a group
+  pub total_at : (n : ℕ) (old : List Cell) (c : Cell) → n < length firsts_now → old ≡ map before firsts_now → c ≡ get_or old n c → c ≡ before (get_or firsts_now n Nil)
+  total_at n old c inside value read = read ∙ ap (λ l. get_or l n c) value ∙ get_or-map before firsts_now n Nil c inside
+
+-- ## What holds of all totals
+module _ (P : Cell → Type 0) where
+  pub all_push : (xs : List Cell) (x : Cell) → AllByRecursion P xs → P x → AllByRecursion P (xs ++ x ∷ [])
+  all_push [] x all here = (here, tt)
+  all_push (y ∷ ys) x all here = (all.0, all_push ys x all.1 here)
+
+  pub all_at : (xs : List Cell) (n : ℕ) (d : Cell) → AllByRecursion P xs → n < length xs → P (get_or xs n d)
+  all_at [] n d all within = absurd (omega arith)
+  all_at (x ∷ xs) zero d all within = all.0
+  all_at (x ∷ xs) (suc n) d all within = all_at xs n d all.1 (omega arith)
+
+  pub all_set : (xs : List Cell) (n : ℕ) (w : Cell) → AllByRecursion P xs → P w → AllByRecursion P (set xs n w)
+  all_set [] n w all here = tt
+  all_set (x ∷ xs) zero w all here = (here, all.1)
+  all_set (x ∷ xs) (suc n) w all here = (all.0, all_set xs n w all.1 here)
+
+pub all_more : (P Q : Cell → Type 0) → ((c : Cell) → P c → Q c) → (xs : List Cell) → AllByRecursion P xs → AllByRecursion Q xs
+all_more P Q more [] all = tt
+all_more P Q more (x ∷ xs) all = (more x all.0, all_more P Q more xs all.1)

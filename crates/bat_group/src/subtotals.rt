@@ -1,0 +1,158 @@
+//! Aggregates over the tails of a BAT, for each group of another.
+ghost use Rattle.std.specs.Prelude.{◌≡◌, ℕ, ◌+◌, ◌++◌, ◌==◌, ◌≤◌, ◌^◌, [], ◌∷◌, length, map, take, drop, if◌then◌else◌, true, IsTrue, List, IfOk, OnOk, OnErr};
+ghost use Rattle.std.specs.List.{list_all};
+ghost use Rattle.cell_core.specs.declared.cell.Cell.{Cell};
+ghost use Rattle.cell_core.specs.Same.{same_cell};
+ghost use Rattle.cell_core.specs.Pairs.{tails_of, numbered};
+ghost use Rattle.cell_core.specs.Groups.{counted, summed, least, greatest, by_group, distinct};
+ghost use Rattle.bat_group.specs.Aggregates.{aggregate_of, is_int, are_taken, members_of, IsWithin, AreWithin};
+
+use crate::aggregate::Aggregate;
+use crate::numbers::number_of;
+use bat_core::{Bat, Cells};
+use cell_core::{Cell, Memory, Steps};
+use std::alloc::Global;
+use std::collections::HashMap;
+use std::sync::ledger::Ledger;
+
+/// For each distinct tail of `g`, by its first occurrence: an oid from 0, and how many of the
+/// tails of `b` beside it aren't Nil, an Int. Tails stand beside each other by position, and
+/// those past the shorter BAT add nothing. The counter rises by the pairs of both and of the
+/// result.
+pub fn subcount<L: Ledger>(
+    alloc: Global,
+    b: &Bat,
+    g: &Bat,
+    steps: &mut Steps<L>,
+) -> Result<Bat, Memory>
+    ensures value { IfOk result (λ out. out ≡ by_group counted b.now g.now) }
+    ensures work { IfOk result (λ out. steps.new ≡ steps.old + (length b.now + length g.now + length out)) }
+    ensures unchanged { OnErr result (steps.new ≡ steps.old) }
+{
+    let totals = group_totals(alloc, Aggregate::Count, b.tails(), g.tails())?;
+    let out = number_totals(alloc, totals.as_slice())?;
+    steps.add(b.len() + g.len() + out.len());
+    Ok(out)
+}
+
+/// For each distinct tail of `g`, by its first occurrence: an oid from 0, and the sum of the
+/// tails of `b` beside it that aren't Nil, a Huge or Nil. Tails stand beside each other by
+/// position, and those past the shorter BAT add nothing. The counter rises by the pairs of both
+/// and of the result.
+pub fn subsum<L: Ledger>(
+    alloc: Global,
+    b: &Bat,
+    g: &Bat,
+    steps: &mut Steps<L>,
+) -> Result<Bat, Memory>
+    requires ints { IsTrue (list_all is_int (tails_of b.now)) }
+    ensures value { IfOk result (λ out. out ≡ by_group summed b.now g.now) }
+    ensures work { IfOk result (λ out. steps.new ≡ steps.old + (length b.now + length g.now + length out)) }
+    ensures unchanged { OnErr result (steps.new ≡ steps.old) }
+{
+    let totals = group_totals(alloc, Aggregate::Sum, b.tails(), g.tails())?;
+    let out = number_totals(alloc, totals.as_slice())?;
+    steps.add(b.len() + g.len() + out.len());
+    Ok(out)
+}
+
+/// For each distinct tail of `g`, by its first occurrence: an oid from 0, and the least of the
+/// tails of `b` beside it that aren't Nil, or Nil. Tails stand beside each other by position, and
+/// those past the shorter BAT add nothing. The counter rises by the pairs of both and of the
+/// result.
+pub fn submin<L: Ledger>(
+    alloc: Global,
+    b: &Bat,
+    g: &Bat,
+    steps: &mut Steps<L>,
+) -> Result<Bat, Memory>
+    ensures value { IfOk result (λ out. out ≡ by_group least b.now g.now) }
+    ensures work { IfOk result (λ out. steps.new ≡ steps.old + (length b.now + length g.now + length out)) }
+    ensures unchanged { OnErr result (steps.new ≡ steps.old) }
+{
+    let totals = group_totals(alloc, Aggregate::Min, b.tails(), g.tails())?;
+    let out = number_totals(alloc, totals.as_slice())?;
+    steps.add(b.len() + g.len() + out.len());
+    Ok(out)
+}
+
+/// For each distinct tail of `g`, by its first occurrence: an oid from 0, and the greatest of the
+/// tails of `b` beside it that aren't Nil, or Nil. Tails stand beside each other by position, and
+/// those past the shorter BAT add nothing. The counter rises by the pairs of both and of the
+/// result.
+pub fn submax<L: Ledger>(
+    alloc: Global,
+    b: &Bat,
+    g: &Bat,
+    steps: &mut Steps<L>,
+) -> Result<Bat, Memory>
+    ensures value { IfOk result (λ out. out ≡ by_group greatest b.now g.now) }
+    ensures work { IfOk result (λ out. steps.new ≡ steps.old + (length b.now + length g.now + length out)) }
+    ensures unchanged { OnErr result (steps.new ≡ steps.old) }
+{
+    let totals = group_totals(alloc, Aggregate::Max, b.tails(), g.tails())?;
+    let out = number_totals(alloc, totals.as_slice())?;
+    steps.add(b.len() + g.len() + out.len());
+    Ok(out)
+}
+
+/// The aggregate over the cells beside each group, in the order of the groups' numbers.
+fn group_totals(
+    alloc: Global,
+    aggregate: Aggregate,
+    cells: &Cells,
+    groups: &Cells,
+) -> Result<Vec<Cell>, Memory>
+    requires { are_taken aggregate cells.now ≡ true }
+    ensures { IfOk result (λ out. out.items ≡ map (λ group. aggregate_of aggregate (members_of cells.now groups.now group)) (distinct same_cell groups.now)) }
+{
+    let mut numbers = HashMap::new(alloc);
+    let mut count = 0;
+    let mut totals = Vec::new(alloc);
+    for i in 0..groups.len() {
+        let number = number_of(&mut numbers, &mut count, groups.get(i).share()?)?;
+        begin_total(aggregate, number, &mut totals)?;
+        add_beside(aggregate, i, cells, &mut totals[number as usize])?;
+    }
+    Ok(totals)
+}
+
+/// The total of no cells is added where the number is the next.
+fn begin_total(aggregate: Aggregate, number: u64, totals: &mut Vec<Cell>) -> Result<(), Memory>
+    ensures value { OnOk result (totals.new.items ≡ (if number == length totals.old.items then totals.old.items ++ aggregate_of aggregate [] ∷ [] else totals.old.items)) }
+    ensures within { OnOk result ((k : ℕ) → AreWithin aggregate k totals.old.items → AreWithin aggregate k totals.new.items) }
+{
+    if number == totals.len() as u64 {
+        totals.push(aggregate.of_none())?;
+    }
+    Ok(())
+}
+
+/// The cell at a place is taken into a total, if there is one.
+fn add_beside(
+    aggregate: Aggregate,
+    place: u64,
+    cells: &Cells,
+    total: &mut Cell,
+) -> Result<(), Memory>
+    requires taken { are_taken aggregate cells.now ≡ true }
+    requires room { IsWithin aggregate (2 ^ 60) total.old }
+    ensures value { OnOk result ((so_far : List Cell) → total.old ≡ aggregate_of aggregate so_far → total.new ≡ aggregate_of aggregate (so_far ++ take 1 (drop place cells.now))) }
+    ensures within { OnOk result ((k : ℕ) → IsWithin aggregate k total.old → IsWithin aggregate (k + 1) total.new) }
+{
+    if place < cells.len() {
+        aggregate.add(total, cells.get(place))?;
+    }
+    Ok(())
+}
+
+/// The totals beside the oids from 0.
+fn number_totals(alloc: Global, totals: &[Cell]) -> Result<Bat, Memory>
+    ensures { IfOk result (λ out. out ≡ numbered totals.now) }
+{
+    let mut out = Bat::new(alloc);
+    for (i, total) in totals.iter().enumerate() {
+        out.append(alloc, Cell::Oid(i as u64), total.share()?)?;
+    }
+    Ok(out)
+}
