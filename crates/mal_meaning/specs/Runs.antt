@@ -3,13 +3,34 @@ use Rattle.std.proofs.Common.{◌≡◌, List, [], ◌∷◌, ◌++◌, map, Opt
 use Rattle.std.specs.Option.{option_map, option_and_then}
 use Rattle.std.proofs.lemmas.List.{map-append}
 use Rattle.cell_core.specs.declared.cell.Cell.{Cell}
+use Rattle.cell_core.specs.declared.operator.Op.{Op}
+use Rattle.cell_core.specs.declared.operator.Op.TheVariants as op
+use Rattle.cell_core.specs.Kinds.{Fits}
+use Rattle.std.specs.Prelude.{IsSome}
 use Rattle.cell_core.specs.declared.operator.Instr.{Instr}
 use Rattle.cell_core.specs.declared.operator.Value.{Value}
 use Rattle.cell_core.specs.declared.table.Db.{Db}
 use Rattle.cell_core.specs.Calc.{all_or_none}
-use Rattle.mal_meaning.specs.Meaning.{instr_value, values_from, plan_values, plan_rows}
+use Rattle.mal_meaning.specs.Meaning.{arg_values, bind_value, instr_value, values_from, plan_values, plan_rows}
 use Rattle.mal_meaning.specs.Output.{output_rows}
 use Rattle.mal_meaning.specs.declared.plan.Plan.{Plan}
+
+-- the arguments of an instruction are there and fit it; those of a bind name a column of the database
+abbrev pub FitsHere : Db → Op → Option (List Value) → Type 0
+FitsHere db operator None = ⊥
+FitsHere db op.Bind (Some args) = IsSome (bind_value db args)
+FitsHere db operator (Some args) = Fits operator args
+
+-- each instruction that is reached behind these values has arguments that fit
+abbrev pub RunsFrom : Db → List Value → List Instr → Type 0
+RunsFrom db values [] = Unit {0}
+RunsFrom db values (instr ∷ instrs) =
+    FitsHere db instr.op (arg_values (map Some values) instr.args)
+    × ((value : Value) → instr_value db (map Some values) instr ≡ Some value → RunsFrom db (values ++ value ∷ []) instrs)
+
+-- a plan can be run over a database: whatever is reached fits
+abbrev pub Runs : Plan → Db → Type 0
+Runs plan db = RunsFrom db [] plan.instrs
 
 -- the values once these instructions are run behind those with values; None where one has no value
 abbrev pub run_from : Db → List Value → List Instr → Option (List Value)

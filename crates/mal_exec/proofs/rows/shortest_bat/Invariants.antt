@@ -1,0 +1,12 @@
+use Rattle.std.proofs.Common.{◌≡◌, length}
+use Rattle.bat_core.specs.Objects.{values_of}
+use Rattle.cell_core.specs.Pairs.{shortest}
+use Rattle.mal_exec.specs.Shortest.{least_with}
+use Rattle.mal_exec.proofs.rows.shortest_bat.Given as goal
+
+-- what is made so far, and what the rest gives, is what all give
+abbrev pub invariant-columns : goal.invariant-columns
+invariant-columns l = least_with l.least (shortest (values_of l.rest)) ≡ shortest (values_of l.columns)
+
+abbrev pub decreases-columns : goal.decreases-columns
+decreases-columns l = length l.rest

@@ -1,0 +1,14 @@
+//! Plans run over shared columns, by any machine that runs operators.
+//!
+//! It stands on `bat_core` for columns and operators and on `mal_meaning` for plans. `run_plan` gives
+//! the rows of a plan's meaning and counts exactly its work; `output` makes the rows of an output
+//! from the values of a plan's instructions.
+#![tactic(auto)]
+
+mod rows;
+mod run;
+#[cfg(test)]
+mod tests;
+
+pub use rows::output;
+pub use run::{Ran, run_plan};
