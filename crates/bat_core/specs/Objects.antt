@@ -1,7 +1,5 @@
--- The values of objects, and the operators that are offered.
-use Rattle.std.specs.Prelude.{List, map, Bool, true, false}
-use Rattle.cell_core.specs.declared.operator.Op.{Op}
-use Rattle.cell_core.specs.declared.operator.Op.TheVariants as op
+-- The values of objects.
+use Rattle.std.specs.Prelude.{List, map}
 use Rattle.cell_core.specs.declared.operator.Value.{Value}
 use Rattle.cell_core.specs.declared.operator.Value.TheVariants as value
 use Rattle.bat_core.specs.declared.shared.Obj.{Obj}
@@ -14,12 +12,3 @@ value_of (One cell) = value.One cell
 
 abbrev pub values_of : List Obj → List Value
 values_of objs = map value_of objs
-
--- the operators that are offered so far, of which bind is never one
-abbrev pub is_offered : Op → Bool
-is_offered op.Select = true
-is_offered op.Reverse = true
-is_offered op.Mirror = true
-is_offered op.MarkT = true
-is_offered op.Join = true
-is_offered _ = false

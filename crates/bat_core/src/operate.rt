@@ -1,8 +1,8 @@
 //! The operators of plans over BATs and scalars.
-ghost use Rattle.std.specs.Prelude.{◌≡◌, ◌+◌, ◌≤◌, Some, None, IfOk, OnOk, IsTrue};
+ghost use Rattle.std.specs.Prelude.{◌≡◌, ◌+◌, ◌≤◌, Some, None, IfOk, OnOk};
 ghost use Rattle.cell_core.specs.Operators.{operate, work_of};
 ghost use Rattle.cell_core.specs.Kinds.{Fits};
-ghost use Rattle.bat_core.specs.Objects.{value_of, values_of, is_offered};
+ghost use Rattle.bat_core.specs.Objects.{value_of, values_of};
 
 use crate::shared::Obj;
 use cell_core::{Op, RunError, Steps};
@@ -11,8 +11,9 @@ use std::sync::ledger::Ledger;
 
 /// A machine that runs the operators of plans.
 pub trait Operate {
-    /// The value of an operator on arguments that fit it. The counter rises by the stated work; on
-    /// `Overflow` by at most that, and on `Memory` not at all.
+    /// The value of an operator on arguments that fit it. None fit `Op::Bind`, whose value is a column
+    /// of a database. The counter rises by the stated work; on `Overflow` by at most that, and on
+    /// `Memory` not at all.
     fn run<L: Ledger>(
         &self,
         alloc: Global,
@@ -20,7 +21,6 @@ pub trait Operate {
         args: &[Obj],
         steps: &mut Steps<L>,
     ) -> Result<Obj, RunError>
-        requires offered { IsTrue (is_offered op) }
         requires fit { Fits op (values_of args.now) }
         ensures value { IfOk result (λ out. operate op (values_of args.now) ≡ Some (value_of out)) }
         ensures work { OnOk result (steps.new ≡ steps.old + work_of op (values_of args.now)) }
