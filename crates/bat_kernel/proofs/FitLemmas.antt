@@ -1,16 +1,19 @@
 -- The forms of arguments that fit an operator.
-use Rattle.std.proofs.Common.{◌≡◌, suc, ◌≤◌, Bool, true, false, List, [], ◌∷◌, length, Option, refl, ap, subst, ◌∙◌, arith}
+use Rattle.std.proofs.Common.{◌≡◌, suc, ◌≤◌, Bool, true, false, List, [], ◌∷◌, length, Option, refl, sym, ap, ◌∙◌, arith, Some, None}
 use Rattle.std.specs.Prelude.{IsTrue, IsSome, ◌&&◌}
+use Rattle.std.specs.Bool.{then_some}
+use Rattle.std.specs.List.{list_all}
 use Rattle.cell_core.specs.declared.cell.Cell.{Cell}
+use Rattle.cell_core.specs.declared.cell.Cell.TheVariants as cell
 use Rattle.cell_core.specs.declared.cell.Kind.{Kind}
 use Rattle.cell_core.specs.declared.cell.Kind.TheVariants as kind
 use Rattle.cell_core.specs.declared.operator.Op.{Op}
 use Rattle.cell_core.specs.declared.operator.Op.TheVariants as op
 use Rattle.cell_core.specs.declared.operator.Value.{Value}
 use Rattle.cell_core.specs.declared.operator.Value.TheVariants.{Bat, One}
-use Rattle.cell_core.specs.Pairs.{Pairs}
-use Rattle.cell_core.specs.Kinds.{ValueType, OneOf, BatOf, is_of_type, are_of_types, from_bat, from_bats, from_bat_and_cell, from_range, from_two, from_one, both_are, are_comparable, result_type, Fits}
-use Rattle.bat_kernel.specs.Shapes.{is_bat, is_two_bats, is_bat_and_cell, is_range, is_two, is_one, makes_bat_of_bat, makes_bat_of_two, calculates}
+use Rattle.cell_core.specs.Pairs.{Pairs, tails_of}
+use Rattle.cell_core.specs.Kinds.{ValueType, OneOf, BatOf, agrees, is_of_kind, is_of_type, are_of_types, from_bat, from_bats, from_bat_and_cell, from_range, from_two, from_one, both_are, are_comparable, result_type, Fits}
+use Rattle.bat_kernel.specs.Shapes.{is_bat, is_two_bats, is_bat_and_cell, is_range, is_two, is_one, makes_bat_of_bat, makes_bat_of_two, makes_total, calculates}
 
 -- ## Values of types
 
@@ -194,6 +197,58 @@ few_types op.Not types fit = few_one kind.Bit kind.Bit types fit
 pub few_fit : (o : Op) (vs : List Value) → Fits o vs → length vs ≤ 5
 few_fit o vs fits = omega (arith, same_count vs fits.types fits.are_typed, few_types o fits.types fits.fit)
 
+-- ## Sums
+
+int_along : (t : Option Kind) (c : Cell) → agrees t (Some kind.Int) ≡ true → is_of_kind t c ≡ true → is_of_kind (Some kind.Int) c ≡ true
+int_along t cell.Nil same e = refl
+int_along None (cell.Int n) same e = cc
+int_along None (cell.Huge n) same e = cc
+int_along None (cell.Text bs) same e = cc
+int_along None (cell.Day n) same e = cc
+int_along None (cell.Bit b) same e = cc
+int_along None (cell.Oid n) same e = cc
+int_along (Some kind.Int) c same e = e
+int_along (Some kind.Huge) c same e = cc
+int_along (Some kind.Text) c same e = cc
+int_along (Some kind.Day) c same e = cc
+int_along (Some kind.Bit) c same e = cc
+int_along (Some kind.Oid) c same e = cc
+
+all_ints : (h t : Option Kind) (b : Pairs) → agrees t (Some kind.Int) ≡ true → list_all (λ p. is_of_kind h p.0 && is_of_kind t p.1) b ≡ true → list_all (λ c. is_of_kind (Some kind.Int) c) (tails_of b) ≡ true
+all_ints h t [] same e = refl
+all_ints h t (p ∷ ps) same e =
+    let both = both_true (is_of_kind h p.0 && is_of_kind t p.1) (list_all (λ p. is_of_kind h p.0 && is_of_kind t p.1) ps) e in
+    let kinds = both_true (is_of_kind h p.0) (is_of_kind t p.1) both.0 in
+    ap (λ b. b && list_all (λ c. is_of_kind (Some kind.Int) c) (tails_of ps)) (int_along t p.1 same kinds.1) ∙ all_ints h t ps same both.1
+
+tested : {X : Type 0} (b : Bool) (x : X) → IsSome (then_some b x) → b ≡ true
+tested true x some = refl
+tested false x some = cc
+
+-- the tails of what a sum takes are Ints or Nil
+pub sum_ints : (vs : List Value) (b : Pairs) → vs ≡ Bat b ∷ [] → Fits op.Sum vs → list_all (λ c. is_of_kind (Some kind.Int) c) (tails_of b) ≡ true
+sum_ints vs b are f = go f.types f.are_typed f.fit where
+  go : (types : List ValueType) → are_of_types vs types ≡ true → IsSome (result_type op.Sum types) → list_all (λ c. is_of_kind (Some kind.Int) c) (tails_of b) ≡ true
+  go [] typed fit = cc
+  go (OneOf k ∷ ts) typed fit = cc
+  go (BatOf h t ∷ x ∷ ts) typed fit = cc
+  go (BatOf h t ∷ []) typed fit =
+      let here = sym (ap (λ vs. are_of_types vs (BatOf h t ∷ [])) are) ∙ typed in
+      all_ints h t b (tested (agrees t (Some kind.Int)) (OneOf (Some kind.Huge)) fit) (both_true (is_of_type (Bat b) (BatOf h t)) (are_of_types [] []) here).0
+
+pub subsum_ints : (vs : List Value) (b g : Pairs) → vs ≡ Bat b ∷ Bat g ∷ [] → Fits op.Subsum vs → list_all (λ c. is_of_kind (Some kind.Int) c) (tails_of b) ≡ true
+subsum_ints vs b g are f = go f.types f.are_typed f.fit where
+  go : (types : List ValueType) → are_of_types vs types ≡ true → IsSome (result_type op.Subsum types) → list_all (λ c. is_of_kind (Some kind.Int) c) (tails_of b) ≡ true
+  go [] typed fit = cc
+  go (OneOf k ∷ ts) typed fit = cc
+  go (BatOf h t ∷ []) typed fit = cc
+  go (BatOf h t ∷ OneOf k ∷ ts) typed fit = cc
+  go (BatOf h t ∷ BatOf h' t' ∷ x ∷ ts) typed fit = cc
+  go (BatOf h t ∷ BatOf h' t' ∷ []) typed fit =
+      let here = sym (ap (λ vs. are_of_types vs (BatOf h t ∷ BatOf h' t' ∷ [])) are) ∙ typed in
+      let kinds = both_true (agrees t' (Some kind.Oid)) (agrees t (Some kind.Int)) (tested (agrees t' (Some kind.Oid) && agrees t (Some kind.Int)) (BatOf (Some kind.Oid) (Some kind.Huge)) fit) in
+      all_ints h t b kinds.1 (both_true (is_of_type (Bat b) (BatOf h t)) (are_of_types (Bat g ∷ []) (BatOf h' t' ∷ [])) here).0
+
 -- ## Operators
 
 two_fit : (test : Option Kind → Option Kind → Bool) (k : Kind) (vs : List Value) (types : List ValueType) → are_of_types vs types ≡ true → IsSome (from_two test k types) → is_two vs ≡ true
@@ -232,6 +287,18 @@ module _ (vs : List Value) where
   of_bat_fits op.GroupHeads made f = bat_fits _ vs f.types f.are_typed f.fit
   of_bat_fits _ made f = cc
 
+  pub total_fits : (o : Op) → IsTrue (makes_total o) → Fits o vs → IsTrue (is_bat vs)
+  total_fits op.Count made f = bat_fits _ vs f.types f.are_typed f.fit
+  total_fits op.Min made f = bat_fits _ vs f.types f.are_typed f.fit
+  total_fits op.Max made f = bat_fits _ vs f.types f.are_typed f.fit
+  total_fits _ made f = cc
+
+  pub sum_fits : Fits op.Sum vs → IsTrue (is_bat vs)
+  sum_fits f = bat_fits _ vs f.types f.are_typed f.fit
+
+  pub subsum_fits : Fits op.Subsum vs → IsTrue (is_two_bats vs)
+  subsum_fits f = bats_fit _ vs f.types f.are_typed f.fit
+
   pub of_two_fit : (o : Op) → IsTrue (makes_bat_of_two o) → Fits o vs → IsTrue (is_two_bats vs)
   of_two_fit op.Semijoin made f = bats_fit _ vs f.types f.are_typed f.fit
   of_two_fit op.Kdifference made f = bats_fit _ vs f.types f.are_typed f.fit
@@ -239,6 +306,9 @@ module _ (vs : List Value) where
   of_two_fit op.Cross made f = bats_fit _ vs f.types f.are_typed f.fit
   of_two_fit op.Join made f = bats_fit _ vs f.types f.are_typed f.fit
   of_two_fit op.GroupDerive made f = bats_fit _ vs f.types f.are_typed f.fit
+  of_two_fit op.Subcount made f = bats_fit _ vs f.types f.are_typed f.fit
+  of_two_fit op.Submin made f = bats_fit _ vs f.types f.are_typed f.fit
+  of_two_fit op.Submax made f = bats_fit _ vs f.types f.are_typed f.fit
   of_two_fit _ made f = cc
 
   pub cells_fit : (o : Op) → IsTrue (calculates o) → Fits o vs → IsTrue (is_two vs)

@@ -51,7 +51,17 @@ makes_bat_of_two op.Kunion = true
 makes_bat_of_two op.Cross = true
 makes_bat_of_two op.Join = true
 makes_bat_of_two op.GroupDerive = true
+makes_bat_of_two op.Subcount = true
+makes_bat_of_two op.Submin = true
+makes_bat_of_two op.Submax = true
 makes_bat_of_two _ = false
+
+-- the operators that make a scalar of one BAT with any tails
+abbrev pub makes_total : Op → Bool
+makes_total op.Count = true
+makes_total op.Min = true
+makes_total op.Max = true
+makes_total _ = false
 
 -- the functions of two cells
 abbrev pub calculates : Op → Bool

@@ -1,19 +1,21 @@
 //! The values of operators.
 ghost use Rattle.std.specs.Prelude.{◌≡◌, ◌≢◌, [], ◌∷◌, ◌<◌, Some, None, IfOk, IsTrue};
 ghost use Rattle.cell_core.specs.declared.operator.Op.TheVariants as op;
-ghost use Rattle.cell_core.specs.declared.operator.Value.TheVariants.{Bat as BatValue};
+ghost use Rattle.cell_core.specs.declared.operator.Value.TheVariants.{Bat as BatValue, One as OneValue};
 ghost use Rattle.cell_core.specs.Operators.{operate};
 ghost use Rattle.cell_core.specs.Kinds.{Fits};
-ghost use Rattle.bat_core.specs.Objects.{value_of, values_of, is_offered};
-ghost use Rattle.bat_kernel.specs.Shapes.{makes_bat_of_bat, makes_bat_of_two, calculates};
+ghost use Rattle.bat_core.specs.Objects.{value_of, values_of};
+ghost use Rattle.bat_kernel.specs.Shapes.{makes_bat_of_bat, makes_bat_of_two, makes_total, calculates};
 
 use crate::arguments::{bat_and_cell, is_true, one_bat, one_value, range, two_bats, two_values};
 use bat_algebra::{cross, kdifference, kunion, mark_t, mirror, project, reverse, select, semijoin};
 use bat_calc::{bit_and, bit_not, bit_or, eq, ge, gt, le, lt, minus, ne, plus, times};
 use bat_core::{Bat, Obj, Shared};
-use bat_group::{group_derive, group_heads, group_new};
+use bat_group::{
+    count, group_derive, group_heads, group_new, max, min, subcount, submax, submin, subsum, sum,
+};
 use bat_join::join;
-use cell_core::{Memory, Op, RunError, Steps};
+use cell_core::{Cell, Memory, Op, RunError, Steps};
 use std::alloc::Global;
 use std::marker::Brand;
 use std::sync::ledger::{Blank, Ledger};
@@ -21,7 +23,6 @@ use std::sync::ledger::{Blank, Ledger};
 /// The value of an operator on arguments that fit it. The operators count for themselves here, since
 /// memory may still be wanting once they are done.
 pub(crate) fn value(alloc: Global, op: Op, args: &[Obj]) -> Result<Obj, RunError>
-    requires offered { IsTrue (is_offered op) }
     requires fit { Fits op (values_of args.now) }
     ensures value { IfOk result (λ out. operate op (values_of args.now) ≡ Some (value_of out)) }
     ensures overflow { result ≡ Err RunError.Overflow → operate op (values_of args.now) ≡ None }
@@ -39,7 +40,6 @@ fn counted_value<L: Ledger>(
     requires name { blank.name ≡ L.name }
     requires parts { blank.parts ≡ L.parts }
     requires some { 0 < blank.parts }
-    requires offered { IsTrue (is_offered op) }
     requires fit { Fits op (values_of args.now) }
     ensures value { IfOk result (λ out. operate op (values_of args.now) ≡ Some (value_of out)) }
     ensures overflow { result ≡ Err RunError.Overflow → operate op (values_of args.now) ≡ None }
@@ -67,9 +67,24 @@ fn counted_value<L: Ledger>(
         | Op::Kunion
         | Op::Cross
         | Op::Join
-        | Op::GroupDerive => {
+        | Op::GroupDerive
+        | Op::Subcount
+        | Op::Submin
+        | Op::Submax => {
             let (l, r) = two_bats(args);
             obj_of(alloc, of_two_bats(alloc, op, l, r, &mut steps)?)
+        }
+        Op::Count | Op::Min | Op::Max => {
+            let cell = total_of(alloc, op, one_bat(args), &mut steps)?;
+            Ok(Obj::One(cell))
+        }
+        Op::Sum => {
+            let cell = sum(alloc, one_bat(args), &mut steps)?;
+            Ok(Obj::One(cell))
+        }
+        Op::Subsum => {
+            let (b, g) = two_bats(args);
+            obj_of(alloc, subsum(alloc, b, g, &mut steps)?)
         }
         Op::Not => bit_not(alloc, one_value(args), &mut steps),
         Op::Plus
@@ -86,7 +101,7 @@ fn counted_value<L: Ledger>(
             let (x, y) = two_values(args);
             calculated(alloc, op, x, y, &mut steps)
         }
-        _ => unreachable!(),
+        Op::Bind => unreachable!(),
     }
 }
 
@@ -100,6 +115,19 @@ fn of_bat<L: Ledger>(alloc: Global, op: Op, b: &Bat, steps: &mut Steps<L>) -> Re
         Op::Mirror => mirror(alloc, b, steps),
         Op::GroupNew => group_new(alloc, b, steps),
         Op::GroupHeads => group_heads(alloc, b, steps),
+        _ => unreachable!(),
+    }
+}
+
+/// The scalar that an operator makes of one BAT.
+fn total_of<L: Ledger>(alloc: Global, op: Op, b: &Bat, steps: &mut Steps<L>) -> Result<Cell, Memory>
+    requires { IsTrue (makes_total op) }
+    ensures { IfOk result (λ out. operate op (BatValue b.now ∷ []) ≡ Some (OneValue out)) }
+{
+    match op {
+        Op::Count => count(alloc, b, steps),
+        Op::Min => min(alloc, b, steps),
+        Op::Max => max(alloc, b, steps),
         _ => unreachable!(),
     }
 }
@@ -122,6 +150,9 @@ fn of_two_bats<L: Ledger>(
         Op::Cross => cross(alloc, l, r, steps),
         Op::Join => join(alloc, l, r, steps),
         Op::GroupDerive => group_derive(alloc, l, r, steps),
+        Op::Subcount => subcount(alloc, l, r, steps),
+        Op::Submin => submin(alloc, l, r, steps),
+        Op::Submax => submax(alloc, l, r, steps),
         _ => unreachable!(),
     }
 }
