@@ -1,13 +1,14 @@
 //! The machine that runs the operators of plans.
 //!
 //! It stands on the crates that compute the operators: `bat_algebra`, `bat_calc`, `bat_group` and
-//! `bat_join`. It
-//! promises what `bat_core::Operate` asks: the value of each operator on arguments that fit it, with
-//! exactly its stated work.
+//! `bat_join`. It promises what `bat_core::Operate` asks: the value of each operator on arguments that
+//! fit it, with exactly its stated work.
 #![tactic(auto)]
 
 mod arguments;
 mod kernel;
+#[cfg(test)]
+mod tests;
 mod value;
 
 pub use kernel::Kernel;
