@@ -1,0 +1,5 @@
+pub mod CutOrder
+pub mod Cuttings
+pub mod Sweep
+pub mod Members
+pub mod Permuted

@@ -1,0 +1,12 @@
+//! Which pooled selections contain a selection, and which cover it together.
+//!
+//! It stands on `cell_core` for cuts and spans. `within` says when one span lies in another, and
+//! `cover` cuts a target into pieces, each from the span that reaches farthest, exactly where the
+//! spans cover it.
+#![tactic(auto)]
+
+mod pieces;
+#[cfg(test)]
+mod tests;
+
+pub use pieces::{cover, cuttings_are_partitions, within};
