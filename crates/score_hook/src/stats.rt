@@ -1,0 +1,82 @@
+ghost use Rattle.std.specs.Prelude.{◌≡◌, ◌<◌, ◌^◌};
+ghost use Rattle.score_hook.specs.Scores.{IsInRange, score_of, weight_of, is_less};
+
+/// What is known of an entry.
+#[derive(Clone, Copy, Debug, PartialEq, Eq)]
+pub struct Stats {
+    /// The stated work of computing it, in pairs read and made.
+    pub work: u64,
+    /// How often it was used.
+    pub reuses: u64,
+    /// How often it was used by another statement than the one that admitted it.
+    pub others: u64,
+    /// The moment at which it was admitted.
+    pub admitted_at: u64,
+    /// The moment of its last use, or of its admission.
+    pub used_at: u64,
+}
+
+/// A fraction.
+#[derive(Clone, Copy, Debug, PartialEq, Eq)]
+pub struct Score {
+    /// Above the line.
+    pub top: u128,
+    /// Below the line.
+    pub bottom: u128,
+}
+
+/// Which entry goes first.
+#[derive(Clone, Copy, Debug, PartialEq, Eq)]
+pub enum Evict {
+    /// The one that was used least recently.
+    Lru,
+    /// The one of least benefit: its work, weighed by its reuses.
+    Benefit,
+    /// The one of least benefit for each moment since it was admitted.
+    History,
+}
+
+/// The score of an entry at a moment, computed plainly: what a closure of this kind answers.
+pub fn formula(kind: Evict, stats: &Stats, now: u64) -> Score
+    requires { IsInRange stats.now now }
+    ensures { result ≡ score_of kind stats.now now }
+{
+    match kind {
+        Evict::Lru => Score {
+            top: u128::from(stats.used_at),
+            bottom: 1,
+        },
+        Evict::Benefit => Score {
+            top: u128::from(stats.work) * weight(stats),
+            bottom: 1,
+        },
+        Evict::History => Score {
+            top: u128::from(stats.work) * weight(stats),
+            bottom: u128::from(now.saturating_sub(stats.admitted_at).max(1)),
+        },
+    }
+}
+
+/// What a unit of an entry's work weighs.
+fn weight(stats: &Stats) -> u128
+    requires { stats.now.reuses < 2 ^ 30 }
+    ensures value { result ≡ weight_of stats.now }
+    ensures small { result < 2 ^ 34 }
+{
+    if stats.others == 0 {
+        1
+    } else {
+        10 * u128::from(stats.reuses)
+    }
+}
+
+/// Whether the first score is less than the second, as fractions.
+pub fn less(a: &Score, b: &Score) -> bool
+    requires top_a { a.now.top < 2 ^ 96 }
+    requires top_b { b.now.top < 2 ^ 96 }
+    requires bottom_a { a.now.bottom < 2 ^ 32 }
+    requires bottom_b { b.now.bottom < 2 ^ 32 }
+    ensures { result ≡ is_less a.now b.now }
+{
+    a.top * b.bottom < b.top * a.bottom
+}

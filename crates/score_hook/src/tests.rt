@@ -1,0 +1,77 @@
+ghost use Rattle.std.specs.Prelude.{◌≡◌, ℕ, ◌<◌, ◌^◌};
+ghost use Rattle.score_hook.specs.declared.stats.Evict.TheVariants.{History};
+ghost use Rattle.score_hook.specs.Scores.{IsInRange, score_of};
+
+use super::*;
+use std::sync::Arc;
+use std::sync::atomic::{AtomicU64, Ordering};
+use std::test::Fail;
+
+/// What is known of an entry that was used by other statements alone.
+fn stats(work: u64, reuses: u64, admitted_at: u64) -> Stats
+    requires work { work < 2 ^ 20 }
+    requires reuses { reuses < 2 ^ 20 }
+    requires moment { admitted_at < 2 ^ 20 }
+    ensures { (now : ℕ) → now < 2 ^ 32 → IsInRange result now }
+{
+    Stats {
+        work,
+        reuses,
+        others: reuses,
+        admitted_at,
+        used_at: admitted_at,
+    }
+}
+
+// A closure that counts its calls, and computes the age by a test in place of a subtraction that
+// stops at 1.
+#[test]
+fn a_closure_that_counts(rt: HostRuntime) -> Result<(), Fail> {
+    let alloc = rt.alloc();
+    let calls = Arc::new(alloc, AtomicU64::new(0))?;
+    let held = Arc::try_clone(&calls)?;
+    let call: ScoreCall = Box::new(
+        alloc,
+        move |stats: &Stats, now: u64| -> Score
+            requires { IsInRange stats.now now }
+            ensures { result ≡ score_of History stats.now now }
+        {
+            held.fetch_add(1, Ordering::SeqCst);
+            let age = if now > stats.admitted_at {
+                now - stats.admitted_at
+            } else {
+                1
+            };
+            Score {
+                top: formula(Evict::Benefit, stats, now).top,
+                bottom: u128::from(age),
+            }
+        },
+    )?;
+    let scorer = Scorer::new(Evict::History, call);
+    let score = scorer.score(&stats(6, 2, 1), 7);
+    assert_eq!(rt; score.top, 120);
+    assert_eq!(rt; score.bottom, 6);
+    assert!(rt; calls.load(Ordering::SeqCst) != 0);
+    Ok(())
+}
+
+// One unit of work is worth 1 before another statement uses it, and 10 for each reuse afterwards.
+#[test]
+fn formulas(rt: HostRuntime) {
+    let (fresh, used) = (stats(6, 0, 3), stats(6, 2, 3));
+    assert_eq!(rt; formula(Evict::Lru, &fresh, 7).top, 3);
+    assert_eq!(rt; formula(Evict::Benefit, &fresh, 7).top, 6);
+    assert_eq!(rt; formula(Evict::Benefit, &used, 7).top, 120);
+    assert_eq!(rt; formula(Evict::History, &used, 7).bottom, 4);
+    assert_eq!(rt; formula(Evict::History, &used, 3).bottom, 1);
+}
+
+// A third is less than a half, and two sixths are no less than a third.
+#[test]
+fn fractions_compare(rt: HostRuntime) {
+    let third = Score { top: 1, bottom: 3 };
+    assert!(rt; less(&third, &Score { top: 1, bottom: 2 }));
+    assert!(rt; !less(&Score { top: 2, bottom: 6 }, &third));
+    assert!(rt; !less(&third, &Score { top: 2, bottom: 6 }));
+}
