@@ -1,0 +1,3 @@
+pub mod Credits
+pub mod Evictions
+pub mod Lefts
