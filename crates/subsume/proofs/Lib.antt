@@ -3,3 +3,4 @@ pub mod Cuttings
 pub mod Sweep
 pub mod Members
 pub mod Permuted
+pub mod IndexLemmas
