@@ -5,6 +5,7 @@ use Rattle.std.specs.declared.cmp.Ordering.{Ordering}
 use Rattle.std.specs.declared.vec.Vec.{Vec}
 use Rattle.std.specs.List.{AllByRecursion}
 use Rattle.std.specs.Vec.{vec_capacity}
+use Rattle.cell_core.specs.declared.cut.Span.{Span}
 use Rattle.cell_core.specs.Cuts.{cut_cmp}
 use Rattle.subsume.specs.declared.item.CutItem.{CutItem}
 
@@ -20,6 +21,10 @@ is_item_below a b = is_lt (item_cmp a b)
 abbrev pub Ascends : List CutItem → Type 0
 Ascends [] = Unit {0}
 Ascends (x ∷ xs) = AllByRecursion (λ y. is_item_below y x ≡ false) xs × Ascends xs
+
+-- an item of an index
+abbrev pub item_of : ℕ → Span → ℕ → ℕ → CutItem
+item_of parent span rows id = record { parent = parent; span = span; rows = rows; id = id }
 
 -- the items of an index, and how many fit
 pub record IndexView : Type 0 where

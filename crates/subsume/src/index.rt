@@ -1,7 +1,7 @@
 ghost use Rattle.std.specs.Prelude.{◌≡◌, [], ◌+◌, ◌*◌, ◌^◌, ◌<◌, ◌≤◌, ℕ, length, count_by, remove, IfOk, IfSome, IsSome, slice_get, position, insert};
 ghost use Rattle.std.specs.Option.{option_map};
 ghost use Rattle.cell_core.specs.Sorted.{insert_sorted};
-ghost use Rattle.subsume.specs.Index.{is_item_below, is_at, is_counted, Ascends};
+ghost use Rattle.subsume.specs.Index.{item_of, is_item_below, is_at, is_counted, Ascends};
 
 use crate::item::CutItem;
 use cell_core::{Memory, Span, Steps, compare_cuts};
@@ -37,16 +37,30 @@ impl CutIndex {
     }
 
     /// Adds an item, in order.
-    pub fn add(&mut self, item: CutItem)
+    pub fn add(&mut self, parent: u64, span: Span, rows: u64, id: u64)
         requires { length self.old.items < self.old.room }
-        ensures items { self.new.items ≡ insert_sorted is_item_below item self.old.items }
+        ensures items { self.new.items ≡ insert_sorted is_item_below (item_of parent span rows id) self.old.items }
         ensures len { length self.new.items ≡ length self.old.items + 1 }
         ensures room { self.old.room ≤ self.new.room }
     {
+        let item = CutItem {
+            parent,
+            span,
+            rows,
+            id,
+        };
         let at = place_for(&self.items, &item);
         if self.items.insert(at, item).is_err() {
             unreachable!();
         }
+    }
+
+    /// The items, of which none stands before an earlier one.
+    pub fn as_slice(&self) -> &[CutItem]
+        ensures items { result.now ≡ self.now.items }
+        ensures ordered { Ascends result.now }
+    {
+        self.items.as_slice()
     }
 
     /// Takes out the item of this parent that has this id, and gives its span back.

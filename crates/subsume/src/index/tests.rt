@@ -6,16 +6,11 @@ use std::marker::Brand;
 use std::sync::ledger::Blank;
 use std::test::Fail;
 
-/// An item whose span begins at a number.
-fn item(parent: u64, low: i64, id: u64) -> CutItem {
-    CutItem {
-        parent,
-        span: Span {
-            low: Cut::Before(Cell::Int(low)),
-            high: Cut::High,
-        },
-        rows: 1,
-        id,
+/// The span from a number on.
+fn from(low: i64) -> Span {
+    Span {
+        low: Cut::Before(Cell::Int(low)),
+        high: Cut::High,
     }
 }
 
@@ -42,11 +37,12 @@ fn bounds(index: &CutIndex) -> [u64; 4] {
 #[test]
 fn items_are_counted_by_parent(rt: HostRuntime) -> Result<(), Fail> {
     let mut index = CutIndex::new(rt.alloc(), 3)?;
-    index.add(item(3, 0, 5));
-    index.add(item(1, 4, 7));
-    index.add(item(1, 2, 8));
+    index.add(3, from(0), 1, 5);
+    index.add(1, from(4), 1, 7);
+    index.add(1, from(2), 1, 8);
     assert_eq!(rt; bounds(&index).as_slice(), [0, 2, 2, 3].as_slice());
     assert_eq!(rt; place_of(&index.items, 1, 8), Some(0));
+    assert_eq!(rt; index.as_slice().len(), 3);
     if place_of(&index.items, 1, 7).is_some() {
         let span = index.remove(1, 7);
         assert!(rt; compare_cuts(&span.low, &Cut::Before(Cell::Int(4))).is_eq());
