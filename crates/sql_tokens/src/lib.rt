@@ -1,0 +1,22 @@
+//! From SQL text to tokens: a script's pieces, and a piece's tokens with their places.
+//!
+//! It stands on `sql_tree`, whose definitions say what pieces and tokens are, and on `cell_core`. It
+//! promises that `split` gives exactly a script's pieces, that `tokens` gives the tokens of a text and
+//! refuses a text that has none, and that no text has two lists of tokens (`one_list`). Each byte is
+//! looked at a few times, and the rest of a text is never copied. Memory running out is the only
+//! answer that may come instead.
+#![tactic(auto)]
+
+mod bytes;
+mod laws;
+mod part;
+mod pieces;
+mod quoted;
+mod reading;
+mod symbols;
+#[cfg(test)]
+mod tests;
+
+pub use laws::one_list;
+pub use pieces::{MOST_STATEMENTS, SplitError, split};
+pub use reading::{TokensError, tokens};

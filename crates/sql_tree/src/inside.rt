@@ -1,0 +1,18 @@
+/// What a byte of a script stands in.
+#[derive(Clone, Copy, Debug, PartialEq, Eq)]
+pub enum Inside {
+    /// Neither a string nor a quoted name nor a comment.
+    Outside,
+    /// A string.
+    InText,
+    /// A quoted name.
+    InName,
+    /// A comment up to the end of the line.
+    InLine,
+    /// The second byte of `/*`.
+    OpensBlock,
+    /// A comment up to `*/`.
+    InBlock,
+    /// The second byte of `*/`.
+    ClosesBlock,
+}

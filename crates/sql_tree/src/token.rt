@@ -1,0 +1,180 @@
+use cell_core::Word;
+
+/// A token of SQL text.
+#[derive(Debug, Drop)]
+pub enum Token {
+    /// A word that isn't reserved, folded to lower case.
+    Name(Word),
+    /// A name in quotes, without them; a doubled quote is one.
+    Quoted(Word),
+    /// A string, without its quotes; a doubled quote is one.
+    Text(Word),
+    /// Decimal digits.
+    Digits(Word),
+    /// A reserved word that the profile reads.
+    Key(Keyword),
+    /// A reserved word that the profile leaves out, folded to lower case.
+    Unsupported(Word),
+    /// A symbol.
+    Symbol(Symbol),
+}
+
+/// A token and its place in the text.
+#[derive(Debug, Drop)]
+pub struct Placed {
+    /// The token.
+    pub token: Token,
+    /// How many bytes stand before its first.
+    pub start: usize,
+    /// How many bytes stand before the first after it.
+    pub end: usize,
+}
+
+/// A reserved word that the profile reads.
+#[derive(Clone, Copy, Debug, PartialEq, Eq)]
+pub enum Keyword {
+    /// `AND`
+    And,
+    /// `AS`
+    As,
+    /// `ASC`
+    Asc,
+    /// `BETWEEN`
+    Between,
+    /// `BIGINT`
+    Bigint,
+    /// `BY`
+    By,
+    /// `COUNT`
+    Count,
+    /// `CREATE`
+    Create,
+    /// `DATE`
+    Date,
+    /// `DELETE`
+    Delete,
+    /// `DESC`
+    Desc,
+    /// `DISTINCT`
+    Distinct,
+    /// `DROP`
+    Drop,
+    /// `EXPLAIN`
+    Explain,
+    /// `FROM`
+    From,
+    /// `GROUP`
+    Group,
+    /// `HAVING`
+    Having,
+    /// `IN`
+    In,
+    /// `INNER`
+    Inner,
+    /// `INSERT`
+    Insert,
+    /// `INT`
+    Int,
+    /// `INTEGER`
+    Integer,
+    /// `INTO`
+    Into,
+    /// `JOIN`
+    Join,
+    /// `LIMIT`
+    Limit,
+    /// `MAX`
+    Max,
+    /// `MIN`
+    Min,
+    /// `NOT`
+    Not,
+    /// `ON`
+    On,
+    /// `OR`
+    Or,
+    /// `ORDER`
+    Order,
+    /// `SELECT`
+    Select,
+    /// `SET`
+    Set,
+    /// `SUM`
+    Sum,
+    /// `TABLE`
+    Table,
+    /// `TEXT`
+    Text,
+    /// `UPDATE`
+    Update,
+    /// `VALUES`
+    Values,
+    /// `VARCHAR`
+    Varchar,
+    /// `WHERE`
+    Where,
+}
+
+/// A symbol.
+#[derive(Clone, Copy, Debug, PartialEq, Eq)]
+pub enum Symbol {
+    /// `(`
+    Open,
+    /// `)`
+    Close,
+    /// `,`
+    Comma,
+    /// `.`
+    Dot,
+    /// `*`
+    Star,
+    /// `+`
+    Plus,
+    /// `-`
+    Minus,
+    /// `=`
+    Equal,
+    /// `<`
+    Less,
+    /// `<=`
+    LessEqual,
+    /// `>`
+    Greater,
+    /// `>=`
+    GreaterEqual,
+    /// `<>`
+    NotEqual,
+    /// `!=`
+    BangEqual,
+    /// `/`
+    Slash,
+    /// `%`
+    Percent,
+    /// `||`
+    Bars,
+}
+
+/// The symbols of one byte.
+pub const SINGLES: [(u8, Symbol); 12] = [
+    (b'(', Symbol::Open),
+    (b')', Symbol::Close),
+    (b',', Symbol::Comma),
+    (b'.', Symbol::Dot),
+    (b'*', Symbol::Star),
+    (b'+', Symbol::Plus),
+    (b'-', Symbol::Minus),
+    (b'=', Symbol::Equal),
+    (b'<', Symbol::Less),
+    (b'>', Symbol::Greater),
+    (b'/', Symbol::Slash),
+    (b'%', Symbol::Percent),
+];
+
+/// The symbols of two bytes.
+pub const PAIRS: [((u8, u8), Symbol); 5] = [
+    ((b'<', b'='), Symbol::LessEqual),
+    ((b'>', b'='), Symbol::GreaterEqual),
+    ((b'<', b'>'), Symbol::NotEqual),
+    ((b'!', b'='), Symbol::BangEqual),
+    ((b'|', b'|'), Symbol::Bars),
+];
