@@ -1,15 +1,31 @@
-//! What the pieces of a script and the tokens of SQL text are.
+//! SQL as trees and as tokens: what a statement, a token and a piece of a script are, and the
+//! canonical text of a statement.
 //!
 //! It stands on `cell_core`. The definitions in `specs/` are what a reader has to believe: where a
-//! script is cut (`Pieces`), how a text is cut into tokens with their places (`Tokens`), and which
-//! words are reserved (`Words`, over the two lists of `words.rt`). How they are found is the matter of
+//! script is cut (`Pieces`), how a text is cut into tokens with their places (`Tokens`), which words
+//! are reserved (`Words`, over the two lists of `words.rt`), how the code's statements are seen as
+//! plain trees (`Tree`), and how a tree is printed (`Canon`, `Names`). It promises that `print_stmt`
+//! gives the canonical text of every tree and `copy` an equal one. Pieces and tokens are found by
 //! `sql_tokens`.
 #![tactic(auto)]
 
+mod copy;
 mod inside;
+mod names;
+mod print;
+mod print_expr;
+mod print_parts;
+#[cfg(test)]
+mod tests;
 mod token;
+mod tree;
 mod words;
 
 pub use inside::Inside;
+pub use names::printed_name;
+pub use print::print_stmt;
 pub use token::{Keyword, PAIRS, Placed, SINGLES, Symbol, Token};
+pub use tree::{
+    AggOp, ArithOp, CmpOp, ColRef, Cond, Expr, FromItem, Item, Place, Query, SortKey, Stmt,
+};
 pub use words::{KEYWORDS, UNSUPPORTED, is_unsupported, keyword};

@@ -1,0 +1,4 @@
+pub mod ListedLemmas
+pub mod QuotedLemmas
+pub mod MapLemmas
+mod Examples

@@ -1,0 +1,179 @@
+ghost use Rattle.std.specs.Prelude.{◌≡◌, ◌++◌, codes, OnOk};
+ghost use Rattle.sql_tree.specs.Canon as canon;
+ghost use Rattle.sql_tree.specs.Tree.{cond_tree, expr_tree};
+
+use crate::names::{write_name, write_quoted};
+use crate::print_parts::write_bytes;
+use crate::tree::{AggOp, ArithOp, CmpOp, ColRef, Cond, Expr};
+use cell_core::{Cell, Memory, write_cell};
+
+/// Appends a condition.
+#[cycle(conditions)]
+pub(crate) fn write_cond(cond: &Cond, out: &mut Vec<u8>) -> Result<(), Memory>
+    ensures { OnOk result (out.new.items ≡ out.old.items ++ canon.cond_text (cond_tree cond.now)) }
+{
+    match cond {
+        Cond::Cmp { op, left, right } => write_compared(*op, left, right, out),
+        Cond::Between { of, low, high } => write_within(of, low, high, out),
+        Cond::Not(cond) => {
+            write_bytes(b"NOT ", out)?;
+            write_part(cond, out)
+        }
+        Cond::And(left, right) => {
+            write_part(left, out)?;
+            write_bytes(b" AND ", out)?;
+            write_part(right, out)
+        }
+        Cond::Or(left, right) => {
+            write_bytes(b"(", out)?;
+            write_cond(left, out)?;
+            write_bytes(b") OR (", out)?;
+            write_cond(right, out)?;
+            write_bytes(b")", out)
+        }
+    }
+}
+
+/// Appends an operand of AND or NOT.
+#[cycle(conditions)]
+fn write_part(cond: &Cond, out: &mut Vec<u8>) -> Result<(), Memory>
+    ensures { OnOk result (out.new.items ≡ out.old.items ++ canon.part_text (cond_tree cond.now)) }
+{
+    match cond {
+        Cond::Cmp { op, left, right } => write_compared(*op, left, right, out),
+        Cond::Between { of, low, high } => write_within(of, low, high, out),
+        _ => {
+            write_bytes(b"(", out)?;
+            write_cond(cond, out)?;
+            write_bytes(b")", out)
+        }
+    }
+}
+
+fn write_compared(op: CmpOp, left: &Expr, right: &Expr, out: &mut Vec<u8>) -> Result<(), Memory>
+    ensures { OnOk result (out.new.items ≡ out.old.items ++ canon.compared_text op (expr_tree left.now) (expr_tree right.now)) }
+{
+    write_operand(left, out)?;
+    write_compare(op, out)?;
+    write_operand(right, out)
+}
+
+fn write_within(of: &Expr, low: &Expr, high: &Expr, out: &mut Vec<u8>) -> Result<(), Memory>
+    ensures { OnOk result (out.new.items ≡ out.old.items ++ canon.within_text (expr_tree of.now) (expr_tree low.now) (expr_tree high.now)) }
+{
+    write_operand(of, out)?;
+    write_bytes(b" BETWEEN ", out)?;
+    write_operand(low, out)?;
+    write_bytes(b" AND ", out)?;
+    write_operand(high, out)
+}
+
+/// Appends an expression.
+#[cycle(expressions)]
+pub(crate) fn write_expr(expr: &Expr, out: &mut Vec<u8>) -> Result<(), Memory>
+    ensures { OnOk result (out.new.items ≡ out.old.items ++ canon.expr_text (expr_tree expr.now)) }
+{
+    match expr {
+        Expr::Lit(literal) => write_literal(literal, out),
+        Expr::Col(column) => write_reference(column, out),
+        Expr::Arith { op, left, right } => {
+            write_operand(left, out)?;
+            write_arith(*op, out)?;
+            write_operand(right, out)
+        }
+        Expr::Agg { f, of } => {
+            write_aggregate(*f, out)?;
+            match of {
+                None => write_bytes(b"(*)", out),
+                Some(of) => {
+                    write_bytes(b"(", out)?;
+                    write_expr(of, out)?;
+                    write_bytes(b")", out)
+                }
+            }
+        }
+    }
+}
+
+/// Appends an operand: an operator stands in parentheses.
+#[cycle(expressions)]
+fn write_operand(expr: &Expr, out: &mut Vec<u8>) -> Result<(), Memory>
+    ensures { OnOk result (out.new.items ≡ out.old.items ++ canon.operand_text (expr_tree expr.now)) }
+{
+    match expr {
+        Expr::Arith { .. } => {
+            write_bytes(b"(", out)?;
+            write_expr(expr, out)?;
+            write_bytes(b")", out)
+        }
+        _ => write_expr(expr, out),
+    }
+}
+
+/// Appends a column, behind its table where one is written.
+pub(crate) fn write_reference(column: &ColRef, out: &mut Vec<u8>) -> Result<(), Memory>
+    ensures { OnOk result (out.new.items ≡ out.old.items ++ canon.reference_text column.now) }
+{
+    if let Some(table) = &column.table {
+        write_name(table, out)?;
+        write_bytes(b".", out)?;
+        return write_name(&column.column, out);
+    }
+    write_name(&column.column, out)
+}
+
+/// Appends a literal; a cell that no literal gives stands as its text.
+pub(crate) fn write_literal(literal: &Cell, out: &mut Vec<u8>) -> Result<(), Memory>
+    ensures { OnOk result (out.new.items ≡ out.old.items ++ canon.literal_text literal.now) }
+{
+    match literal {
+        Cell::Text(text) => write_quoted(b'\'', text.text(), out),
+        Cell::Day(day) if is_dated(*day) => {
+            write_bytes(b"DATE '", out)?;
+            write_cell(literal, out)?;
+            write_bytes(b"'", out)
+        }
+        _ => write_cell(literal, out),
+    }
+}
+
+/// Whether a literal can name the day: it lies in the years 0001 to 9999.
+fn is_dated(day: i32) -> bool
+    ensures { result ≡ canon.is_dated day }
+{
+    -719_162 <= day && day <= 2_932_896
+}
+
+fn write_arith(op: ArithOp, out: &mut Vec<u8>) -> Result<(), Memory>
+    ensures { OnOk result (out.new.items ≡ out.old.items ++ canon.arith_text op) }
+{
+    match op {
+        ArithOp::Plus => write_bytes(b" + ", out),
+        ArithOp::Minus => write_bytes(b" - ", out),
+        ArithOp::Times => write_bytes(b" * ", out),
+    }
+}
+
+fn write_aggregate(f: AggOp, out: &mut Vec<u8>) -> Result<(), Memory>
+    ensures { OnOk result (out.new.items ≡ out.old.items ++ canon.aggregate_text f) }
+{
+    match f {
+        AggOp::Count => write_bytes(b"COUNT", out),
+        AggOp::Sum => write_bytes(b"SUM", out),
+        AggOp::Min => write_bytes(b"MIN", out),
+        AggOp::Max => write_bytes(b"MAX", out),
+    }
+}
+
+fn write_compare(op: CmpOp, out: &mut Vec<u8>) -> Result<(), Memory>
+    ensures { OnOk result (out.new.items ≡ out.old.items ++ canon.compare_text op) }
+{
+    match op {
+        CmpOp::Eq => write_bytes(b" = ", out),
+        CmpOp::Ne => write_bytes(b" <> ", out),
+        CmpOp::Lt => write_bytes(b" < ", out),
+        CmpOp::Le => write_bytes(b" <= ", out),
+        CmpOp::Gt => write_bytes(b" > ", out),
+        CmpOp::Ge => write_bytes(b" >= ", out),
+    }
+}

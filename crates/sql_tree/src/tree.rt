@@ -1,0 +1,208 @@
+use cell_core::{Cell, Column, Sequence, Word};
+
+/// A statement.
+#[derive(Debug, Drop)]
+pub enum Stmt {
+    /// `CREATE TABLE`
+    Create {
+        /// The table's name.
+        table: Word,
+        /// Its columns, in order.
+        columns: Sequence<Column>,
+    },
+    /// `DROP TABLE`
+    Drop {
+        /// The table's name.
+        table: Word,
+    },
+    /// `INSERT INTO`
+    Insert {
+        /// The table's name.
+        table: Word,
+        /// The columns that are listed; none where there is no list.
+        columns: Sequence<Word>,
+        /// The rows, in order.
+        rows: Sequence<Sequence<Cell>>,
+    },
+    /// `DELETE FROM`
+    Delete {
+        /// The table's name.
+        table: Word,
+        /// The condition of WHERE.
+        cond: Option<Cond>,
+    },
+    /// `UPDATE`
+    Update {
+        /// The table's name.
+        table: Word,
+        /// The columns that are set and their values, in order.
+        sets: Sequence<(Word, Expr)>,
+        /// The condition of WHERE.
+        cond: Option<Cond>,
+    },
+    /// `SELECT`
+    Query(Query),
+    /// `EXPLAIN SELECT`
+    Explain(Query),
+}
+
+/// A query.
+#[derive(Debug, Drop)]
+pub struct Query {
+    /// Whether equal rows stand once.
+    pub distinct: bool,
+    /// What each answered row holds; none for `*`, which stands for all columns.
+    pub items: Sequence<Item>,
+    /// The tables, in the order of FROM.
+    pub froms: Sequence<FromItem>,
+    /// The conditions of ON and WHERE, joined by AND.
+    pub cond: Option<Cond>,
+    /// The columns of GROUP BY.
+    pub groups: Sequence<ColRef>,
+    /// The condition of HAVING.
+    pub having: Option<Cond>,
+    /// The keys of ORDER BY.
+    pub keys: Sequence<SortKey>,
+    /// The most rows of the answer.
+    pub limit: Option<u64>,
+}
+
+/// An item of a query.
+#[derive(Debug, Drop)]
+pub struct Item {
+    /// Its value.
+    pub expr: Expr,
+    /// Its name, where it is given one.
+    pub alias: Option<Word>,
+}
+
+/// A table of FROM.
+#[derive(Debug, Drop)]
+pub struct FromItem {
+    /// The table's name.
+    pub table: Word,
+    /// The name by which the query calls it, where it is given one.
+    pub alias: Option<Word>,
+}
+
+/// A column as a statement names it.
+#[derive(Debug, Drop)]
+pub struct ColRef {
+    /// The FROM name before the dot.
+    pub table: Option<Word>,
+    /// The column's name.
+    pub column: Word,
+}
+
+/// A key of ORDER BY.
+#[derive(Debug, Drop)]
+pub struct SortKey {
+    /// What is sorted by.
+    pub at: Place,
+    /// Whether low values come first.
+    pub ascending: bool,
+}
+
+/// What a key of ORDER BY sorts by.
+#[derive(Debug, Drop)]
+pub enum Place {
+    /// The item at this position, counted from 1.
+    Position(u64),
+    /// An item by its alias, or by the column that it is.
+    Named(ColRef),
+}
+
+/// A condition.
+#[derive(Debug, Drop)]
+pub enum Cond {
+    /// A comparison.
+    Cmp {
+        /// How it compares.
+        op: CmpOp,
+        /// The left side.
+        left: Expr,
+        /// The right side.
+        right: Expr,
+    },
+    /// `of BETWEEN low AND high`
+    Between {
+        /// What is compared.
+        of: Expr,
+        /// The low bound, which is included.
+        low: Expr,
+        /// The high bound, which is included.
+        high: Expr,
+    },
+    /// `NOT`
+    Not(Box<Cond>),
+    /// `AND`
+    And(Box<Cond>, Box<Cond>),
+    /// `OR`
+    Or(Box<Cond>, Box<Cond>),
+}
+
+/// The comparisons.
+#[derive(Clone, Copy, Debug, PartialEq, Eq)]
+pub enum CmpOp {
+    /// `=`
+    Eq,
+    /// `<>`
+    Ne,
+    /// `<`
+    Lt,
+    /// `<=`
+    Le,
+    /// `>`
+    Gt,
+    /// `>=`
+    Ge,
+}
+
+/// An expression.
+#[derive(Debug, Drop)]
+pub enum Expr {
+    /// A literal.
+    Lit(Cell),
+    /// A column.
+    Col(ColRef),
+    /// An arithmetic operator.
+    Arith {
+        /// The operator.
+        op: ArithOp,
+        /// Its left operand.
+        left: Box<Expr>,
+        /// Its right operand.
+        right: Box<Expr>,
+    },
+    /// An aggregate.
+    Agg {
+        /// The aggregate.
+        f: AggOp,
+        /// Its argument; none for `COUNT(*)`.
+        of: Option<Box<Expr>>,
+    },
+}
+
+/// The arithmetic operators.
+#[derive(Clone, Copy, Debug, PartialEq, Eq)]
+pub enum ArithOp {
+    /// `+`
+    Plus,
+    /// `-`
+    Minus,
+    /// `*`
+    Times,
+}
+
+/// The aggregates.
+#[derive(Clone, Copy, Debug, PartialEq, Eq)]
+pub enum AggOp {
+    /// `COUNT`
+    Count,
+    /// `SUM`
+    Sum,
+    /// `MIN`
+    Min,
+    /// `MAX`
+    Max,
+}
