@@ -1,0 +1,5 @@
+pub mod Grammar
+pub mod Statements
+pub mod Refused
+pub mod Reads
+pub mod Written
