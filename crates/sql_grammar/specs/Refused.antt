@@ -1,7 +1,7 @@
 -- What is refused in SQL text, step by step. A text without tokens is a syntax error first of all. Then
 -- comes the first token to which a rule of the profile applies, then levels past the limit or a text
 -- that no derivation gives, then what the profile leaves out of derived statements, then the limits.
-use Rattle.std.specs.Prelude.{◌≡◌, ℕ, zero, suc, ◌+◌, ◌-◌, ◌<◌, ◌==◌, ◌^◌, List, [], ◌∷◌, ◌++◌, length, map, sum, Bool, true, false, not, ◌&&◌, ◌||◌, nat_le, nat_lt, if◌then◌else◌, bytes_eq, slice_get, codes, Option, Some, None, ℤ, pos, neg_ℤ, int_le}
+use Rattle.std.specs.Prelude.{◌≡◌, ℕ, zero, suc, ◌+◌, ◌-◌, ◌<◌, ◌==◌, ◌^◌, List, [], ◌∷◌, ◌++◌, length, map, sum, take, Bool, true, false, not, ◌&&◌, ◌||◌, nat_le, nat_lt, if◌then◌else◌, bytes_eq, slice_get, codes, Option, Some, None, ℤ, pos, neg_ℤ, int_le}
 use Rattle.std.specs.List.{list_any}
 use Rattle.cell_core.specs.declared.cell.Cell.{Cell}
 use Rattle.cell_core.specs.declared.cell.Cell.TheVariants as cell
@@ -135,11 +135,10 @@ next_run run (Key word.Not) = run + 1
 next_run run (token.Symbol symbol.Minus) = run + 1
 next_run run other = 0
 
--- the levels of the parentheses that are open behind a token: each counts itself and the NOT and `-` directly before it
+-- the levels of the parentheses that are open behind a token, the innermost last: each counts itself and the NOT and `-` directly before it
 abbrev pub open_behind : List ℕ → ℕ → Token → List ℕ
-open_behind outer run (token.Symbol symbol.Open) = (run + 1) ∷ outer
-open_behind [] run (token.Symbol symbol.Close) = []
-open_behind (levels ∷ outer) run (token.Symbol symbol.Close) = outer
+open_behind outer run (token.Symbol symbol.Open) = outer ++ (run + 1) ∷ []
+open_behind outer run (token.Symbol symbol.Close) = take (length outer - 1) outer
 open_behind outer run other = outer
 
 -- more than 512 levels at some token: those of the open parentheses, and the NOT and `-` directly before it
