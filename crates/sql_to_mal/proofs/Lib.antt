@@ -1,0 +1,5 @@
+pub mod AnswerLemmas
+pub mod ExactLemmas
+pub mod FitLemmas
+pub mod PlanLemmas
+pub mod RangeLemmas
