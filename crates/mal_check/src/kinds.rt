@@ -1,0 +1,352 @@
+//! The kinds of values, and what kind an operator makes of those of its arguments.
+ghost use Rattle.std.specs.Prelude.{◌≡◌, ◌∷◌, [], slice_get, IsTrue};
+ghost use Rattle.std.specs.Bool.{then_some};
+ghost use Rattle.std.specs.Option.{option_map};
+ghost use Rattle.cell_core.specs.declared.cell.Kind.TheVariants as kind;
+ghost use Rattle.cell_core.specs.declared.operator.Op.TheVariants as operator;
+ghost use Rattle.cell_core.specs.Kinds as kinds;
+ghost use Rattle.cell_core.specs.Kinds.{OneOf, BatOf, result_type, bind_type, from_one, from_two, from_range};
+ghost use Rattle.mal_meaning.specs.Slow.{takes_bat, takes_bats, takes_cell};
+ghost use Rattle.mal_check.specs.Checked.{arg_type};
+ghost use Rattle.mal_check.specs.Types.{type_of, types_of};
+
+use cell_core::{Arg, Cell, Kind, Op, Word};
+
+/// What is known of a value before its plan is run. A kind `None` is that of Nil.
+#[derive(Clone, Copy, Debug, PartialEq, Eq)]
+pub(crate) enum ValueKind {
+    /// A scalar of a kind.
+    One(Option<Kind>),
+    /// A BAT.
+    Bat(BatKind),
+}
+
+/// The kinds of a BAT's heads and of its tails.
+#[derive(Clone, Copy, Debug, PartialEq, Eq)]
+pub(crate) struct BatKind {
+    head: Option<Kind>,
+    tail: Option<Kind>,
+}
+
+const INT: Option<Kind> = Some(Kind::Int);
+
+const HUGE: Option<Kind> = Some(Kind::Huge);
+
+const BIT: Option<Kind> = Some(Kind::Bit);
+
+const OID: Option<Kind> = Some(Kind::Oid);
+
+/// A BAT of these kinds.
+fn bat(head: Option<Kind>, tail: Option<Kind>) -> ValueKind
+    ensures { type_of result ≡ BatOf head tail }
+{
+    ValueKind::Bat(BatKind { head, tail })
+}
+
+/// The kind of a cell.
+pub(crate) fn kind_of(cell: &Cell) -> Option<Kind>
+    ensures { result ≡ kinds.kind_of cell.now }
+{
+    match cell {
+        Cell::Nil => None,
+        Cell::Int(_) => Some(Kind::Int),
+        Cell::Huge(_) => Some(Kind::Huge),
+        Cell::Text(_) => Some(Kind::Text),
+        Cell::Day(_) => Some(Kind::Day),
+        Cell::Bit(_) => Some(Kind::Bit),
+        Cell::Oid(_) => Some(Kind::Oid),
+    }
+}
+
+/// The two are equal.
+fn is_same(a: Kind, b: Kind) -> bool
+    ensures { result ≡ kinds.same_kind a b }
+{
+    a == b
+}
+
+/// The two kinds are equal, or one of them is that of Nil.
+pub(crate) fn agrees(a: Option<Kind>, b: Option<Kind>) -> bool
+    ensures { result ≡ kinds.agrees a b }
+{
+    match (a, b) {
+        (Some(a), Some(b)) => is_same(a, b),
+        _ => true,
+    }
+}
+
+/// Both are of the kind.
+fn both_are(kind: Kind, a: Option<Kind>, b: Option<Kind>) -> bool
+    ensures { result ≡ kinds.both_are kind a b }
+{
+    agrees(a, Some(kind)) && agrees(b, Some(kind))
+}
+
+/// A number, of which Nil may be one.
+fn is_numeric(kind: Option<Kind>) -> bool
+    ensures { result ≡ kinds.is_numeric kind }
+{
+    agrees(kind, Some(Kind::Int)) || agrees(kind, Some(Kind::Huge))
+}
+
+/// Numbers compare with numbers, other cells with those of their kind.
+fn are_comparable(a: Option<Kind>, b: Option<Kind>) -> bool
+    ensures { result ≡ kinds.are_comparable a b }
+{
+    agrees(a, b) || (is_numeric(a) && is_numeric(b))
+}
+
+/// The kind of the cells that a function of cells takes from a value.
+fn cells_kind(value: ValueKind) -> Option<Kind>
+    ensures { result ≡ kinds.cells_kind (type_of value) }
+{
+    match value {
+        ValueKind::One(kind) => kind,
+        ValueKind::Bat(b) => b.tail,
+    }
+}
+
+/// What a function of cells gives: a scalar, or a BAT with the head kind of the first BAT.
+fn calculated_kind(kind: Kind, args: &[ValueKind]) -> ValueKind
+    ensures { type_of result ≡ kinds.calculated_type kind (types_of args.now) }
+{
+    let mut rest = args;
+    'args: while let [arg, more @ ..] = rest {
+        if let ValueKind::Bat(b) = arg {
+            return bat(b.head, Some(kind));
+        }
+        rest = more;
+    }
+    ValueKind::One(Some(kind))
+}
+
+/// The kind that a sum, a difference or a product has.
+fn arithmetic_kind(args: &[ValueKind]) -> Option<ValueKind>
+    ensures { option_map type_of result ≡ from_two (kinds.both_are kind.Int) kind.Int (types_of args.now) }
+{
+    let [x, y] = args else {
+        return None;
+    };
+    if both_are(Kind::Int, cells_kind(*x), cells_kind(*y)) {
+        Some(calculated_kind(Kind::Int, args))
+    } else {
+        None
+    }
+}
+
+/// The kind that a comparison has.
+fn comparison_kind(args: &[ValueKind]) -> Option<ValueKind>
+    ensures { option_map type_of result ≡ from_two kinds.are_comparable kind.Bit (types_of args.now) }
+{
+    let [x, y] = args else {
+        return None;
+    };
+    if are_comparable(cells_kind(*x), cells_kind(*y)) {
+        Some(calculated_kind(Kind::Bit, args))
+    } else {
+        None
+    }
+}
+
+/// The kind that a conjunction or a disjunction has.
+fn junction_kind(args: &[ValueKind]) -> Option<ValueKind>
+    ensures { option_map type_of result ≡ from_two (kinds.both_are kind.Bit) kind.Bit (types_of args.now) }
+{
+    let [x, y] = args else {
+        return None;
+    };
+    if both_are(Kind::Bit, cells_kind(*x), cells_kind(*y)) {
+        Some(calculated_kind(Kind::Bit, args))
+    } else {
+        None
+    }
+}
+
+/// The kind that a negation has.
+fn negation_kind(args: &[ValueKind]) -> Option<ValueKind>
+    ensures { option_map type_of result ≡ from_one kind.Bit kind.Bit (types_of args.now) }
+{
+    let [x] = args else {
+        return None;
+    };
+    if agrees(cells_kind(*x), Some(Kind::Bit)) {
+        Some(calculated_kind(Kind::Bit, args))
+    } else {
+        None
+    }
+}
+
+/// The kind, where a test is passed.
+fn given(test: bool, kind: ValueKind) -> Option<ValueKind>
+    ensures { option_map type_of result ≡ then_some test (type_of kind) }
+{
+    if test { Some(kind) } else { None }
+}
+
+/// What an operator of one BAT gives.
+fn kind_from_bat(op: Op, b: BatKind) -> Option<ValueKind>
+    requires { IsTrue (takes_bat op) }
+    ensures { option_map type_of result ≡ result_type op (BatOf b.head b.tail ∷ []) }
+{
+    match op {
+        Op::Reverse => Some(bat(b.tail, b.head)),
+        Op::Mirror => Some(bat(b.head, b.head)),
+        Op::GroupNew => Some(bat(b.head, OID)),
+        Op::GroupHeads => given(agrees(b.tail, OID), bat(OID, b.head)),
+        Op::Count => Some(ValueKind::One(INT)),
+        Op::Sum => given(agrees(b.tail, INT), ValueKind::One(HUGE)),
+        Op::Min | Op::Max => Some(ValueKind::One(b.tail)),
+        _ => unreachable!(),
+    }
+}
+
+/// What an operator of a BAT and a cell gives.
+fn kind_from_cell(op: Op, b: BatKind, cell: Option<Kind>) -> Option<ValueKind>
+    requires { IsTrue (takes_cell op) }
+    ensures { option_map type_of result ≡ result_type op (BatOf b.head b.tail ∷ OneOf cell ∷ []) }
+{
+    match op {
+        Op::MarkT => given(agrees(cell, OID), bat(b.head, OID)),
+        Op::Project => Some(bat(b.head, cell)),
+        _ => unreachable!(),
+    }
+}
+
+/// What an operator of two BATs gives.
+fn kind_from_bats(op: Op, l: BatKind, r: BatKind) -> Option<ValueKind>
+    requires { IsTrue (takes_bats op) }
+    ensures { option_map type_of result ≡ result_type op (BatOf l.head l.tail ∷ BatOf r.head r.tail ∷ []) }
+{
+    match op {
+        Op::Semijoin | Op::Kdifference => given(agrees(l.head, r.head), bat(l.head, l.tail)),
+        Op::Kunion => given(
+            agrees(l.head, r.head) && agrees(l.tail, r.tail),
+            bat(l.head.or(r.head), l.tail.or(r.tail)),
+        ),
+        Op::Cross => Some(bat(l.head, r.head)),
+        Op::Join => given(agrees(l.tail, r.head), bat(l.head, r.tail)),
+        Op::GroupDerive => given(agrees(l.tail, OID), bat(l.head, OID)),
+        Op::Subcount => given(agrees(r.tail, OID), bat(OID, INT)),
+        Op::Subsum => given(agrees(r.tail, OID) && agrees(l.tail, INT), bat(OID, HUGE)),
+        Op::Submin | Op::Submax => given(agrees(r.tail, OID), bat(OID, l.tail)),
+        _ => unreachable!(),
+    }
+}
+
+/// What a select gives: its bounds are of the tails' kind, and the two others are bits.
+fn range_kind(args: &[ValueKind]) -> Option<ValueKind>
+    ensures { option_map type_of result ≡ from_range (types_of args.now) }
+{
+    let [
+        ValueKind::Bat(b),
+        ValueKind::One(low),
+        ValueKind::One(high),
+        ValueKind::One(li),
+        ValueKind::One(hi),
+    ] = args
+    else {
+        return None;
+    };
+    let bounds_fit = agrees(*low, b.tail) && agrees(*high, b.tail);
+    let bits_fit = agrees(*li, BIT) && agrees(*hi, BIT);
+    given(bounds_fit && bits_fit, ValueKind::Bat(*b))
+}
+
+/// The kind of an operator's result, where the kinds of its arguments fit it. Bind has its own rule.
+pub(crate) fn result_kind(op: Op, args: &[ValueKind]) -> Option<ValueKind>
+    ensures { option_map type_of result ≡ result_type op (types_of args.now) }
+{
+    match op {
+        Op::Bind => None,
+        Op::Select => range_kind(args),
+        Op::Reverse
+        | Op::Mirror
+        | Op::GroupNew
+        | Op::GroupHeads
+        | Op::Count
+        | Op::Sum
+        | Op::Min
+        | Op::Max => {
+            let [ValueKind::Bat(b)] = args else {
+                return None;
+            };
+            kind_from_bat(op, *b)
+        }
+        Op::MarkT | Op::Project => {
+            let [ValueKind::Bat(b), ValueKind::One(cell)] = args else {
+                return None;
+            };
+            kind_from_cell(op, *b, *cell)
+        }
+        Op::Semijoin
+        | Op::Kdifference
+        | Op::Kunion
+        | Op::Cross
+        | Op::Join
+        | Op::GroupDerive
+        | Op::Subcount
+        | Op::Subsum
+        | Op::Submin
+        | Op::Submax => {
+            let [ValueKind::Bat(l), ValueKind::Bat(r)] = args else {
+                return None;
+            };
+            kind_from_bats(op, *l, *r)
+        }
+        Op::Plus | Op::Minus | Op::Times => arithmetic_kind(args),
+        Op::Eq | Op::Ne | Op::Lt | Op::Le | Op::Gt | Op::Ge => comparison_kind(args),
+        Op::And | Op::Or => junction_kind(args),
+        Op::Not => negation_kind(args),
+    }
+}
+
+/// The kind that a bind names.
+fn named_kind(word: &Word) -> Option<Kind>
+    ensures { result ≡ kinds.named_kind word.now }
+{
+    let text = word.text();
+    if text == "int" {
+        Some(Kind::Int)
+    } else if text == "str" {
+        Some(Kind::Text)
+    } else if text == "date" {
+        Some(Kind::Day)
+    } else {
+        None
+    }
+}
+
+/// The kind of the column that a bind names: its arguments are the texts of a table, a column and
+/// a kind.
+pub(crate) fn bind_kind(args: &[Arg]) -> Option<ValueKind>
+    ensures { option_map type_of result ≡ bind_type args.now }
+{
+    let [
+        Arg::Const(Cell::Text(_)),
+        Arg::Const(Cell::Text(_)),
+        Arg::Const(Cell::Text(word)),
+    ] = args
+    else {
+        return None;
+    };
+    let kind = named_kind(word)?;
+    Some(bat(OID, Some(kind)))
+}
+
+/// The kind at a place, counted from 0, if there is one.
+fn kind_at(kinds: &[ValueKind], place: usize) -> Option<ValueKind>
+    ensures { result ≡ slice_get kinds.now place }
+{
+    kinds.get(place).copied()
+}
+
+/// The kind of an argument, unless it names an instruction that isn't among those of these kinds.
+#[tactic(auto, using(crate::proofs::KindLemmas::type_at_place))]
+pub(crate) fn arg_kind(kinds: &[ValueKind], arg: &Arg) -> Option<ValueKind>
+    ensures { option_map type_of result ≡ arg_type (types_of kinds.now) arg.now }
+{
+    match arg {
+        Arg::Const(cell) => Some(ValueKind::One(kind_of(cell))),
+        Arg::Var(n) => kind_at(kinds, *n as usize),
+    }
+}
