@@ -1,0 +1,7 @@
+mod ChainLemmas
+mod DayLemmas
+mod NumberLemmas
+mod TokenLemmas
+mod ExprTold
+mod ExprFound
+mod ExprLaws

@@ -1,0 +1,33 @@
+use Rattle.std.proofs.Common.{◌≡◌, ◌+◌, ◌-◌, ◌*◌}
+use Rattle.sql_grammar.specs.Reads.{tokens_in}
+use Rattle.sql_tree.specs.Tree.{expr_tree}
+use Rattle.sql_tree.specs.Tree.ExprTree.{Operator}
+use Rattle.sql_reader.specs.Chain.{chain}
+use Rattle.sql_reader.specs.Derived.{number_cell}
+use Rattle.sql_reader.specs.Reader as reader
+use Rattle.sql_reader.proofs.expressions.+expr.Given as goal
+
+abbrev pub decreases-expr : goal.decreases-expr
+decreases-expr l = 4 * l.depth + 3
+
+abbrev pub decreases-factor : goal.decreases-factor
+decreases-factor l = 4 * l.depth + 1
+
+abbrev pub decreases-inner_factor : goal.decreases-inner_factor
+decreases-inner_factor l = 4 * l.depth + 4
+
+abbrev pub decreases-negative : goal.decreases-negative
+decreases-negative l = 4 * l.depth + 2
+
+abbrev pub decreases-term : goal.decreases-term
+decreases-term l = 4 * l.depth + 2
+
+abbrev pub invariant-expr-terms : goal.invariant-expr-terms
+invariant-expr-terms l =
+    reader.expr (reader.factor number_cell l.depth) (tokens_in l.fn.tokens.rest.now)
+    ≡ chain reader.sign_in Operator (reader.term (reader.factor number_cell l.depth)) (l.turn-end - l.turn) (expr_tree l.left) (tokens_in l.tokens.rest.now)
+
+abbrev pub invariant-term-factors : goal.invariant-term-factors
+invariant-term-factors l =
+    reader.term (reader.factor number_cell l.depth) (tokens_in l.fn.tokens.rest.now)
+    ≡ chain reader.star_in Operator (reader.factor number_cell l.depth) (l.turn-end - l.turn) (expr_tree l.left) (tokens_in l.tokens.rest.now)

@@ -1,0 +1,180 @@
+ghost use Rattle.std.specs.Prelude.{◌≡◌, Some, None, option_copied, IfOk, IsErrOf};
+ghost use Rattle.sql_grammar.specs.Reads.{tokens_in};
+ghost use Rattle.sql_tree.specs.Tree.{expr_tree};
+ghost use Rattle.sql_tree.specs.Tree.ExprTree.{Operator};
+ghost use Rattle.sql_reader.specs.Chain.{first_token, after_first};
+ghost use Rattle.sql_reader.specs.Derived.{number_cell};
+ghost use Rattle.sql_reader.specs.Reader as reader;
+
+use crate::cursor::{Cursor, digits, is_dot, name, sign, star, text};
+use crate::number::{negative_number, plain_number};
+use crate::reading::ReadError;
+use cell_core::{Cell, Memory, Word, read_day};
+use sql_tree::{ArithOp, ColRef, Expr, Keyword, Symbol, Token};
+use std::alloc::Global;
+
+/// An expression of at most so many levels: expr = term {("+" | "-") term}.
+#[cycle(expr)]
+#[tactic(auto, unfolding(crate::specs::Reader::expr))]
+pub(crate) fn expr(alloc: Global, tokens: &mut Cursor<'_>, depth: usize) -> Result<Expr, ReadError>
+    ensures found { IfOk result (λ e. reader.expr (reader.factor number_cell depth)
+        (tokens_in tokens.old.rest.now) ≡ Some (expr_tree e, tokens_in tokens.new.rest.now)) }
+    ensures none { IsErrOf result ReadError.Syntax →
+        reader.expr (reader.factor number_cell depth) (tokens_in tokens.old.rest.now) ≡ None }
+{
+    let mut left = term(alloc, tokens, depth)?;
+    'terms: for turn in 0..tokens.len() {
+        let Some(op) = sign(tokens.peek()) else {
+            return Ok(left);
+        };
+        tokens.advance();
+        let right = term(alloc, tokens, depth)?;
+        left = operator(alloc, op, left, right)?;
+    }
+    Ok(left)
+}
+
+/// term = factor {"*" factor}
+#[cycle(expr)]
+#[tactic(auto, unfolding(crate::specs::Reader::term))]
+fn term(alloc: Global, tokens: &mut Cursor<'_>, depth: usize) -> Result<Expr, ReadError>
+    ensures found { IfOk result (λ e. reader.term (reader.factor number_cell depth)
+        (tokens_in tokens.old.rest.now) ≡ Some (expr_tree e, tokens_in tokens.new.rest.now)) }
+    ensures none { IsErrOf result ReadError.Syntax →
+        reader.term (reader.factor number_cell depth) (tokens_in tokens.old.rest.now) ≡ None }
+{
+    let mut left = factor(alloc, tokens, depth)?;
+    'factors: for turn in 0..tokens.len() {
+        let Some(op) = star(tokens.peek()) else {
+            return Ok(left);
+        };
+        tokens.advance();
+        let right = factor(alloc, tokens, depth)?;
+        left = operator(alloc, op, left, right)?;
+    }
+    Ok(left)
+}
+
+/// A factor, which takes a level.
+#[cycle(expr)]
+#[tactic(auto, using(crate::proofs::ExprLaws::factor_none, crate::proofs::ExprLaws::factor_inner))]
+fn factor(alloc: Global, tokens: &mut Cursor<'_>, depth: usize) -> Result<Expr, ReadError>
+    ensures found { IfOk result (λ e. reader.factor number_cell depth
+        (tokens_in tokens.old.rest.now) ≡ Some (expr_tree e, tokens_in tokens.new.rest.now)) }
+    ensures none { IsErrOf result ReadError.Syntax →
+        reader.factor number_cell depth (tokens_in tokens.old.rest.now) ≡ None }
+{
+    if depth == 0 {
+        return Err(ReadError::Syntax);
+    }
+    inner_factor(alloc, tokens, depth - 1)
+}
+
+/// A factor, in which so many levels are left: digits, a string, a day, a column, what follows a `-`,
+/// or an expression in parentheses.
+#[cycle(expr)]
+fn inner_factor(alloc: Global, tokens: &mut Cursor<'_>, depth: usize) -> Result<Expr, ReadError>
+    ensures found { IfOk result (λ e. reader.factor_at number_cell (reader.factor number_cell depth)
+        (first_token (tokens_in tokens.old.rest.now)) (after_first (tokens_in tokens.old.rest.now))
+        ≡ Some (expr_tree e, tokens_in tokens.new.rest.now)) }
+    ensures none { IsErrOf result ReadError.Syntax →
+        reader.factor_at number_cell (reader.factor number_cell depth)
+        (first_token (tokens_in tokens.old.rest.now)) (after_first (tokens_in tokens.old.rest.now))
+        ≡ None }
+{
+    match tokens.next() {
+        Some(Token::Digits(digits)) => Ok(Expr::Lit(plain_number(digits.text()))),
+        Some(Token::Text(text)) => Ok(Expr::Lit(Cell::Text(text.share()?))),
+        Some(Token::Key(Keyword::Date)) => date(tokens),
+        Some(Token::Name(name)) => Ok(Expr::Col(column(name, tokens)?)),
+        Some(Token::Quoted(name)) => Ok(Expr::Col(column(name, tokens)?)),
+        Some(Token::Symbol(Symbol::Minus)) => negative(alloc, tokens, depth),
+        Some(Token::Symbol(Symbol::Open)) => {
+            let inner = expr(alloc, tokens, depth)?;
+            tokens.close()?;
+            Ok(inner)
+        }
+        _ => Err(ReadError::Syntax),
+    }
+}
+
+/// What follows a `-`: digits, of which it is the sign, or what is taken from 0.
+#[cycle(expr)]
+#[tactic(auto, unfolding(crate::specs::Reader::negative))]
+fn negative(alloc: Global, tokens: &mut Cursor<'_>, depth: usize) -> Result<Expr, ReadError>
+    ensures found { IfOk result (λ e. reader.negative number_cell (reader.factor number_cell depth)
+        (tokens_in tokens.old.rest.now) ≡ Some (expr_tree e, tokens_in tokens.new.rest.now)) }
+    ensures none { IsErrOf result ReadError.Syntax →
+        reader.negative number_cell (reader.factor number_cell depth)
+        (tokens_in tokens.old.rest.now) ≡ None }
+{
+    if let Some(digits) = digits(tokens.peek()) {
+        let literal = negative_number(digits.text());
+        tokens.advance();
+        return Ok(Expr::Lit(literal));
+    }
+    let operand = factor(alloc, tokens, depth)?;
+    Ok(operator(alloc, ArithOp::Minus, Expr::Lit(Cell::Int(0)), operand)?)
+}
+
+/// An operator of two operands.
+fn operator(alloc: Global, op: ArithOp, left: Expr, right: Expr) -> Result<Expr, Memory>
+    ensures { IfOk result (λ e. expr_tree e ≡ Operator op (expr_tree left) (expr_tree right)) }
+{
+    Ok(Expr::Arith {
+        op,
+        left: Box::new(alloc, left)?,
+        right: Box::new(alloc, right)?,
+    })
+}
+
+/// What follows DATE: a string that names a day.
+#[tactic(auto, unfolding(crate::specs::Reader::date))]
+fn date(tokens: &mut Cursor<'_>) -> Result<Expr, ReadError>
+    ensures found { IfOk result (λ e. reader.date (tokens_in tokens.old.rest.now)
+        ≡ Some (expr_tree e, tokens_in tokens.new.rest.now)) }
+    ensures none { IsErrOf result ReadError.Syntax →
+        reader.date (tokens_in tokens.old.rest.now) ≡ None }
+{
+    let Some(text) = text(tokens.next()) else {
+        return Err(ReadError::Syntax);
+    };
+    match day(text) {
+        Some(day) => Ok(Expr::Lit(Cell::Day(day))),
+        None => Err(ReadError::Syntax),
+    }
+}
+
+/// The day that a text names.
+fn day(text: &Word) -> Option<i32>
+    ensures { result ≡ reader.day_named text.now }
+{
+    read_day(text.text())
+}
+
+/// A column that begins with the name: `column` or `table.column`.
+#[tactic(auto, unfolding(crate::specs::Reader::column))]
+pub(crate) fn column(first: &Word, tokens: &mut Cursor<'_>) -> Result<ColRef, ReadError>
+    ensures found { IfOk result (λ column. reader.column first.now (tokens_in tokens.old.rest.now)
+        ≡ Some (column, tokens_in tokens.new.rest.now)) }
+    ensures none { IsErrOf result ReadError.Syntax →
+        reader.column first.now (tokens_in tokens.old.rest.now) ≡ None }
+{
+    if !is_dot(tokens.peek()) {
+        let column = first.share()?;
+        return Ok(ColRef {
+            table: None,
+            column,
+        });
+    }
+    tokens.advance();
+    let Some(second) = name(tokens.next()) else {
+        return Err(ReadError::Syntax);
+    };
+    let table = first.share()?;
+    let column = second.share()?;
+    Ok(ColRef {
+        table: Some(table),
+        column,
+    })
+}
