@@ -12,6 +12,8 @@ mod expressions;
 mod laws;
 mod number;
 mod reading;
+#[cfg(test)]
+mod tests;
 
 pub use laws::one_expr;
 pub use reading::{ReadError, read_expr};
