@@ -1,1 +1,4 @@
 pub mod KindLemmas
+pub mod ListTests
+pub mod RunLemmas
+pub mod TypedResults

@@ -7,9 +7,11 @@
 mod check;
 mod error;
 mod kinds;
+mod laws;
 mod output;
 #[cfg(test)]
 mod tests;
 
 pub use check::check_plan;
 pub use error::PlanError;
+pub use laws::checked_plans_run;
