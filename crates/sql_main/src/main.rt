@@ -6,6 +6,7 @@
 
 ghost use Rattle.std.specs.Prelude.{◌≡◌, ◌<◌};
 
+use bat_kernel::Kernel;
 use causes::{FileScripts, OutSink};
 use cell_core::{Steps, Word, word_of};
 use sql_shell::top;
@@ -52,7 +53,8 @@ fn run<L: Ledger, F: Files + Drop, W: Write + Drop>(
     let mut steps = Steps::<L>::new(blank);
     let mut scripts = FileScripts::new(files);
     let mut out = OutSink::new(writer);
-    let served = top(alloc, words, &mut scripts, &mut out, &mut steps);
+    let kernel = Kernel::new();
+    let served = top(alloc, words, &mut scripts, &mut out, &kernel, &mut steps);
     (served.status, served.at)
 }
 

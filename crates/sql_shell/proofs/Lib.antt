@@ -1,5 +1,5 @@
 pub mod CommitLemmas
+pub mod IntLemmas
 pub mod MissingLemmas
-pub mod OneTableLemmas
 pub mod ServedLemmas
 pub mod SessionLemmas

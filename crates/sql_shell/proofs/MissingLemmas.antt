@@ -14,11 +14,7 @@ use Rattle.sql_core.specs.declared.refusal.Refusal.{Refusal}
 use Rattle.sql_core.specs.declared.refusal.Refusal.TheVariants.{NoTable, NoColumn}
 use Rattle.sql_core.specs.Names.{name_text}
 use Rattle.sql_core.specs.Truth.{Source, place_of}
-use Rattle.cell_core.specs.Order.{is_row_below}
-use Rattle.cell_core.specs.Sorted.{sorted_by}
-use Rattle.sql_core.specs.declared.tree.Stmt.TheVariants as stmt
-use Rattle.sql_core.specs.Answer.{source_of, sources_of, tables_of, query_rows, answer}
-use Rattle.answer_text.specs.Log.{shown_over, shown_query}
+use Rattle.sql_core.specs.Answer.{source_of, sources_of}
 use Rattle.sql_core.specs.Effect.{missing_tables, missing_columns, query_refusal, references_of}
 use Rattle.sql_shell.specs.Missing.{is_missing, first_missing, column_refusal}
 
@@ -54,14 +50,8 @@ refusal_of_one query db from table one there =
     ∙ ap (λ s. slice_get (map (λ (ref : ColRef). NoColumn (name_text ref.column)) (filter (λ ref. not (is_some (place_of s ref))) (references_of query))) 0) sources
     ∙ first-map (λ (ref : ColRef). NoColumn (name_text ref.column)) (filter (is_missing table) (references_of query))
 
--- the tables of FROM are that table
-tables_of_one : (query : Query) (db : Db) (from : FromItem) (table : Table) → query.froms ≡ from ∷ [] → named_table from.table db ≡ Some table → tables_of query db ≡ table ∷ []
-tables_of_one query db from table one there =
-    ap (λ froms. filter_map (λ (f : FromItem). named_table f.table db) froms) one
-    ∙ ap (λ found. filter_map (λ (x : Option Table). x) (found ∷ [])) there
-
--- what such a query shows
-pub shown_of_one : (query : Query) (db : Db) (from : FromItem) (table : Table) → query.froms ≡ from ∷ [] → named_table from.table db ≡ Some table → shown_over db (Ok (stmt.Query query)) ≡ shown_query (column_refusal table query) (Some (sorted_by is_row_below (query_rows query (table ∷ []))))
-shown_of_one query db from table one there =
-    ap (λ refusal. shown_query refusal (answer query db)) (refusal_of_one query db from table one there)
-    ∙ ap (λ tables. shown_query (column_refusal table query) (Some (sorted_by is_row_below (query_rows query tables)))) (tables_of_one query db from table one there)
+-- where it isn't there, it is what is missing
+pub refusal_without : (query : Query) (db : Db) (from : FromItem) → query.froms ≡ from ∷ [] → named_table from.table db ≡ None → query_refusal query db ≡ Some (NoTable (name_text from.table))
+refusal_without query db from one gone =
+    ap (λ froms. slice_get (map (λ (f : FromItem). NoTable (name_text f.table)) (filter (λ (f : FromItem). not (is_some (named_table f.table db))) froms) ++ missing_columns query db) 0) one
+    ∙ ap (λ (found : Option Table). slice_get (map (λ (f : FromItem). NoTable (name_text f.table)) (cond (not (is_some found)) (from ∷ []) []) ++ missing_columns query db) 0) gone

@@ -1,7 +1,8 @@
 -- The log of one session is in order, and the replies are those that are printed of it.
 use Rattle.std.proofs.Common.{◌≡◌, ℕ, zero, suc, ◌+◌, ◌-◌, ◌<◌, ◌≤◌, ◌==◌, List, [], ◌∷◌, ◌++◌, Bool, true, false, ◌&&◌, cond, length, take, map, refl, ap, sym, ◌∙◌, subst, arith, append_assoc, append-nil, Option, Some, None, Ok, Err, Result, slice_get}
 use Rattle.std.specs.Prelude.{filter, flat_map}
-use Rattle.std.specs.List.{enumerate_from, AllByRecursion}
+use Rattle.std.specs.List.{enumerate_from, sum_by, AllByRecursion}
+use Rattle.std.proofs.lemmas.List.Sums.{sum_by-cons}
 use Rattle.std.proofs.Math.Seq.{take-append_seam}
 use Rattle.std.proofs.lemmas.Bool.Decides.{nat_tests}
 use Rattle.std.proofs.lemmas.List.{map-append}
@@ -15,7 +16,8 @@ use Rattle.answer_text.specs.declared.event.Act.{Act}
 use Rattle.answer_text.specs.declared.event.Act.TheVariants.{Begin, Write, End}
 use Rattle.answer_text.specs.Log.{commits, tables_at, is_opening, is_place, place_in, tables_met, acts_over, acts_of, logged_of, shown_over, IsOrdered}
 use Rattle.answer_text.specs.Layout.{reply_text, replies_text, session_line, session_text, history_text, printed}
-use Rattle.sql_shell.specs.Session.{no_tables, events_of, db_after, run_db, run_log, run_text}
+use Rattle.sql_shell.specs.Session.{no_tables, events_of, db_after, run_db, run_log, run_text, work_from}
+use Rattle.sql_shell.specs.Work.{statement_work, session_work, run_work}
 use Rattle.sql_shell.proofs.CommitLemmas.{commits_lead, commits-append, replay_from-append}
 
 -- ## Places
@@ -120,6 +122,18 @@ texts_from log front db k (reading ∷ readings) is leads before =
     ap (λ d. reply_text k (shown_over d reading) ++ tail) here
     ∙ ap (λ text. reply_text k (shown_over db reading) ++ text) later
 
+-- and with the work
+work_over : (log front : List Event) (db : Db) (k : ℕ) (readings : List (Result Stmt Refusal)) → log ≡ front ++ run_log db k readings → replay (commits front) ≡ db → AreBefore k front → sum_by {X = ℕ × Result Stmt Refusal} (λ (j, reading). statement_work (tables_met log 1 j) reading) (enumerate_from k readings) ≡ work_from db readings
+work_over log front db k [] is leads before = refl
+work_over log front db k (reading ∷ readings) is leads before =
+    let events = events_of k (acts_over db reading) in
+    let rest = run_log (db_after db reading) (k + 1) readings in
+    let here : tables_met log 1 k ≡ db = ap (λ l. tables_met l 1 k) is ∙ met k front db reading rest leads before in
+    let later = work_over log (front ++ events) (db_after db reading) (k + 1) readings (is ∙ sym (append_assoc front events rest)) (leads_on k front db reading leads) (goes_on k front db reading before) in
+    sum_by-cons {X = ℕ × Result Stmt Refusal} (λ (j, reading). statement_work (tables_met log 1 j) reading) (k, reading) (enumerate_from (k + 1) readings)
+    ∙ ap (λ d. statement_work d reading + sum_by {X = ℕ × Result Stmt Refusal} (λ (j, reading). statement_work (tables_met log 1 j) reading) (enumerate_from (k + 1) readings)) here
+    ∙ ap (λ n. statement_work db reading + n) later
+
 -- ## The theorem
 
 abbrev AllFirst : List Event → Type 0
@@ -169,3 +183,10 @@ one_session_printed name readings =
     let log = run_log no_tables 1 readings in
     ap (λ text. text ++ history_text log) (append-nil (session_text log 1 name readings))
     ∙ ap (λ text. session_line 1 name ++ text ++ history_text log) (texts_from log [] no_tables 1 readings refl refl tt)
+
+-- and the work is that of the statements one after the other
+pub one_session_work : (readings : List (Result Stmt Refusal)) → run_work (readings ∷ []) (run_log no_tables 1 readings) ≡ work_from no_tables readings
+one_session_work readings =
+    let log = run_log no_tables 1 readings in
+    sum_by-cons {X = ℕ × List (Result Stmt Refusal)} (λ (s, readings). session_work log s readings) (1, readings) []
+    ∙ ap (λ n. n + 0) (work_over log [] no_tables 1 readings refl refl tt) ∙ omega arith

@@ -1,7 +1,6 @@
-pub mod Filter
+pub mod Ints
 pub mod Missing
-pub mod OneTable
-pub mod Operand
 pub mod Readings
 pub mod Served
 pub mod Session
+pub mod Work

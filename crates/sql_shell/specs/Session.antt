@@ -12,6 +12,7 @@ use Rattle.answer_text.specs.declared.event.Event.{Event}
 use Rattle.answer_text.specs.declared.event.Act.{Act}
 use Rattle.answer_text.specs.Log.{acts_over, shown_over, IsOrdered}
 use Rattle.answer_text.specs.Layout.{reply_text, printed}
+use Rattle.sql_shell.specs.Work.{statement_work, run_work}
 
 -- the database that every run begins with
 abbrev pub no_tables : Db
@@ -41,6 +42,11 @@ abbrev pub run_text : Db → ℕ → List (Result Stmt Refusal) → List ℕ
 run_text db k [] = []
 run_text db k (reading ∷ readings) = reply_text k (shown_over db reading) ++ run_text (db_after db reading) (k + 1) readings
 
+-- the work of the statements
+abbrev pub work_from : Db → List (Result Stmt Refusal) → ℕ
+work_from db [] = 0
+work_from db (reading ∷ readings) = statement_work db reading + work_from (db_after db reading) readings
+
 -- a statement that is no query
 abbrev pub is_change : Stmt → Bool
 is_change (stmt.Query query) = false
@@ -51,6 +57,7 @@ pub record Follows (old new : Session) (k : ℕ) (reading : Result Stmt Refusal)
   pub db : new.db ≡ db_after old.db reading
   pub log : new.log.items ≡ old.log.items ++ events_of k (acts_over old.db reading)
   pub text : new.text.items ≡ old.text.items ++ reply_text k (shown_over old.db reading)
+  pub work : new.work ≡ old.work + statement_work old.db reading
 
 -- the session goes on by statement k, whatever its text reads as
 pub record Serves (old new : Session) (k : ℕ) (text : List ℕ) : Type 0 where
@@ -65,16 +72,26 @@ pub record HasServed (pieces : List (List ℕ)) (session : Session) : Type 0 whe
   pub db : session.db ≡ run_db no_tables readings
   pub log : session.log.items ≡ run_log no_tables 1 readings
   pub text : session.text.items ≡ run_text no_tables 1 readings
+  pub work : session.work ≡ work_from no_tables readings
 
 -- one act of statement k is logged, and nothing else changes
 pub record Notes (old new : Session) (k : ℕ) (act : Act) : Type 0 where
   pub log : new.log.items ≡ old.log.items ++ record { session = 1; statement = k; act = act } ∷ []
   pub db : new.db ≡ old.db
   pub text : new.text.items ≡ old.text.items
+  pub work : new.work ≡ old.work
 
--- the log and the text of a session alone
-pub record Produces (name : List ℕ) (pieces : List (List ℕ)) (log : List Event) (text : List ℕ) : Type 0 where
+-- work is added, and nothing else changes
+pub record Counts (old new : Session) (more : ℕ) : Type 0 where
+  pub log : new.log.items ≡ old.log.items
+  pub db : new.db ≡ old.db
+  pub text : new.text.items ≡ old.text.items
+  pub work : new.work ≡ old.work + more
+
+-- the log, the text and the work of a session alone
+pub record Produces (name : List ℕ) (pieces : List (List ℕ)) (log : List Event) (text : List ℕ) (work : ℕ) : Type 0 where
   pub readings : List (Result Stmt Refusal)
   pub read : AreReadings pieces readings
   pub ordered : IsOrdered (readings ∷ []) log
   pub printed_is : text ≡ printed (name ∷ []) (readings ∷ []) log
+  pub work_is : work ≡ run_work (readings ∷ []) log

@@ -2,13 +2,13 @@
 //! and writes the replies and the history of accepted changes.
 //!
 //! It stands on `causes` for reading and writing, on `sql_parse` for text, on `sql_core` for what SQL
-//! means and on `answer_text` for the layouts. Its clause `served` is the project's headline.
+//! means, on `sql_to_mal` and `mal_exec` for queries as plans, and on `answer_text` for the layouts.
+//! Its clause `served` is the project's headline, and `work` tells the stated work of the plans.
 #![tactic(auto)]
 
+mod columns;
 mod effect;
-mod operand;
 mod produce;
-mod query;
 mod refuse;
 mod served;
 mod session;

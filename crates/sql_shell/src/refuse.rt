@@ -1,15 +1,30 @@
-ghost use Rattle.std.specs.Prelude.{◌≡◌, IfOk};
+ghost use Rattle.std.specs.Prelude.{◌≡◌, length, IfOk};
 ghost use Rattle.std.specs.Option.{option_copied};
-ghost use Rattle.sql_core.specs.Effect.{references_in, condition_references, item_references, references_of};
+ghost use Rattle.sql_core.specs.Truth.{column_in};
+ghost use Rattle.sql_core.specs.Answer.{source_of};
+ghost use Rattle.sql_core.specs.Effect.{references_in, condition_references, item_references, references_of, query_refusal};
 ghost use Rattle.sql_shell.specs.Missing.{column_refusal, first_missing};
 
-use crate::operand::place_in;
-use cell_core::{Memory, Table};
+use cell_core::{Db, Memory, Table, find_column};
 use sql_core::{ColRef, Cond, Expr, Item, Query, Refusal, printed_name};
 use std::alloc::Global;
 
+/// The first refusal of a query of one table over a database, if it has one.
+pub fn refuse_query(alloc: Global, query: &Query, db: &Db) -> Result<Option<Refusal>, Memory>
+    requires { length query.now.froms ≡ 1 }
+    ensures { IfOk result (λ refusal. refusal ≡ query_refusal query.now db.now) }
+{
+    let [from] = query.froms.as_slice() else {
+        unreachable!()
+    };
+    match db.table(&from.table) {
+        None => Ok(Some(Refusal::NoTable(printed_name(alloc, &from.table)?))),
+        Some(table) => refuse_columns(alloc, query, table),
+    }
+}
+
 /// The first refusal of a query of this table, if it has one.
-pub fn refuse_columns(
+fn refuse_columns(
     alloc: Global,
     query: &Query,
     table: &Table,
@@ -69,5 +84,20 @@ fn missing_in_expr<'a>(table: &Table, expr: &'a Expr) -> Option<&'a ColRef>
             Some(_) => None,
             None => Some(column),
         },
+    }
+}
+
+/// The place of a column in the one table of FROM.
+fn place_in(table: &Table, column: &ColRef) -> Option<usize>
+    ensures { result ≡ column_in (source_of table.now) column.now }
+{
+    let named = match &column.table {
+        None => true,
+        Some(name) => *name == table.name,
+    };
+    if named {
+        find_column(table.columns.as_slice(), &column.column)
+    } else {
+        None
     }
 }

@@ -1,9 +1,12 @@
 ghost use Rattle.std.specs.Prelude.{◌≡◌, ◌<◌};
 
 use super::*;
-use causes::{MemScripts, MemSink};
-use cell_core::{Memory, Steps, Word, word_of};
+use bat_core::{Obj, Operate};
+use bat_kernel::Kernel;
+use causes::{MemScripts, MemSink, SureScripts};
+use cell_core::{Memory, Op, RunError, Steps, Word, word_of};
 use std::alloc::Global;
+use std::cell::Cell;
 use std::marker::Brand;
 use std::sync::ledger::{Blank, Ledger};
 use std::test::Fail;
@@ -32,7 +35,15 @@ fn run_words<L: Ledger>(
     let mut scripts = MemScripts::new(files, vec![in alloc; failing.0]?);
     let mut out = MemSink::new(alloc, 10, 100_000, vec![in alloc; failing.1]?)?;
     let mut steps = Steps::<L>::new(blank);
-    let served = top(alloc, words.as_slice(), &mut scripts, &mut out, &mut steps);
+    let kernel = Kernel::new();
+    let served = top(
+        alloc,
+        words.as_slice(),
+        &mut scripts,
+        &mut out,
+        &kernel,
+        &mut steps,
+    );
     let held = Vec::from_slice(alloc, out.held())?;
     Ok((served.status, served.at, held))
 }
@@ -154,5 +165,70 @@ fn statuses_and_what_they_are_about(rt: HostRuntime) -> Result<(), Fail> {
         assert_eq!(rt; (got, about), (status, at), "{name}");
         assert_eq!(rt; text.as_slice(), written.as_bytes(), "{name}");
     }
+    Ok(())
+}
+
+/// The kernel, which counts its calls and has memory for so many of them.
+#[derive(Drop)]
+struct Counting {
+    calls: Cell<u64>,
+    most: u64,
+}
+
+impl Operate for Counting {
+    fn run<L: Ledger>(
+        &self,
+        alloc: Global,
+        op: Op,
+        args: &[Obj],
+        steps: &mut Steps<L>,
+    ) -> Result<Obj, RunError> {
+        let calls = self.calls.get().saturating_add(1);
+        if self.most < calls {
+            return Err(RunError::Memory);
+        }
+        self.calls.set(calls);
+        Kernel::new().run(alloc, op, args, steps)
+    }
+}
+
+/// The status and the work of a run of `THREE`, and how often the kernel was called.
+fn run_counted<L: Ledger>(alloc: Global, most: u64, blank: Blank) -> Result<(u8, u128, u64), Memory>
+    requires name { blank.name ≡ L.name }
+    requires parts { blank.parts ≡ L.parts }
+    requires some { 0 < blank.parts }
+{
+    let words = vec![in alloc; word_of(alloc, "run")?, word_of(alloc, "a.sql")?]?;
+    let script = Vec::from_slice(alloc, THREE.as_bytes())?;
+    let mut scripts = SureScripts::new(vec![in alloc; (word_of(alloc, "a.sql")?, script)]?);
+    let mut out = MemSink::new(alloc, 1000, 1000, Vec::new(alloc))?;
+    let mut steps = Steps::<L>::new(blank);
+    let kernel = Counting {
+        calls: Cell::new(0),
+        most,
+    };
+    let served = top(
+        alloc,
+        words.as_slice(),
+        &mut scripts,
+        &mut out,
+        &kernel,
+        &mut steps,
+    );
+    Ok((served.status, served.work, kernel.calls.get()))
+}
+
+fn counted(alloc: Global, most: u64) -> Result<(u8, u128, u64), Memory> {
+    run_counted::<Brand>(alloc, most, Blank::new(1))
+}
+
+#[test]
+fn a_query_runs_as_its_plan(rt: HostRuntime) -> Result<(), Fail> {
+    let alloc = rt.alloc();
+    // select, mirror, markT, reverse and join, once each: the bind is no call of the kernel
+    let served = counted(alloc, 5)?;
+    assert_eq!(rt; served, (0, 27, 5));
+    let given_up = counted(alloc, 4)?;
+    assert_eq!(rt; given_up, (5, 0, 4));
     Ok(())
 }

@@ -1,5 +1,5 @@
 -- The plan of a query that asks for one column of one table, where one of its columns lies in a range.
-use Rattle.std.specs.Prelude.{◌≡◌, ℕ, ℤ, List, [], ◌∷◌, ◌++◌, true, if◌then◌else◌, bytes_eq, codes, Some, None, IsTrue}
+use Rattle.std.specs.Prelude.{◌≡◌, ℕ, ℤ, List, [], ◌∷◌, ◌++◌, true, if◌then◌else◌, bytes_eq, codes, Option, Some, None, IsTrue}
 use Rattle.std.specs.List.{list_all}
 use Rattle.cell_core.specs.declared.cell.Cell.{Cell}
 use Rattle.cell_core.specs.declared.cell.Cell.TheVariants.{Int, Text, Bit, Oid}
@@ -16,7 +16,10 @@ use Rattle.cell_core.specs.Relations.{column_cells}
 use Rattle.cell_core.specs.Tables.{named_table, column_place}
 use Rattle.sql_core.specs.declared.tree.Expr.{Expr}
 use Rattle.sql_core.specs.declared.tree.Expr.TheVariants.{Lit, Col}
+use Rattle.sql_core.specs.declared.tree.Cond.{Cond}
 use Rattle.sql_core.specs.declared.tree.Cond.TheVariants.{Between}
+use Rattle.sql_core.specs.declared.tree.FromItem.{FromItem}
+use Rattle.sql_core.specs.declared.tree.Item.{Item}
 use Rattle.sql_core.specs.declared.tree.Query.{Query}
 use Rattle.mal_meaning.specs.declared.plan.Plan.{Plan}
 
@@ -89,3 +92,16 @@ shared_plan table of low high = answers (rows_in_range table of low high ++ inst
 -- the plan of SELECT item FROM table WHERE of BETWEEN low AND high
 abbrev pub range_plan : List ℕ → List ℕ → List ℕ → ℤ → ℤ → Plan
 range_plan item table of low high = if bytes_eq item of then shared_plan table of low high else separate_plan item table of low high
+
+-- the plan of one item over one table, which has to be a column
+abbrev pub planned_item : Expr → List ℕ → List ℕ → ℤ → ℤ → Option Plan
+planned_item (Col item) table of low high = Some (range_plan item.column table of low high)
+planned_item (Lit cell) table of low high = None
+
+abbrev pub planned_parts : List Item → List FromItem → Option Cond → Option Plan
+planned_parts (item ∷ []) (from ∷ []) (Some (Between (Col of) (Lit (Int low)) (Lit (Int high)))) = planned_item item.expr from.table of.column low high
+planned_parts _ _ _ = None
+
+-- the plan of a query of that form; another query has none yet
+abbrev pub planned : Query → Option Plan
+planned query = planned_parts query.items query.froms query.cond

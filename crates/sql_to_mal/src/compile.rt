@@ -1,10 +1,10 @@
 //! From a query to its plan.
-ghost use Rattle.std.specs.Prelude.{◌≡◌, ℤ, List, ℕ, IfOk};
+ghost use Rattle.std.specs.Prelude.{◌≡◌, ℤ, List, ℕ, IfOk, Some};
 ghost use Rattle.cell_core.specs.declared.table.Db.{Db};
 ghost use Rattle.sql_core.specs.Answer.{answer};
 ghost use Rattle.mal_meaning.specs.Meaning.{plan_rows};
 ghost use Rattle.mal_meaning.specs.Runs.{Runs};
-ghost use Rattle.sql_to_mal.specs.Translation.{range_query, range_plan, IsRange, Serves};
+ghost use Rattle.sql_to_mal.specs.Translation.{range_plan, planned, IsRange, Serves};
 
 use crate::instructions::{answer, bind, join, range};
 use cell_core::{Cell, Memory, Word};
@@ -17,7 +17,7 @@ use std::alloc::Global;
 /// the query's columns.
 pub fn compile_query(alloc: Global, query: &Query) -> Result<Plan, Memory>
     requires form { IsRange query.now }
-    ensures plan { IfOk result (λ plan. (r : IsRange query.now) → plan ≡ range_plan r.item r.table r.of r.low r.high) }
+    ensures plan { IfOk result (λ plan. planned query.now ≡ Some plan) }
     ensures meaning { IfOk result (λ plan. (r : IsRange query.now) (db : Db) → Serves r.item r.table r.of db → plan_rows plan db ≡ answer query.now db) }
     ensures runs { IfOk result (λ plan. (r : IsRange query.now) (db : Db) → Serves r.item r.table r.of db → Runs plan db) }
 {

@@ -5,8 +5,8 @@ use Rattle.sql_shell.specs.Session.{Produces}
 use Rattle.sql_shell.proofs.ServedLemmas.{produces}
 use Rattle.sql_shell.proofs.produce.produce.Goals as goal
 
-pub returns : goal.returns
-returns c =
+pub returns-clause-produced : goal.returns-clause-produced
+returns-clause-produced g c =
     let session = c.in_ok-session.session in
     let name = c.args.name.now in
     let head : c.write_session_line.new.out.items ≡ session_line 1 name =
@@ -15,5 +15,5 @@ returns c =
     c.in_ok-extend_from_slice.ensures.items ∙ ap (λ out. out ++ c.as_slice.result.now) head ∙ ap (λ text. session_line 1 name ++ text) c.as_slice.ensures.value in
     let whole : c.write_history.new.out.items ≡ session_line 1 name ++ session.text.items ++ history_text session.log.items =
     c.in_ok-write_history.ensures.ok ∙ ap (λ out. out ++ history_text c.as_slice-2.result.now) replies ∙ ap (λ log. session_line 1 name ++ session.text.items ++ history_text log) c.as_slice-2.ensures.value in
-    let P : List Event → Type 0 = λ log. Produces name c.args.pieces.now log c.write_history.new.out.items in
-    subst P (sym c.from_vec.ensures) (produces name c.args.pieces.now session c.write_history.new.out.items c.in_ok-session.ensures whole)
+    let P : List Event → Type 0 = λ log. Produces name c.args.pieces.now log c.write_history.new.out.items session.work in
+    subst P (sym c.from_vec.ensures) (produces name c.args.pieces.now session c.write_history.new.out.items c.in_ok-session.ensures.served whole)

@@ -1,12 +1,23 @@
-use Rattle.std.proofs.Common.{◌≡◌}
+use Rattle.std.proofs.Common.{◌≡◌, Some, ap, sym, ◌∙◌}
 use Rattle.std.proofs.lemmas.Result.{IfOk-weaker}
 use Rattle.cell_core.specs.declared.table.Db.{Db}
 use Rattle.sql_core.specs.Answer.{answer}
+use Rattle.sql_core.specs.declared.tree.Query.{Query}
 use Rattle.mal_meaning.specs.Meaning.{plan_rows}
 use Rattle.mal_meaning.specs.Runs.{Runs}
-use Rattle.sql_to_mal.specs.Translation.{range_plan, IsRange, Serves}
+use Rattle.sql_to_mal.specs.Translation.{range_plan, planned, IsRange, Serves}
 use Rattle.sql_to_mal.proofs.ExactLemmas.{meaning, can_run}
 use Rattle.sql_to_mal.proofs.compile.compile_query.Goals as goal
+
+planned_range : (query : Query) (r : IsRange query) → planned query ≡ Some (range_plan r.item r.table r.of r.low r.high)
+planned_range query r = ap planned r.is
+
+pub returns-clause-plan : goal.returns-clause-plan
+returns-clause-plan c =
+    IfOk-weaker c.compile_form.result
+    (λ plan. (r : IsRange c.args.query.now) → plan ≡ range_plan r.item r.table r.of r.low r.high)
+    (λ plan. planned c.args.query.now ≡ Some plan)
+    (λ plan is. planned_range c.args.query.now c.requires.form ∙ ap Some (sym (is c.requires.form))) c.compile_form.ensures
 
 pub returns-clause-meaning : goal.returns-clause-meaning
 returns-clause-meaning c =
