@@ -1,2 +1,8 @@
-pub mod Writes
+pub mod Contests
+pub mod Firsts
+pub mod Lines
+pub mod Named
+pub mod Orders
 pub mod Plans
+pub mod Seats
+pub mod Writes

@@ -1,18 +1,24 @@
 -- What is kept of each row while a plan is made, and what it says of the rows that are left.
-use Rattle.std.proofs.Common.{◌≡◌, ℕ, suc, ◌+◌, ◌-◌, ◌≤◌, List, [], ◌∷◌, ◌++◌, Bool, true, false, not, ◌&&◌, ◌||◌, cond, Option, Some, None, ◌⊎◌, inl, inr, length, map, refl, ap, sym, ◌∙◌, subst, arith, nat_eq, append-nil, append_assoc}
-use Rattle.std.specs.Prelude.{if◌then◌else◌, ◌==◌, filter, fold, count_by, All}
-use Rattle.std.specs.List.{list_any, AllByRecursion, IsDistinct}
-use Rattle.std.specs.Option.{option_map, option_map_or}
+use Rattle.std.proofs.Common.{◌≡◌, ℕ, zero, suc, ◌+◌, ◌-◌, ◌<◌, ◌≤◌, List, [], ◌∷◌, ◌++◌, Bool, true, false, true≢false, not, ◌&&◌, ◌||◌, cond, Option, Some, None, ◌⊎◌, inl, inr, length, map, take, replicate, refl, ap, sym, ◌∙◌, subst, arith, nat_eq, append-nil, append_assoc}
+use Rattle.std.specs.Prelude.{if◌then◌else◌, ◌==◌, filter, fold, count_by, All, slice_index_or}
+use Rattle.std.specs.List.{AllByRecursion, IsDistinct}
+use Rattle.std.specs.Option.{option_map_or}
+use Rattle.std.proofs.lemmas.List.{get_or_past, length-map}
 use Rattle.std.proofs.lemmas.List.Folds.{list_any-append}
 use Rattle.std.proofs.lemmas.List.Sums.{sum_by-cons}
-use Rattle.std.proofs.lemmas.Bool.Decides.{Decides-eqb, Decides-like, same_from_decides}
+use Rattle.std.proofs.lemmas.Bool.Decides.{eqb_tells, Decides-eqb, Decides-like, same_from_decides}
 use Rattle.score_hook.specs.declared.stats.Evict.{Evict}
-use Rattle.score_hook.specs.Scores.{score_of, IsInRange}
-use Rattle.score_hook.proofs.Bounds.{top_small, bottom_small}
+use Rattle.score_hook.specs.Scores.{IsInRange}
+use Rattle.score_hook.proofs.Bounds.{top_small, bottom_small, bottom_some}
 use Rattle.evict_admit.specs.declared.plan.Row.{Row}
-use Rattle.evict_admit.specs.declared.plan.Left.{Left}
+use Rattle.evict_admit.specs.declared.contest.Contender.{Contender}
+use Rattle.evict_admit.specs.declared.names.Known.{Known}
+use Rattle.evict_admit.specs.declared.board.Left.{Left}
 use Rattle.evict_admit.specs.Evictions.{is_parent, can_go, goes_before, first_by, next_of, without, is_enough, GivesUp}
-use Rattle.evict_admit.specs.Lefts.{left_for, may_go, left_before, once_gone, IsSmall}
+use Rattle.evict_admit.specs.Boards.{no_row, row_at, left_at, contender_at, contender_for, comes_before, IsSmall, IsKnown, IsNamed, IsSeated, seat_of, winner_at, may_go, is_gone, still, left_of, once_gone, one_if}
+use Rattle.evict_admit.proofs.Contests.{is_or_not}
+use Rattle.evict_admit.proofs.Firsts.{first_seat, first_before, first_none}
+use Rattle.evict_admit.proofs.Orders.{before_total}
 
 -- ## Lists
 
@@ -35,61 +41,83 @@ module _ {X : Type 0} where
     | false ↦ λ e. e
   ] (filter_both p q xs)
 
-  -- what a fold of choices gives is one of those that it looked at
-  chosen_in : (before : X → X → Bool) (xs : List X) (best : Option X) (x : X)
-      → fold (λ best x. Some (option_map_or (λ b. if before x b then x else b) best x)) best xs ≡ Some x → (best ≡ Some x) ⊎ In x xs
-  chosen_in before [] best x e = inl e
-  chosen_in before (y ∷ ys) best x e = elim (chosen_in before ys (Some (option_map_or (λ b. if before y b then y else b) best y)) x e) [
-    | inl here ↦ new best here
-    | inr more ↦ inr (inr more)
-  ]
+  in_filter : (p : X → Bool) (xs : List X) (x : X) → In x xs → p x ≡ true → In x (filter p xs)
+  in_filter p [] x h e = absurd h
+  in_filter p (y ∷ ys) x (inl is) e = subst (λ b. In x (cond b (y ∷ filter p ys) (filter p ys))) (sym (sym (ap p is) ∙ e)) (inl is)
+  in_filter p (y ∷ ys) x (inr more) e = elim (p y) as (λ b. In x (cond b (y ∷ filter p ys) (filter p ys))) [ true ↦ inr (in_filter p ys x more e) | false ↦ in_filter p ys x more e ]
+
+  passes : (p : X → Bool) (xs : List X) (x : X) → In x (filter p xs) → p x ≡ true
+  passes p [] x h = absurd h
+  passes p (y ∷ ys) x h = go (passes p ys x) (p y) refl h
     where
-      new : (best : Option X) → Some (option_map_or (λ b. if before y b then y else b) best y) ≡ Some x → (best ≡ Some x) ⊎ In x (y ∷ ys)
-      new None h = let is : x ≡ y = cc in inr (inl is)
-      new (Some b) h = elim (before y b) as (λ r. Some (if r then y else b) ≡ Some x → (Some b ≡ Some x) ⊎ In x (y ∷ ys)) [
-        | true ↦ λ h. let is : x ≡ y = cc in inr (inl is)
-        | false ↦ λ h. inl h
-      ] h
+      go : (In x (filter p ys) → p x ≡ true) → (b : Bool) → p y ≡ b → In x (cond b (y ∷ filter p ys) (filter p ys)) → p x ≡ true
+      go rest true e (inl is) = ap p is ∙ e
+      go rest true e (inr more) = rest more
+      go rest false e more = rest more
 
-pub filter_map : {X Y : Type 0} (f : X → Y) (p : Y → Bool) (xs : List X) → filter p (map f xs) ≡ map f (filter (λ x. p (f x)) xs)
-filter_map f p [] = refl
-filter_map f p (x ∷ xs) = elim (p (f x)) as (λ b. filter p (map f xs) ≡ map f (filter (λ x. p (f x)) xs) → cond b (f x ∷ filter p (map f xs)) (filter p (map f xs)) ≡ map f (cond b (x ∷ filter (λ x. p (f x)) xs) (filter (λ x. p (f x)) xs))) [
-  | true ↦ λ e. ap (λ zs. f x ∷ zs) e
-  | false ↦ λ e. e
-] (filter_map f p xs)
+  -- where no element passes, none is kept
+  none_passes : (p : X → Bool) (xs : List X) → ((x : X) → In x xs → p x ≡ false) → filter p xs ≡ []
+  none_passes p [] h = refl
+  none_passes p (y ∷ ys) h = ap (λ b. cond b (y ∷ filter p ys) (filter p ys)) (h y (inl refl)) ∙ none_passes p ys (λ x i. h x (inr i))
 
--- a choice among images is the image of the choice
-chosen_map : {X Y : Type 0} (f : X → Y) (before : Y → Y → Bool) (xs : List X) (best : Option X)
-    → fold (λ best y. Some (option_map_or (λ b. if before y b then y else b) best y)) (option_map f best) (map f xs)
-    ≡ option_map f (fold (λ best x. Some (option_map_or (λ b. if before (f x) (f b) then x else b) best x)) best xs)
-chosen_map f before [] best = refl
-chosen_map f before (x ∷ xs) best =
-    ap (λ o. fold (λ best y. Some (option_map_or (λ b. if before y b then y else b) best y)) o (map f xs)) (one best)
-    ∙ chosen_map f before xs (Some (option_map_or (λ b. if before (f x) (f b) then x else b) best x))
-  where
-    one : (best : Option _) → Some (option_map_or (λ b. if before (f x) b then f x else b) (option_map f best) (f x)) ≡ option_map f (Some (option_map_or (λ b. if before (f x) (f b) then x else b) best x))
-    one None = refl
-    one (Some b) = elim (before (f x) (f b)) as (λ r. Some (if r then f x else f b) ≡ Some (f (if r then x else b))) [ true ↦ refl | false ↦ refl ]
+  pub in_index : (xs : List X) (x d : X) → In x xs → (p : ℕ) × (p < length xs) × (x ≡ slice_index_or xs p d)
+  in_index [] x d h = absurd h
+  in_index (y ∷ ys) x d (inl is) = (0, omega arith, is)
+  in_index (y ∷ ys) x d (inr more) = let h = in_index ys x d more in (suc h.0, omega (arith, h.1), h.2)
+
+  pub index_in : (xs : List X) (p : ℕ) (d : X) → p < length xs → In (slice_index_or xs p d) xs
+  index_in [] p d low = absurd (omega arith)
+  index_in (y ∷ ys) zero d low = inl refl
+  index_in (y ∷ ys) (suc p) d low = inr (index_in ys p d (omega arith))
+
+  -- the first comes before the second, unless they are the same
+  abbrev pub IsLeastBeside : (X → X → Bool) → X → X → Type 0
+  IsLeastBeside before x z = (z ≡ x) ⊎ ((before x z ≡ true) × (before z x ≡ false))
+
+  abbrev Rest : (X → X → Bool) → X → List X → Type 0
+  Rest before x ys = (b : X) → ((Some b ≡ Some x) ⊎ In x ys) → ((z : X) → Some b ≡ Some z → IsLeastBeside before x z) → fold (λ best x. Some (option_map_or (λ b. if before x b then x else b) best x)) (Some b) ys ≡ Some x
+
+  -- the one that comes before all others is found, in whatever order they stand
+  pub least_first : (before : X → X → Bool) (x : X) (xs : List X) (best : Option X) → ((best ≡ Some x) ⊎ In x xs)
+      → ((y : X) → best ≡ Some y → (y ≡ x) ⊎ ((before x y ≡ true) × (before y x ≡ false)))
+      → ((y : X) → In y xs → (y ≡ x) ⊎ ((before x y ≡ true) × (before y x ≡ false)))
+      → fold (λ best x. Some (option_map_or (λ b. if before x b then x else b) best x)) best xs ≡ Some x
+  least_first before x [] best (inl is) hb hs = is
+  least_first before x [] best (inr never) hb hs = absurd never
+  least_first before x (y ∷ ys) None h hb hs = least_first before x ys (Some y) there (λ z e. let is : z ≡ y = cc in elim (hs y (inl refl)) [ inl same ↦ inl (is ∙ same) | inr two ↦ inr (ap (before x) is ∙ two.0, ap (λ w. before w x) is ∙ two.1) ]) (λ z i. hs z (inr i))
+    where
+      there : (Some y ≡ Some x) ⊎ In x ys
+      there = elim h [ inl never ↦ cc | inr i ↦ elim i [ inl is ↦ inl (ap (λ z. Some z) (sym is)) | inr more ↦ inr more ] ]
+  least_first before x (y ∷ ys) (Some b) h hb hs = step (λ b there hb. least_first before x ys (Some b) there hb (λ z i. hs z (inr i))) (before y b) refl
+    where
+      all : (z : X) → IsLeastBeside before x z → (w : X) → Some z ≡ Some w → IsLeastBeside before x w
+      all z h w e = let is : z ≡ w = cc in subst (IsLeastBeside before x) is h
+
+      step : Rest before x ys → (r : Bool) → before y b ≡ r → fold (λ best x. Some (option_map_or (λ b. if before x b then x else b) best x)) (Some (if before y b then y else b)) ys ≡ Some x
+      step rest true e = ap (λ r. fold (λ best x. Some (option_map_or (λ b. if before x b then x else b) best x)) (Some (if r then y else b)) ys) e ∙ rest y (here h) (all y (hs y (inl refl)))
+        where
+          here : ((Some b ≡ Some x) ⊎ In x (y ∷ ys)) → (Some y ≡ Some x) ⊎ In x ys
+          here (inl is) = elim (hs y (inl refl)) [
+            | inl same ↦ inl (ap (λ z. Some z) same)
+            | inr two ↦ let same : b ≡ x = cc in let no_more : before y x ≡ true = ap (before y) (sym same) ∙ e in absurd (true≢false (sym no_more ∙ two.1))
+          ]
+          here (inr (inl is)) = inl (ap (λ z. Some z) (sym is))
+          here (inr (inr more)) = inr more
+      step rest false e = ap (λ r. fold (λ best x. Some (option_map_or (λ b. if before x b then x else b) best x)) (Some (if r then y else b)) ys) e ∙ rest b (here h) hb
+        where
+          here : ((Some b ≡ Some x) ⊎ In x (y ∷ ys)) → (Some b ≡ Some x) ⊎ In x ys
+          here (inl is) = inl is
+          here (inr (inl is)) = elim (hb b refl) [
+            | inl same ↦ inl (ap (λ z. Some z) same)
+            | inr two ↦ let no_more : before x b ≡ false = ap (λ z. before z b) is ∙ e in absurd (true≢false (sym two.0 ∙ no_more))
+          ]
+          here (inr (inr more)) = inr more
 
 -- ## Rows that are left
-
--- the rows whose ids aren't among those given up
-abbrev pub is_gone : List ℕ → Row → Bool
-is_gone out row = list_any (λ id. row.id == id) out
-
-abbrev pub still : List ℕ → List Row → List Row
-still out rows = filter (λ row. not (is_gone out row)) rows
-
--- a row beside what is kept of it
-abbrev pub left_at : Evict → ℕ → List ℕ → List Row → Row → Left
-left_at kind now out rows row = record { row = row; score = score_of kind row.stats now; children = count_by (is_parent row.id) (still out rows); gone = is_gone out row }
 
 pub still_none : (rows : List Row) → still [] rows ≡ rows
 still_none [] = refl
 still_none (row ∷ rows) = ap (λ rs. row ∷ rs) (still_none rows)
-
-pub noted_left : (kind : Evict) (now : ℕ) (rows : List Row) → map (left_for kind now rows) rows ≡ map (left_at kind now [] rows) rows
-noted_left kind now rows = ap (λ (rs : List Row). map (λ (row : Row). record { row = row; score = score_of kind row.stats now; children = count_by (is_parent row.id) rs; gone = false }) rows) (sym (still_none rows))
 
 or_false : (b : Bool) → (b || false) ≡ b
 or_false true = refl
@@ -110,20 +138,6 @@ still_more out id rows = same rows ∙ filter_both (λ row. not (is_gone out row
     same (row ∷ rs) =
         ap (λ b. cond b (row ∷ filter (λ row. not (is_gone (out ++ id ∷ []) row)) rs) (filter (λ row. not (is_gone (out ++ id ∷ []) row)) rs)) (ap not (gone_more out id row) ∙ nor (is_gone out row) (row.id == id))
         ∙ ap (λ zs. cond (not (is_gone out row) && not (row.id == id)) (row ∷ zs) zs) (same rs)
-
--- ## Which goes next
-
-pub picked : (kind : Evict) (now : ℕ) (out : List ℕ) (rows : List Row)
-    → first_by left_before (filter may_go (map (left_at kind now out rows) rows)) ≡ option_map (left_at kind now out rows) (next_of kind now (still out rows))
-picked kind now out rows =
-    ap (first_by left_before) (filter_map (left_at kind now out rows) may_go rows ∙ ap (map (left_at kind now out rows)) (filter_both (λ row. not (is_gone out row)) (can_go (still out rows)) rows))
-    ∙ chosen_map (left_at kind now out rows) left_before (filter (can_go (still out rows)) (still out rows)) None
-
-pub next_in : (kind : Evict) (now : ℕ) (rows : List Row) (row : Row) → next_of kind now rows ≡ Some row → In row rows
-next_in kind now rows row e = elim (chosen_in (goes_before kind now) (filter (can_go rows) rows) None row e) [
-  | inl none ↦ cc
-  | inr h ↦ filter_in (can_go rows) rows row h
-]
 
 -- ## One row goes
 
@@ -146,9 +160,6 @@ all_stay id (row ∷ rows) h = ap (λ b. cond (not b) (row ∷ without id rows) 
 
 swapped : (a b : ℕ) → (a == b) ≡ (b == a)
 swapped a b = same_from_decides (a == b) (b == a) (Decides-eqb a b) (Decides-like (b == a) (λ e. sym e) (λ e. sym e) (Decides-eqb b a))
-
-abbrev one_if : Bool → ℕ
-one_if b = if b then 1 else 0
 
 counts_one : (p : Row → Bool) (rows : List Row) (row : Row) → In row rows → one_if (p row) ≤ count_by p rows
 counts_one p [] row h = absurd h
@@ -189,21 +200,13 @@ shorter (x ∷ xs) gone (inr more) =
     let h : length (without gone.id xs) + 1 ≤ length xs = shorter xs gone more in
     elim (x.id == gone.id) as (λ b. length (cond (not b) (x ∷ without gone.id xs) (without gone.id xs)) + 1 ≤ length (x ∷ xs)) [ true ↦ omega (arith, h) | false ↦ omega (arith, h) ]
 
--- what is kept once a row has gone
-pub marked_left : (kind : Evict) (now : ℕ) (out : List ℕ) (rows : List Row) (gone : Row) → AreApart (still out rows) → In gone (still out rows)
-    → map (once_gone gone) (map (left_at kind now out rows) rows) ≡ map (left_at kind now (out ++ gone.id ∷ []) rows) rows
-marked_left kind now out rows gone apart here = each rows
-  where
-    one : (row : Row) → once_gone gone (left_at kind now out rows row) ≡ left_at kind now (out ++ gone.id ∷ []) rows row
-    one row =
-        let fewer : count_by (is_parent row.id) (still out rows) - one_if (is_parent row.id gone) ≡ count_by (is_parent row.id) (still (out ++ gone.id ∷ []) rows) =
-        count_without (is_parent row.id) (still out rows) gone apart here ∙ ap (count_by (is_parent row.id)) (sym (still_more out gone.id rows)) in
-        let more : (is_gone out row || row.id == gone.id) ≡ is_gone (out ++ gone.id ∷ []) row = sym (gone_more out gone.id row) in
-        λ i. record { row = row; score = score_of kind row.stats now; children = fewer i; gone = more i }
-
-    each : (xs : List Row) → map (once_gone gone) (map (left_at kind now out rows) xs) ≡ map (left_at kind now (out ++ gone.id ∷ []) rows) xs
-    each [] = refl
-    each (x ∷ xs) = λ i. one x i ∷ each xs i
+-- how a row stands once another has gone
+pub once_is : (out : List ℕ) (rows : List Row) (gone row : Row) → AreApart (still out rows) → In gone (still out rows) → once_gone gone row (left_of out rows row) ≡ left_of (out ++ gone.id ∷ []) rows row
+once_is out rows gone row apart here =
+    let fewer : count_by (is_parent row.id) (still out rows) - one_if (is_parent row.id gone) ≡ count_by (is_parent row.id) (still (out ++ gone.id ∷ []) rows) =
+    count_without (is_parent row.id) (still out rows) gone apart here ∙ ap (count_by (is_parent row.id)) (sym (still_more out gone.id rows)) in
+    let more : (is_gone out row || row.id == gone.id) ≡ is_gone (out ++ gone.id ∷ []) row = sym (gone_more out gone.id row) in
+    λ i. record { children = fewer i; gone = more i }
 
 -- ## What the plan starts with
 
@@ -217,11 +220,35 @@ apart_from_distinct (row ∷ rows) h = (λ other i. swapped other.id row.id ∙ 
     among other (r ∷ rs) (inl is) all = ap (λ (o : Row). row.id == o.id) is ∙ all.0
     among other (r ∷ rs) (inr more) all = among other rs more all.1
 
-pub all_small : (kind : Evict) (now : ℕ) (out : List ℕ) (rows xs : List Row) → All (λ (row : Row). IsInRange row.stats now) xs → AllByRecursion IsSmall (map (left_at kind now out rows) xs)
-all_small kind now out rows [] h = tt
-all_small kind now out rows (x ∷ xs) h =
+-- no two places have rows with one id
+pub apart_by_place : (rows : List Row) → AreApart rows → (p q : ℕ) → p < length rows → q < length rows → (row_at rows p).id ≡ (row_at rows q).id → p ≡ q
+apart_by_place [] h p q a b e = absurd (omega arith)
+apart_by_place (row ∷ rows) h zero zero a b e = refl
+apart_by_place (row ∷ rows) h zero (suc q) a b e = absurd (true≢false (sym ((Decides-eqb (row_at rows q).id row.id).1 (sym e)) ∙ h.0 (row_at rows q) (index_in rows q no_row (omega arith))))
+apart_by_place (row ∷ rows) h (suc p) zero a b e = absurd (true≢false (sym ((Decides-eqb (row_at rows p).id row.id).1 e) ∙ h.0 (row_at rows p) (index_in rows p no_row (omega arith))))
+apart_by_place (row ∷ rows) h (suc p) (suc q) a b e = ap suc (apart_by_place rows h.1 p q (omega arith) (omega arith) e)
+
+pub apart_from_places : (rows : List Row) → ((p q : ℕ) → p < length rows → q < length rows → (row_at rows p).id ≡ (row_at rows q).id → p ≡ q) → AreApart rows
+apart_from_places [] h = tt
+apart_from_places (row ∷ rows) h = (
+  λ other i.
+      let place = in_index rows other no_row i in
+      elim (eqb_tells other.id row.id) [
+        | inl same ↦ let low = place.1 in let zero_is : 0 ≡ suc place.0 = h 0 (suc place.0) (omega arith) (omega (arith, low)) (sym (ap (λ (r : Row). r.id) (sym place.2) ∙ same.1)) in absurd (omega (arith, zero_is))
+        | inr differ ↦ differ.0
+      ],
+  apart_from_places rows (λ p q a b e. let more : suc p ≡ suc q = h (suc p) (suc q) (omega arith) (omega arith) e in omega (arith, more)),
+)
+
+pub apart_known : (known : Known) → IsKnown known → AreApart known.rows.now
+apart_known known h = apart_from_places known.rows.now h.apart
+
+pub all_small : (kind : Evict) (now : ℕ) (rows : List Row) → All (λ (row : Row). IsInRange row.stats now) rows → All IsSmall (map (contender_for kind now) rows)
+all_small kind now [] h k d low = absurd (omega arith)
+all_small kind now (x ∷ xs) h zero d low =
     let here = h 0 x (omega arith) in
-    ((top_small kind x.stats now here, bottom_small kind x.stats now here), all_small kind now out rows xs (λ k d low. h (suc k) d (omega arith)))
+    record { top = top_small kind x.stats now here; bottom = bottom_small kind x.stats now here; some = bottom_some kind x.stats now }
+all_small kind now (x ∷ xs) h (suc k) d low = all_small kind now xs (λ k d low. h (suc k) d (omega arith)) k d (omega arith)
 
 -- ## The plan as far as it has come
 
@@ -243,26 +270,126 @@ module _ (kind : Evict) (now : ℕ) (rows : List Row) (need slots : ℕ) where
           (planned.goes_on (row.id ∷ ids) enough (more, (row, next, refl, subst (λ rs. GivesUp kind now rs (bytes - row.bytes) (places - 1) ids enough) (still_more out row.id rows) h)));
     })
 
-module _ (kind : Evict) (now : ℕ) (out : List ℕ) (rows : List Row) (lefts : List Left) (known : lefts ≡ map (left_at kind now out rows) rows) where
-  first : first_by left_before (filter may_go lefts) ≡ option_map (left_at kind now out rows) (next_of kind now (still out rows))
-  first = ap (λ ls. first_by left_before (filter may_go ls)) known ∙ picked kind now out rows
+-- ## Which goes next
 
-  -- what is picked is the row that goes next
-  pub next_is : (next : Left) → Some next ≡ first_by left_before (filter may_go lefts) → next_of kind now (still out rows) ≡ Some next.row
-  next_is next e = some (next_of kind now (still out rows)) (e ∙ first)
-    where
-      some : (o : Option Row) → Some next ≡ option_map (left_at kind now out rows) o → o ≡ Some next.row
-      some None h = cc
-      some (Some row) h = let is : next ≡ left_at kind now out rows row = cc in ap (λ (l : Left). Some l.row) (sym is)
+contender_is : (kind : Evict) (now : ℕ) (rows : List Row) (p : ℕ) → p < length rows → contender_at (map (contender_for kind now) rows) p ≡ contender_for kind now (row_at rows p)
+contender_is kind now [] p low = absurd (omega arith)
+contender_is kind now (x ∷ xs) zero low = refl
+contender_is kind now (x ∷ xs) (suc p) low = contender_is kind now xs p (omega arith)
 
-  pub none_is : None ≡ first_by left_before (filter may_go lefts) → next_of kind now (still out rows) ≡ None
-  none_is e = none (next_of kind now (still out rows)) (e ∙ first)
+all_some : (contenders : List Contender) → All IsSmall contenders → (p : ℕ) → 0 < (contender_at contenders p).score.bottom
+all_some [] h p = let past : contender_at [] p ≡ record { score = record { top = 0; bottom = 1 }; id = 0 } = get_or_past [] p _ (omega arith) in subst (λ (c : Contender). 0 < c.score.bottom) (sym past) (omega arith)
+all_some (x ∷ xs) h zero = (h 0 x (omega arith)).some
+all_some (x ∷ xs) h (suc p) = all_some xs (λ k d low. h (suc k) d (omega arith)) p
+
+seat_some : (b : Bool) (p : ℕ) → b ≡ true → seat_of b p ≡ Some p
+seat_some true p e = refl
+seat_some false p e = cc
+
+seat_none : (b : Bool) (p : ℕ) → seat_of b p ≡ None → b ≡ false
+seat_none true p e = cc
+seat_none false p e = refl
+
+both_left : (a b : Bool) → (a && b) ≡ true → a ≡ true
+both_left true b e = refl
+both_left false b e = cc
+
+both_right : (a b : Bool) → (a && b) ≡ true → b ≡ true
+both_right true b e = e
+both_right false b e = cc
+
+module _ (known : Known) (is_known : IsKnown known) (out : List ℕ) (lefts : List Left) (winners : List (Option ℕ)) (seated : IsSeated known lefts winners)
+    (here : (p : ℕ) → p < length known.rows.now → left_at lefts p ≡ left_of out known.rows.now (row_at known.rows.now p)) where
+  abbrev ready : ℕ → Bool
+  ready p = may_go (row_at known.rows.now p) (left_of out known.rows.now (row_at known.rows.now p))
+
+  seats : (p : ℕ) → p < length known.contenders.now → winner_at winners (length known.contenders.now + p) ≡ seat_of (ready p) p
+  seats p low = let under : p < length known.rows.now = omega (arith, is_known.same) in
+      ap (λ n. winner_at winners (n + p)) is_known.same ∙ seated.seats p under ∙ ap (λ l. seat_of (may_go (row_at known.rows.now p) l) p) (here p under)
+
+  module _ (w : ℕ) (more : 0 < length known.rows.now) (is : winner_at winners 1 ≡ Some w) where
+    chosen : (w < length known.contenders.now) × (ready w ≡ true)
+    chosen = first_seat known.contenders.now (all_some known.contenders.now is_known.small) winners seated.whole w ready (omega (arith, is_known.same)) seats is
+
+    pub chosen_low : w < length known.rows.now
+    chosen_low = let h = chosen.0 in omega (arith, is_known.same, h)
+
+    -- the row that is chosen is left
+    pub chosen_in : In (row_at known.rows.now w) (still out known.rows.now)
+    chosen_in = in_filter (λ (row : Row). not (is_gone out row)) known.rows.now (row_at known.rows.now w) (index_in known.rows.now w no_row chosen_low) (both_left _ _ chosen.1)
+
+    pub chosen_next : (kind : Evict) (now : ℕ) → known.contenders.now ≡ map (contender_for kind now) known.rows.now → next_of kind now (still out known.rows.now) ≡ Some (row_at known.rows.now w)
+    chosen_next kind now scored =
+        least_first (goes_before kind now) (row_at known.rows.now w) (filter (can_go (still out known.rows.now)) (still out known.rows.now)) None
+        (inr (in_filter (can_go (still out known.rows.now)) (still out known.rows.now) (row_at known.rows.now w) chosen_in (both_right _ _ chosen.1)))
+        (λ y e. cc) others
+      where
+        contender : (p : ℕ) → p < length known.rows.now → contender_at known.contenders.now p ≡ contender_for kind now (row_at known.rows.now p)
+        contender p low = ap (λ cs. contender_at cs p) scored ∙ contender_is kind now known.rows.now p low
+
+        at_place : (y : Row) (q : ℕ) → q < length known.rows.now → y ≡ row_at known.rows.now q → ready q ≡ true
+            → (y ≡ row_at known.rows.now w) ⊎ ((goes_before kind now (row_at known.rows.now w) y ≡ true) × (goes_before kind now y (row_at known.rows.now w) ≡ false))
+        at_place y q low is_y can = elim (is_or_not q w) [
+          | inl same ↦ inl (is_y ∙ ap (row_at known.rows.now) same)
+          | inr differ ↦
+              let under : q < length known.contenders.now = omega (arith, is_known.same) in
+              let after : comes_before (contender_at known.contenders.now q) (contender_at known.contenders.now w) ≡ false =
+              first_before known.contenders.now (all_some known.contenders.now is_known.small) winners seated.whole w q is under (seats q under ∙ seat_some (ready q) q can) in
+              let late : goes_before kind now (row_at known.rows.now q) (row_at known.rows.now w) ≡ false = ap (λ c. comes_before c (contender_for kind now (row_at known.rows.now w))) (sym (contender q low)) ∙ ap (comes_before (contender_at known.contenders.now q)) (sym (contender w chosen_low)) ∙ after in
+              let late_y : goes_before kind now y (row_at known.rows.now w) ≡ false = ap (λ (r : Row). goes_before kind now r (row_at known.rows.now w)) is_y ∙ late in
+              elim (before_total (contender_for kind now (row_at known.rows.now w)) (contender_for kind now (row_at known.rows.now q)) (λ e. differ (is_known.apart q w low chosen_low (sym e)))) [
+                | inl first ↦ inr (ap (λ (r : Row). goes_before kind now (row_at known.rows.now w) r) is_y ∙ first, late_y)
+                | inr never ↦ absurd (true≢false (sym never ∙ late))
+              ]
+        ]
+
+        others : (y : Row) → In y (filter (can_go (still out known.rows.now)) (still out known.rows.now))
+            → (y ≡ row_at known.rows.now w) ⊎ ((goes_before kind now (row_at known.rows.now w) y ≡ true) × (goes_before kind now y (row_at known.rows.now w) ≡ false))
+        others y i =
+            let left : In y (still out known.rows.now) = filter_in (can_go (still out known.rows.now)) (still out known.rows.now) y i in
+            let can : can_go (still out known.rows.now) y ≡ true = passes (can_go (still out known.rows.now)) (still out known.rows.now) y i in
+            let stays : not (is_gone out y) ≡ true = passes (λ (row : Row). not (is_gone out row)) known.rows.now y left in
+            let place = in_index known.rows.now y no_row (filter_in (λ (row : Row). not (is_gone out row)) known.rows.now y left) in
+            let both : may_go y (left_of out known.rows.now y) ≡ true = ap (λ b. b && can_go (still out known.rows.now) y) stays ∙ can in
+            at_place y place.0 place.1 place.2 (ap (λ (r : Row). may_go r (left_of out known.rows.now r)) (sym place.2) ∙ both)
+
+  -- where none is chosen, none goes next
+  pub none_next : winner_at winners 1 ≡ None → (kind : Evict) (now : ℕ) → next_of kind now (still out known.rows.now) ≡ None
+  none_next is kind now = ap (first_by (goes_before kind now)) (none_passes (can_go (still out known.rows.now)) (still out known.rows.now) never)
     where
-      none : (o : Option Row) → None ≡ option_map (left_at kind now out rows) o → o ≡ None
-      none None h = refl
-      none (Some row) h = cc
+      never : (y : Row) → In y (still out known.rows.now) → can_go (still out known.rows.now) y ≡ false
+      never y left =
+          let stays : not (is_gone out y) ≡ true = passes (λ (row : Row). not (is_gone out row)) known.rows.now y left in
+          let place = in_index known.rows.now y no_row (filter_in (λ (row : Row). not (is_gone out row)) known.rows.now y left) in
+          let under : place.0 < length known.contenders.now = let low = place.1 in omega (arith, is_known.same, low) in
+          let empty : ready place.0 ≡ false = seat_none (ready place.0) place.0 (sym (seats place.0 under) ∙ first_none known.contenders.now (all_some known.contenders.now is_known.small) winners seated.whole is place.0 under) in
+          ap (λ b. b && can_go (still out known.rows.now) y) (sym stays) ∙ ap (λ (r : Row). may_go r (left_of out known.rows.now r)) place.2 ∙ empty
 
 -- where no row is left, none goes next
 pub none_left : (kind : Evict) (now : ℕ) (rows : List Row) → length rows ≤ 0 → next_of kind now rows ≡ None
 none_left kind now [] h = refl
 none_left kind now (row ∷ rows) h = absurd (omega arith)
+
+-- ## What is known at first
+
+pub known_is : (known : Known) (kind : Evict) (now : ℕ) → length known.rows.now ≤ 1024 → IsNamed known.rows.now known.names.now → IsDistinct nat_eq (map (λ (row : Row). row.id) known.rows.now)
+    → All (λ (row : Row). IsInRange row.stats now) known.rows.now → known.contenders.now ≡ map (contender_for kind now) known.rows.now → IsKnown known
+known_is known kind now few named distinct range scored = record {
+  few = few;
+  named = named;
+  apart = apart_by_place known.rows.now (apart_from_distinct known.rows.now distinct);
+  same = ap length scored ∙ length-map known.rows.now (contender_for kind now);
+  small = subst (All IsSmall) (sym scored) (all_small kind now known.rows.now range);
+}
+
+pub left_first : (rows : List Row) (row : Row) → record { children = count_by (is_parent row.id) rows; gone = false } ≡ left_of [] rows row
+left_first rows row = ap (λ (rs : List Row). record { children = count_by (is_parent row.id) rs; gone = false }) (sym (still_none rows))
+
+past_all : {X : Type 0} (p : ℕ) (x : X) → slice_index_or [] p x ≡ x
+past_all p x = get_or_past [] p x (omega arith)
+
+pub all_same : {X : Type 0} (n m p : ℕ) (x : X) → slice_index_or (take n (replicate m x)) p x ≡ x
+all_same zero m p x = past_all p x
+all_same (suc n) zero p x = past_all p x
+all_same (suc n) (suc m) zero x = refl
+all_same (suc n) (suc m) (suc p) x = all_same n m p x

@@ -1,3 +1,4 @@
+pub mod Boards
 pub mod Credits
 pub mod Evictions
-pub mod Lefts
+pub mod Laws

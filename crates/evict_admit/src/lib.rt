@@ -5,10 +5,15 @@
 //! `Ledger` keeps the credit of each numbered shape.
 #![tactic(auto)]
 
+mod board;
+mod contest;
+mod laws;
 mod ledger;
+mod names;
 mod plan;
 #[cfg(test)]
 mod tests;
 
+pub use laws::one_order;
 pub use ledger::Ledger;
 pub use plan::{MOST_ROWS, Row, plan_evictions};

@@ -88,6 +88,7 @@ fn parents_go_after_their_children(rt: HostRuntime) -> Result<(), Fail> {
         { formula(Evict::Lru, stats, now) },
     )?;
     let scorer = Scorer::new(Evict::Lru, call);
+    one_order();
     let (enough, out) = plan(alloc, &scorer, 25, 0)?;
     assert!(rt; enough);
     assert_eq!(rt; out.as_slice(), [4, 2, 1].as_slice());

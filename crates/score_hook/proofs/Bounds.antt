@@ -1,5 +1,6 @@
 -- How large a score gets.
-use Rattle.std.proofs.Common.{ℕ, ◌*◌, ◌^◌, ◌<◌, true, false, arith}
+use Rattle.std.proofs.Math.Nat.{le-max_right}
+use Rattle.std.proofs.Common.{ℕ, ◌-◌, ◌*◌, ◌^◌, ◌<◌, true, false, arith}
 use Rattle.std.specs.Prelude.{if◌then◌else◌, ◌==◌}
 use Rattle.std.proofs.lemmas.Nat.{mul-lt}
 use Rattle.score_hook.specs.declared.stats.Stats.{Stats}
@@ -19,3 +20,9 @@ pub bottom_small : (kind : Evict) (stats : Stats) (now : ℕ) → IsInRange stat
 bottom_small Lru stats now h = omega arith
 bottom_small Benefit stats now h = omega arith
 bottom_small History stats now h = omega arith
+
+-- the bottom is never 0
+pub bottom_some : (kind : Evict) (stats : Stats) (now : ℕ) → 0 < (score_of kind stats now).bottom
+bottom_some Lru stats now = omega arith
+bottom_some Benefit stats now = omega arith
+bottom_some History stats now = let one = le-max_right (now - stats.admitted_at) 1 in omega (arith, one)

@@ -1,14 +1,18 @@
-use Rattle.std.proofs.Common.{◌≡◌, ◌+◌, ◌≤◌, length, map}
+use Rattle.std.proofs.Common.{◌≡◌, ℕ, ◌+◌, ◌<◌, ◌≤◌, length, map}
 use Rattle.std.specs.Vec.{vec_capacity}
-use Rattle.evict_admit.proofs.Plans.{IsPlanned, left_at, still}
+use Rattle.score_hook.specs.declared.stats.Evict.{Evict}
+use Rattle.evict_admit.specs.Boards.{IsSeated, contender_for, left_at, left_of, row_at, still}
+use Rattle.evict_admit.proofs.Plans.{IsPlanned}
 use Rattle.evict_admit.proofs.plan.plan_in.Given as goal
 
--- the rows that are left are known, and what is given up so far is the beginning of the plan
+-- it is known how the rows stand, and what is given up so far is the beginning of the plan
 abbrev pub invariant-rounds : goal.invariant-rounds
-invariant-rounds g l = record {
-  lefts : l.lefts ≡ map (left_at l.scorer.kind l.now l.out.items l.rows) l.rows;
-  planned : IsPlanned l.scorer.kind l.now l.rows l.need l.slots l.out.items l.bytes l.places;
-  left : length (still l.out.items l.rows) + length l.out.items ≤ length l.rows;
+invariant-rounds l = record {
+  lefts : (p : ℕ) → p < length l.known.rows.now → left_at l.lefts p ≡ left_of l.out.items l.known.rows.now (row_at l.known.rows.now p);
+  seated : IsSeated l.known l.lefts l.winners;
+  planned : (kind : Evict) (now : ℕ) → l.known.contenders.now ≡ map (contender_for kind now) l.known.rows.now
+      → IsPlanned kind now l.known.rows.now l.fn.wanted.bytes l.fn.wanted.places l.out.items l.bytes l.places;
+  left : length (still l.out.items l.known.rows.now) + length l.out.items ≤ length l.known.rows.now;
   rounds : length l.out.items ≡ l.counter;
-  room : length l.rows ≤ vec_capacity l.out;
+  room : length l.known.rows.now ≤ vec_capacity l.out;
 }

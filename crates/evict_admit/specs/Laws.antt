@@ -1,0 +1,22 @@
+-- A law about the order in which rows go.
+use Rattle.std.specs.Prelude.{◌≡◌, ◌≢◌, ◌↔◌, ◌⊎◌, ℕ, List, Bool, true, false, Some, map, nat_eq}
+use Rattle.std.specs.List.{Contains, IsDistinct}
+use Rattle.score_hook.specs.declared.stats.Evict.{Evict}
+use Rattle.evict_admit.specs.declared.plan.Row.{Row}
+use Rattle.evict_admit.specs.Evictions.{goes_before, first_by}
+
+-- no row comes before itself, one comes before what the next comes before, and of two with different ids one comes before the other
+pub record IsLine (before : Row → Row → Bool) : Type 0 where
+  pub itself : (a : Row) → before a a ≡ false
+  pub on : (a b c : Row) → before a b ≡ true → before b c ≡ true → before a c ≡ true
+  pub apart : (a b : Row) → a.id ≢ b.id → (before a b ≡ true) ⊎ (before b a ≡ true)
+
+-- the row is one of these, and comes before all others
+pub record IsLeast (before : Row → Row → Bool) (rows : List Row) (row : Row) : Type 0 where
+  pub among : Contains rows row
+  pub least : (other : Row) → Contains rows other → other.id ≢ row.id → before row other ≡ true
+
+-- the rule puts rows in one line, and of rows with different ids it finds the least, in whatever order they stand
+abbrev pub OneOrder : Type 0
+OneOrder = (kind : Evict) (now : ℕ) → IsLine (goes_before kind now)
+    × ((rows : List Row) (row : Row) → IsDistinct nat_eq (map (λ (r : Row). r.id) rows) → first_by (goes_before kind now) rows ≡ Some row ↔ IsLeast (goes_before kind now) rows row)

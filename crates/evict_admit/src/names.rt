@@ -1,0 +1,74 @@
+//! Rows by their ids.
+ghost use Rattle.std.specs.Prelude.{◌≡◌, ◌≢◌, ℕ, ◌<◌, ◌≤◌, All, IfNone, IfSome, length};
+ghost use Rattle.std.specs.List.{Contains};
+ghost use Rattle.std.specs.List.Sorted.{IsNonDecreasingBy};
+ghost use Rattle.evict_admit.specs.Boards.{IsKnown, IsNamed, row_at};
+
+use crate::contest::Contender;
+use crate::plan::Row;
+
+/// The id of the row at a place.
+#[derive(Clone, Copy, Debug)]
+pub(crate) struct Name {
+    pub(crate) id: u64,
+    pub(crate) place: u16,
+}
+
+/// What is known of the rows from the beginning: themselves, their places by their ids, and how they
+/// are compared.
+#[derive(Clone, Copy, Debug)]
+pub(crate) struct Known<'a> {
+    pub(crate) rows: &'a [Row],
+    pub(crate) names: &'a [Name],
+    pub(crate) contenders: &'a [Contender],
+}
+
+/// Notes where each row stands, by their ids.
+pub(crate) fn note_names(names: &mut [Name], rows: &[Row])
+    requires room { length names.old ≡ length rows.now }
+    requires few { length rows.now ≤ 1024 }
+    ensures named { IsNamed rows.now names.new }
+    ensures room { length names.new ≡ length names.old }
+{
+    write_names(names, rows);
+    names.sort_unstable_by_key(|name| name.id);
+}
+
+/// Notes each row in turn.
+fn write_names(names: &mut [Name], rows: &[Row])
+    requires room { length names.old ≡ length rows.now }
+    requires few { length rows.now ≤ 1024 }
+    ensures tells { All (λ name. (name.place < length rows.now) × ((row_at rows.now name.place).id ≡ name.id)) names.new }
+    ensures each { (p : ℕ) → p < length rows.now → Contains names.new (record { id = (row_at rows.now p).id; place = p }) }
+    ensures room { length names.new ≡ length names.old }
+{
+    'rows: for i in 0..rows.len() {
+        names[i] = Name {
+            id: rows[i].id,
+            place: i as u16,
+        };
+    }
+}
+
+/// Where an id is named.
+fn search(names: &[Name], id: u64) -> Option<usize>
+    requires { IsNonDecreasingBy (λ name. name.id) names.now }
+    ensures some { IfSome result (λ p. Contains names.now (record { id = id; place = p })) }
+    ensures none { IfNone result (All (λ name. name.id ≢ id) names.now) }
+{
+    match names.binary_search_by_key(&id, |name| name.id) {
+        Ok(i) => Some(names[i].place as usize),
+        Err(_) => None,
+    }
+}
+
+impl Known<'_> {
+    /// The place of the row with this id.
+    pub(crate) fn find(&self, id: u64) -> Option<usize>
+        requires { IsKnown self.now }
+        ensures some { IfSome result (λ p. (p < length self.now.rows.now) × ((row_at self.now.rows.now p).id ≡ id)) }
+        ensures none { IfNone result ((p : ℕ) → p < length self.now.rows.now → (row_at self.now.rows.now p).id ≢ id) }
+    {
+        search(self.names, id)
+    }
+}
