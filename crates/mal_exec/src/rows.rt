@@ -3,7 +3,7 @@ ghost use Rattle.std.specs.Prelude.{◌≡◌, ◌<◌, map, length, IfOk, IfSom
 ghost use Rattle.cell_core.specs.Pairs.{cell_at, row_at, rows_of, shortest};
 ghost use Rattle.bat_core.specs.Objects.{value_of, values_of};
 ghost use Rattle.mal_meaning.specs.Output.{value_in, is_shown, output_rows};
-ghost use Rattle.mal_exec.specs.Shortest.{shorter_of};
+ghost use Rattle.mal_meaning.specs.Slow.{shorter_of};
 
 use bat_core::Obj;
 use cell_core::{Arg, Cell, Memory, Sequence};
@@ -102,7 +102,7 @@ fn shorter(least: Option<u64>, value: &Obj) -> Option<u64>
 }
 
 /// The length of the shortest BAT, if there is one.
-#[tactic(auto, using(crate::specs::Shortest::least_at_end, crate::specs::Shortest::least_step))]
+#[tactic(auto, using(mal_meaning::proofs::SlowLemmas::least_at_end, mal_meaning::proofs::SlowLemmas::least_step))]
 fn shortest_bat(columns: &[Obj]) -> Option<u64>
     ensures { result ≡ shortest (values_of columns.now) }
 {

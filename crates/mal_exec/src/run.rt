@@ -131,6 +131,7 @@ fn run_instr<C: Columns, E: Operate, L: Ledger>(
     ensures work { IfOk result (λ done. done.work ≡ instr_load (C.database columns.now) (map Some (values_of values.now)) instr.now) }
     ensures counted { IfOk result (λ done. steps.new ≡ steps.old + done.work) }
     ensures overflow { result ≡ Err RunError.Overflow → instr_value (C.database columns.now) (map Some (values_of values.now)) instr.now ≡ None }
+    ensures later { result ≡ Err RunError.Overflow → steps.old ≤ steps.new }
     ensures within { result ≡ Err RunError.Overflow → steps.new ≤ steps.old + instr_load (C.database columns.now) (map Some (values_of values.now)) instr.now }
 {
     let Some(args) = args_at(alloc, values, instr.args.as_slice())? else {
@@ -169,6 +170,7 @@ fn run_next<C: Columns, E: Operate, L: Ledger>(
     ensures work { IfOk result (λ done. done.work ≡ instr_load (C.database columns.now) (map Some (values_of values.now)) instr.now) }
     ensures counted { IfOk result (λ done. steps.new ≡ steps.old + done.work) }
     ensures overflow { result ≡ Err RunError.Overflow → instr_value (C.database columns.now) (map Some (values_of values.now)) instr.now ≡ None }
+    ensures later { result ≡ Err RunError.Overflow → steps.old ≤ steps.new }
     ensures within { result ≡ Err RunError.Overflow → steps.new ≤ steps.old + instr_load (C.database columns.now) (map Some (values_of values.now)) instr.now }
 {
     run_instr(alloc, instr, values.as_slice(), columns, kernel, steps)
@@ -176,7 +178,7 @@ fn run_next<C: Columns, E: Operate, L: Ledger>(
 
 /// Runs a plan over the columns of a database, each instruction once and in order. The counter rises
 /// by exactly the plan's work. `Overflow` comes exactly where the plan has no rows, and then the
-/// counter rises by at most that work.
+/// counter rises by at most that work, and doesn't fall.
 pub fn run_plan<C: Columns, E: Operate, L: Ledger>(
     alloc: Global,
     plan: &Plan,
@@ -189,6 +191,7 @@ pub fn run_plan<C: Columns, E: Operate, L: Ledger>(
     ensures load { IfOk result (λ ran. ran.load ≡ plan_load plan.now (C.database columns.now)) }
     ensures work { IfOk result (λ ran. steps.new ≡ steps.old + plan_load plan.now (C.database columns.now)) }
     ensures overflow { result ≡ Err RunError.Overflow → plan_rows plan.now (C.database columns.now) ≡ None }
+    ensures later { result ≡ Err RunError.Overflow → steps.old ≤ steps.new }
     ensures within { result ≡ Err RunError.Overflow → steps.new ≤ steps.old + plan_load plan.now (C.database columns.now) }
 {
     let finished = run_instrs(alloc, plan.instrs.as_slice(), columns, kernel, steps)?;
@@ -220,6 +223,7 @@ fn run_instrs<C: Columns, E: Operate, L: Ledger>(
     ensures load { IfOk result (λ finished. finished.load ≡ load_from (C.database columns.now) [] instrs.now) }
     ensures work { IfOk result (λ finished. steps.new ≡ steps.old + load_from (C.database columns.now) [] instrs.now) }
     ensures overflow { result ≡ Err RunError.Overflow → run_values (C.database columns.now) instrs.now ≡ None }
+    ensures later { result ≡ Err RunError.Overflow → steps.old ≤ steps.new }
     ensures within { result ≡ Err RunError.Overflow → steps.new ≤ steps.old + load_from (C.database columns.now) [] instrs.now }
 {
     let mut values = Sequence::new(alloc);

@@ -1,4 +1,5 @@
--- The parts of which the plain operators are made.
+-- The parts of which the plain operators are made. Only contracts of private functions name them: what
+-- callers see speaks of `cell_core`'s definitions alone.
 use Rattle.std.specs.Prelude.{ℕ, min, List, length, map, filter, Bool, true, false, ◌+ℤ◌, ◌-ℤ◌, ◌*ℤ◌, find, unwrap_or, Option, None, Some}
 use Rattle.std.specs.List.{list_all, position_or_len}
 use Rattle.std.specs.Ordering.{is_eq, is_ne, is_lt, is_le, is_gt, is_ge}

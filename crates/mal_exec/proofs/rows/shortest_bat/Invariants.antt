@@ -1,7 +1,7 @@
 use Rattle.std.proofs.Common.{◌≡◌, length}
 use Rattle.bat_core.specs.Objects.{values_of}
 use Rattle.cell_core.specs.Pairs.{shortest}
-use Rattle.mal_exec.specs.Shortest.{least_with}
+use Rattle.mal_meaning.proofs.SlowLemmas.{least_with}
 use Rattle.mal_exec.proofs.rows.shortest_bat.Given as goal
 
 -- what is made so far, and what the rest gives, is what all give
