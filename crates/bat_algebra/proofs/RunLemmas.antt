@@ -1,21 +1,11 @@
 -- Passes over the pairs of a BAT, run by run.
 use Rattle.std.proofs.Common.{◌≡◌, ℕ, ◌+◌, ◌<◌, ◌≤◌, Bool, true, false, cond, List, [], ◌∷◌, ◌++◌, length, get_or, take, sym, ap, ◌∙◌, arith}
-use Rattle.std.specs.Prelude.{min}
 use Rattle.std.specs.List.{zip, filter}
-use Rattle.std.proofs.lemmas.List.{take_all, length-append, length-take-le, length-take, append_assoc, append-nil}
+use Rattle.std.proofs.lemmas.List.{take_all, append_assoc, append-nil}
 use Rattle.std.proofs.lemmas.List.Elements.{filter-append, filter_more}
 use Rattle.std.proofs.lemmas.Slice.Zip.{length-zip, get_or-zip}
 use Rattle.cell_core.specs.declared.cell.Cell.{Cell}
 use Rattle.cell_core.specs.Pairs.{Pairs}
-
--- a run ends within the pairs
-pub run_within : (b : Pairs) (h t : List Cell) (from : ℕ) → from ≤ length b → length t ≡ length h → take (from + length h) b ≡ take from b ++ zip h t → from + length h ≤ length b
-run_within b h t from within even same =
-    let long : length (take from b) ≡ from = length-take-le from b within in
-    let run : length (zip h t) ≡ min (length h) (length t) = length-zip h t in
-    let front : length (take (from + length h) b) ≤ length b = omega (arith, length-take (from + length h) b) in
-    let all : length (take (from + length h) b) ≡ length (take from b) + length (zip h t) = ap length same ∙ length-append (take from b) (zip h t) in
-    omega arith
 
 -- the pairs that pass a test, up to the end of a run
 pub filter_run : (p : Cell × Cell → Bool) (b : Pairs) (h t : List Cell) (from : ℕ) → take (from + length h) b ≡ take from b ++ zip h t → filter p (take from b) ++ filter p (zip h t) ≡ filter p (take (from + length h) b)

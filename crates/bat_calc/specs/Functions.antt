@@ -1,10 +1,12 @@
 -- What each function gives of two cells.
-use Rattle.std.specs.Prelude.{ℕ, ◌≤◌, length, Option, Some, ◌+ℤ◌, ◌-ℤ◌, ◌*ℤ◌}
+use Rattle.std.specs.Prelude.{ℕ, ◌≤◌, List, length, map, Option, Some, ◌+ℤ◌, ◌-ℤ◌, ◌*ℤ◌}
+use Rattle.std.specs.List.{range_with_len}
 use Rattle.std.specs.Ordering.{is_eq, is_ne, is_lt, is_le, is_gt, is_ge}
 use Rattle.cell_core.specs.declared.cell.Cell.{Cell}
 use Rattle.cell_core.specs.declared.operator.Value.{Value}
 use Rattle.cell_core.specs.declared.operator.Value.TheVariants.{Bat, One}
-use Rattle.cell_core.specs.Calc.{arithmetic, comparison, conjunction, disjunction, negation}
+use Rattle.cell_core.specs.Pairs.{Pairs, cell_at}
+use Rattle.cell_core.specs.Calc.{arithmetic, comparison, conjunction, disjunction, negation, all_or_none}
 use Rattle.bat_calc.specs.declared.function.Function.{Function}
 use Rattle.bat_calc.specs.declared.function.Function.TheVariants as function
 
@@ -27,3 +29,11 @@ function_of function.Not = λ x y. Some (negation x)
 abbrev pub Reaches : ℕ → Value → Type 0
 Reaches count (Bat b) = count ≤ length b
 Reaches count (One cell) = Unit {0}
+
+-- the first cells of a value
+abbrev pub column : ℕ → Value → List Cell
+column count v = map (λ k. cell_at k v) (range_with_len 0 count)
+
+-- what a function gives of pairs of cells
+abbrev pub applied : Function → Pairs → Option (List Cell)
+applied function pairs = all_or_none (map (λ p. function_of function p.0 p.1) pairs)

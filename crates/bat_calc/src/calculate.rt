@@ -1,14 +1,14 @@
 //! A function over scalars, and over BATs place by place.
-ghost use Rattle.std.specs.Prelude.{◌≡◌, [], ◌∷◌, ◌+◌, ◌<◌, ◌≤◌, ◌^◌, length, map, take, Some, None, IfOk, OnErr};
+ghost use Rattle.std.specs.Prelude.{◌≡◌, [], ◌∷◌, ◌+◌, ◌++◌, ◌<◌, ◌≤◌, ◌^◌, length, map, Some, None, IfOk, OnOk, OnErr};
 ghost use Rattle.std.specs.List.{zip};
 ghost use Rattle.cell_core.specs.declared.operator.Value.TheVariants.{Bat as BatValue};
-ghost use Rattle.cell_core.specs.Pairs.{heads_of, pair_count, cell_at, rows_of, shortest, bats_in};
+ghost use Rattle.cell_core.specs.Pairs.{Pairs, heads_of, pair_count, rows_of, shortest, bats_in};
 ghost use Rattle.cell_core.specs.Calc.{calculated, over_two, all_or_none, first_heads};
 ghost use Rattle.bat_core.specs.Objects.{value_of};
-ghost use Rattle.bat_calc.specs.Functions.{function_of, Reaches};
+ghost use Rattle.bat_calc.specs.Functions.{function_of, Reaches, column, applied};
 
 use crate::function::{Function, apply};
-use bat_core::{Bat, Cells, Obj, Shared};
+use bat_core::{Bat, Cells, CellsBuilder, Obj, Shared};
 use cell_core::{Cell, Memory, RunError, Steps};
 use std::alloc::Global;
 use std::sync::ledger::Ledger;
@@ -97,25 +97,58 @@ fn cells_over(
     ensures len { IfOk result (λ cells. length cells ≡ count) }
     ensures overflow { result ≡ Err RunError.Overflow → all_or_none (map (over_two (function_of function)) (rows_of (value_of x.now ∷ value_of y.now ∷ []) count)) ≡ None }
 {
-    let mut cells = Cells::new(alloc);
-    for i in 0..count {
-        match apply(function, cell_of(x, i), cell_of(y, i)) {
+    let left = column_of(alloc, x, count)?;
+    let right = column_of(alloc, y, count)?;
+    let rows = Bat::from_columns(left, right);
+    cells_of(alloc, function, &rows)
+}
+
+/// The first cells of a value: its tails, or the scalar again and again.
+fn column_of(alloc: Global, obj: &Obj, count: u64) -> Result<Cells, Memory>
+    requires { Reaches count (value_of obj.now) }
+    ensures { IfOk result (λ cells. cells ≡ column count (value_of obj.now)) }
+{
+    match obj {
+        Obj::Bat(b) => b.bat().tails().front(alloc, count),
+        Obj::One(cell) => Cells::repeated(alloc, cell, count),
+    }
+}
+
+/// The cells of a function over pairs of cells, run by run.
+fn cells_of(alloc: Global, function: Function, rows: &Bat) -> Result<Cells, RunError>
+    ensures value { IfOk result (λ cells. applied function rows.now ≡ Some cells) }
+    ensures len { IfOk result (λ cells. length cells ≡ length rows.now) }
+    ensures overflow { result ≡ Err RunError.Overflow → applied function rows.now ≡ None }
+{
+    let mut cells = CellsBuilder::new(alloc);
+    let mut from = 0;
+    while from < rows.len() {
+        let (left, right) = rows.run(from);
+        add_cells(alloc, function, left, right, &mut cells)?;
+        from += left.len() as u64;
+    }
+    Ok(cells.finish()?)
+}
+
+/// Adds the cells of a function over a run.
+fn add_cells(
+    alloc: Global,
+    function: Function,
+    left: &[Cell],
+    right: &[Cell],
+    cells: &mut CellsBuilder,
+) -> Result<(), RunError>
+    requires { length right.now ≡ length left.now }
+    ensures value { OnOk result ((before : Pairs) → applied function before ≡ Some cells.old → applied function (before ++ zip left.now right.now) ≡ Some cells.new) }
+    ensures overflow { result ≡ Err RunError.Overflow → applied function (zip left.now right.now) ≡ None }
+{
+    for i in 0..left.len() {
+        match apply(function, &left[i], &right[i]) {
             Some(cell) => cells.push(alloc, cell)?,
             None => return Err(RunError::Overflow),
         }
     }
-    Ok(cells)
-}
-
-/// The cell of a value at a place: the tail there, or the scalar.
-fn cell_of(obj: &Obj, i: u64) -> &Cell
-    requires { Reaches (i + 1) (value_of obj.now) }
-    ensures { result.now ≡ cell_at i (value_of obj.now) }
-{
-    match obj {
-        Obj::Bat(b) => b.bat().tails().get(i),
-        Obj::One(cell) => cell,
-    }
+    Ok(())
 }
 
 /// Tails beside the first heads of a BAT, which are shared where none is left out.
@@ -123,22 +156,6 @@ fn with_first_heads(alloc: Global, first: &Bat, tails: Cells) -> Result<Bat, Mem
     requires { length tails ≤ length first.now }
     ensures { IfOk result (λ out. out ≡ zip (heads_of first.now) tails) }
 {
-    let count = tails.len();
-    if count == first.len() {
-        return first.with_tails(alloc, tails);
-    }
-    let heads = front_of(alloc, first.heads(), count)?;
+    let heads = first.heads().front(alloc, tails.len())?;
     Ok(Bat::from_columns(heads, tails))
-}
-
-/// The first cells of a column.
-fn front_of(alloc: Global, cells: &Cells, count: u64) -> Result<Cells, Memory>
-    requires { count ≤ length cells.now }
-    ensures { IfOk result (λ front. front ≡ take count cells.now) }
-{
-    let mut front = Cells::new(alloc);
-    for i in 0..count {
-        front.push(alloc, cells.get(i).share()?)?;
-    }
-    Ok(front)
 }

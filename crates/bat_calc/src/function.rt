@@ -92,6 +92,9 @@ fn int_cell(number: i128) -> Option<Cell>
 fn sum(x: &Cell, y: &Cell) -> Option<Cell>
     ensures { result ≡ arithmetic (λ x y. x +ℤ y) x.now y.now }
 {
+    if let (Cell::Int(x), Cell::Int(y)) = (x, y) {
+        return int_cell(i128::from(*x) + i128::from(*y));
+    }
     if one_is_nil(x, y) {
         return Some(Cell::Nil);
     }
@@ -102,6 +105,9 @@ fn sum(x: &Cell, y: &Cell) -> Option<Cell>
 fn difference(x: &Cell, y: &Cell) -> Option<Cell>
     ensures { result ≡ arithmetic (λ x y. x -ℤ y) x.now y.now }
 {
+    if let (Cell::Int(x), Cell::Int(y)) = (x, y) {
+        return int_cell(i128::from(*x).checked_sub(i128::from(*y))?);
+    }
     if one_is_nil(x, y) {
         return Some(Cell::Nil);
     }
@@ -112,6 +118,9 @@ fn difference(x: &Cell, y: &Cell) -> Option<Cell>
 fn product(x: &Cell, y: &Cell) -> Option<Cell>
     ensures { result ≡ arithmetic (λ x y. x *ℤ y) x.now y.now }
 {
+    if let (Cell::Int(x), Cell::Int(y)) = (x, y) {
+        return int_cell(i128::from(*x) * i128::from(*y));
+    }
     if one_is_nil(x, y) {
         return Some(Cell::Nil);
     }

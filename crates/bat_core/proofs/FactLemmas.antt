@@ -3,11 +3,11 @@ use Rattle.std.proofs.Common.{◌≡◌, ◌+◌, ◌-◌, ◌^◌, ◌<◌, ◌
 use Rattle.std.specs.Prelude.{◌&&◌}
 use Rattle.std.proofs.Math.Bool.{and-true}
 use Rattle.std.proofs.lemmas.List.{length-append, get_or-append-add}
-use Rattle.std.proofs.lemmas.List.Sums.{sum_by-cons, sum_by_push}
+use Rattle.std.proofs.lemmas.List.Sums.{sum_by-cons, sum_by_push, sum_by-append}
 use Rattle.cell_core.specs.declared.cell.Cell.{Cell}
 use Rattle.cell_core.specs.declared.cell.Cell.TheVariants.{Nil, Int, Huge, Text, Day, Bit, Oid}
 use Rattle.cell_core.specs.Order.{cell_bytes}
-use Rattle.bat_core.specs.Facts.{neighbours_from, rises, is_dense, is_oid, is_below, is_next_oid, last_from, last_cell, rises_with, dense_with, cells_bytes, AreToldOf}
+use Rattle.bat_core.specs.Facts.{neighbours_from, rises, is_dense, is_oid, is_below, is_next_oid, last_from, last_cell, rises_with, rises_with_all, dense_with, dense_with_all, cells_bytes, AreToldOf}
 use Rattle.bat_core.specs.declared.facts.Facts.{Facts}
 
 -- a conjunction of three groups either way
@@ -69,4 +69,30 @@ told_push old new cells c told bytes few rising dense =
       few = omega (arith, told.bytes);
       rising = rising ∙ ap (λ b. rises_with b (last_cell cells) c) told.rising ∙ sym (rises_push cells c);
       dense = dense ∙ ap (λ b. dense_with b (last_cell cells) c) told.dense ∙ sym (dense_push cells c);
+    }
+
+-- others are tested from the last on
+neighbours_append : (p : Cell → Cell → Bool) (x : Cell) (xs more : List Cell) → neighbours_from p x (xs ++ more) ≡ (neighbours_from p x xs && neighbours_from p (last_from x xs) more)
+neighbours_append p x [] more = refl
+neighbours_append p x (y ∷ ys) more = ap (λ b. p x y && b) (neighbours_append p y ys more) ∙ and_assoc (p x y) (neighbours_from p y ys) (neighbours_from p (last_from y ys) more)
+
+rises_append : (cells more : List Cell) → rises (cells ++ more) ≡ rises_with_all (rises cells) (last_cell cells) more
+rises_append [] more = refl
+rises_append (x ∷ xs) more = neighbours_append is_below x xs more
+
+dense_append : (cells more : List Cell) → is_dense (cells ++ more) ≡ dense_with_all (is_dense cells) (last_cell cells) more
+dense_append [] more = refl
+dense_append (x ∷ xs) more =
+    ap (λ b. is_oid x && b) (neighbours_append is_next_oid x xs more) ∙ and_assoc (is_oid x) (neighbours_from is_next_oid x xs) (neighbours_from is_next_oid (last_from x xs) more)
+
+-- the facts once cells are added
+pub told_append : (old new : Facts) (cells more : List Cell) → AreToldOf old cells → new.bytes ≡ old.bytes + cells_bytes more → new.bytes < 2 ^ 60
+    → new.rises ≡ rises_with_all old.rises (last_cell cells) more → new.dense ≡ dense_with_all old.dense (last_cell cells) more → AreToldOf new (cells ++ more)
+told_append old new cells more told bytes few rising dense =
+    let sum : cells_bytes (cells ++ more) ≡ cells_bytes cells + cells_bytes more = sum_by-append cell_bytes cells more in
+    record {
+      bytes = omega (arith, told.bytes);
+      few = omega (arith, told.bytes);
+      rising = rising ∙ ap (λ b. rises_with_all b (last_cell cells) more) told.rising ∙ sym (rises_append cells more);
+      dense = dense ∙ ap (λ b. dense_with_all b (last_cell cells) more) told.dense ∙ sym (dense_append cells more);
     }

@@ -2,3 +2,4 @@ pub mod ChunkLemmas
 pub mod FactLemmas
 pub mod FilledLemmas
 pub mod PairLemmas
+pub mod RunLemmas

@@ -60,6 +60,16 @@ abbrev pub dense_with : Bool → Option Cell → Cell → Bool
 dense_with so_far None cell = is_oid cell
 dense_with so_far (Some last) cell = so_far && is_next_oid last cell
 
+-- whether cells rise once others follow the last
+abbrev pub rises_with_all : Bool → Option Cell → List Cell → Bool
+rises_with_all so_far None more = rises more
+rises_with_all so_far (Some last) more = so_far && neighbours_from is_below last more
+
+-- whether cells are dense once others follow the last
+abbrev pub dense_with_all : Bool → Option Cell → List Cell → Bool
+dense_with_all so_far None more = is_dense more
+dense_with_all so_far (Some last) more = so_far && neighbours_from is_next_oid last more
+
 -- these facts are told of these cells, whose bytes stay below a limit
 pub record AreToldOf (facts : Facts) (cells : List Cell) : Type 0 where
   pub bytes : facts.bytes ≡ cells_bytes cells

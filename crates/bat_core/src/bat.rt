@@ -149,4 +149,13 @@ impl Bat {
         let heads = self.heads().share(alloc)?;
         Ok(Bat { heads, tails })
     }
+
+    /// These pairs and then those of another BAT. The full chunks of these are shared.
+    pub fn followed_by(&self, alloc: Global, more: &Bat) -> Result<Bat, Memory>
+        ensures { IfOk result (λ out. out ≡ self.now ++ more.now) }
+    {
+        let heads = self.heads().followed_by(alloc, more.heads())?;
+        let tails = self.tails().followed_by(alloc, more.tails())?;
+        Ok(Bat { heads, tails })
+    }
 }

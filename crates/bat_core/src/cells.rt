@@ -1,11 +1,12 @@
 //! A column of cells, in chunks that several columns share.
-ghost use Rattle.std.specs.Prelude.{◌≡◌, [], ◌∷◌, ◌+◌, ◌++◌, ◌^◌, ◌<◌, length, slice_index_or, take, IfOk, OnOk, OnErr, IfSome, vec_len, replicate};
+ghost use Rattle.std.specs.Prelude.{◌≡◌, [], ◌∷◌, ◌+◌, ◌++◌, ◌^◌, ◌<◌, ◌≤◌, length, slice_index_or, take, IfOk, OnOk, OnErr, IfSome, vec_len, replicate};
 ghost use Rattle.std.specs.Vec.{vec_capacity};
 ghost use Rattle.std.specs.Option.{option_copied};
 ghost use Rattle.bat_core.specs.Facts.{rises, is_dense, cells_bytes, last_cell, AreToldOf};
 ghost use Rattle.bat_core.specs.Filled.{oids_from};
 
-use crate::facts::{Facts, bytes_with, dense_after, rises_after};
+use crate::builder::CellsBuilder;
+use crate::facts::{Facts, bytes_with, dense_after, facts_after, rises_after};
 use crate::filled::{
     oid_chunk, oid_facts, oid_pile, repeated_chunk, repeated_facts, repeated_pile,
 };
@@ -46,6 +47,14 @@ impl Cells {
             loose: Vec::new(alloc),
             facts: Facts::none(),
         }
+    }
+
+    /// The column of the cells of a pile and others behind it, of which these facts are told.
+    pub(crate) fn from_parts(pile: Pile, loose: Vec<Cell>, facts: Facts) -> Cells
+        requires { AreToldOf facts (pile ++ loose.items) }
+        ensures { result ≡ pile ++ loose.items }
+    {
+        Cells { pile, loose, facts }
     }
 
     /// That many oids from a number on, each one more than the one before.
@@ -156,6 +165,58 @@ impl Cells {
             loose,
             facts: self.facts,
         })
+    }
+
+    /// The first cells. Where these are all, the full chunks are shared.
+    pub fn front(&self, alloc: Global, count: u64) -> Result<Cells, Memory>
+        requires { count ≤ length self.now }
+        ensures { IfOk result (λ cells. cells ≡ take count self.now) }
+    {
+        if count == self.len() {
+            return self.share(alloc);
+        }
+        let mut out = CellsBuilder::new(alloc);
+        let mut from = 0;
+        while from < count {
+            let run = self.run(from);
+            let many = (count - from).min(run.len() as u64);
+            out.push_all(alloc, &run[..many as usize])?;
+            from += many;
+        }
+        out.finish()
+    }
+
+    /// These cells and then those of another column. The full chunks of these are shared.
+    pub fn followed_by(&self, alloc: Global, more: &Cells) -> Result<Cells, Memory>
+        ensures { IfOk result (λ cells. cells ≡ self.now ++ more.now) }
+    {
+        let mut out = self.share(alloc)?;
+        let mut from = 0;
+        while from < more.len() {
+            let run = more.run(from);
+            out = out.with_run(alloc, run)?;
+            from += run.len() as u64;
+        }
+        Ok(out)
+    }
+
+    /// These cells and then those of a run.
+    fn with_run(self, alloc: Global, run: &[Cell]) -> Result<Cells, Memory>
+        ensures { IfOk result (λ cells. cells ≡ self ++ run.now) }
+    {
+        let Some(after) = facts_after(self.facts, self.last(), run) else {
+            return Err(Memory);
+        };
+        let Cells {
+            mut pile,
+            mut loose,
+            facts: _,
+        } = self;
+        for cell in run {
+            make_room(alloc, &mut pile, &mut loose)?;
+            put(&mut loose, cell.share()?);
+        }
+        Ok(Cells::from_parts(pile, loose, after))
     }
 
     /// Adds a cell at the end.

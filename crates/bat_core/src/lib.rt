@@ -8,6 +8,7 @@
 #![tactic(auto)]
 
 mod bat;
+mod builder;
 mod cells;
 mod columns;
 mod facts;
@@ -19,6 +20,7 @@ mod shared;
 mod tests;
 
 pub use bat::Bat;
+pub use builder::{BatBuilder, CellsBuilder};
 pub use cells::Cells;
 pub use columns::Columns;
 pub use operate::Operate;

@@ -1,5 +1,5 @@
 //! The numbers of groups, and their heads.
-ghost use Rattle.std.specs.Prelude.{◌≡◌, ℕ, ◌+◌, ◌≤◌, length, min, map, take, IfOk, OnErr};
+ghost use Rattle.std.specs.Prelude.{◌≡◌, ℕ, ◌+◌, ◌≤◌, length, min, map, IfOk, OnErr};
 ghost use Rattle.std.specs.List.{zip};
 ghost use Rattle.cell_core.specs.declared.cell.Cell.{Cell};
 ghost use Rattle.cell_core.specs.Same.{same_cell};
@@ -7,7 +7,7 @@ ghost use Rattle.cell_core.specs.Pairs.{heads_of};
 ghost use Rattle.cell_core.specs.Groups.{grouped, derived, group_heads_of, group_number, same_pair};
 
 use crate::numbers::number_of;
-use bat_core::{Bat, Cells};
+use bat_core::{Bat, Cells, CellsBuilder};
 use cell_core::{Cell, Memory, Steps};
 use std::alloc::Global;
 use std::collections::HashMap;
@@ -32,12 +32,12 @@ fn number_cells(alloc: Global, cells: &Cells) -> Result<Cells, Memory>
 {
     let mut numbers = HashMap::new(alloc);
     let mut count = 0;
-    let mut out = Cells::new(alloc);
+    let mut out = CellsBuilder::new(alloc);
     for i in 0..cells.len() {
         let number = number_of(&mut numbers, &mut count, cells.get(i).share()?)?;
         out.push(alloc, Cell::Oid(number))?;
     }
-    Ok(out)
+    out.finish()
 }
 
 /// By position, up to the shorter: each head of `g` beside the number of the pair of tails, an oid.
@@ -64,13 +64,13 @@ fn number_pairs(alloc: Global, left: &Cells, right: &Cells) -> Result<Cells, Mem
 {
     let mut numbers = HashMap::new(alloc);
     let mut count = 0;
-    let mut out = Cells::new(alloc);
+    let mut out = CellsBuilder::new(alloc);
     for i in 0..left.len().min(right.len()) {
         let pair = (left.get(i).share()?, right.get(i).share()?);
         let number = number_of(&mut numbers, &mut count, pair)?;
         out.push(alloc, Cell::Oid(number))?;
     }
-    Ok(out)
+    out.finish()
 }
 
 /// The first heads beside these tails, of which there may be fewer than heads.
@@ -78,23 +78,8 @@ fn beside_heads(alloc: Global, g: &Bat, tails: Cells) -> Result<Bat, Memory>
     requires { length tails ≤ length g.now }
     ensures { IfOk result (λ out. out ≡ zip (heads_of g.now) tails) }
 {
-    if tails.len() == g.len() {
-        return g.with_tails(alloc, tails);
-    }
-    let heads = first_cells(alloc, g.heads(), tails.len())?;
+    let heads = g.heads().front(alloc, tails.len())?;
     Ok(Bat::from_columns(heads, tails))
-}
-
-/// The first cells of a column.
-fn first_cells(alloc: Global, cells: &Cells, count: u64) -> Result<Cells, Memory>
-    requires { count ≤ length cells.now }
-    ensures { IfOk result (λ out. out ≡ take count cells.now) }
-{
-    let mut out = Cells::new(alloc);
-    for i in 0..count {
-        out.push(alloc, cells.get(i).share()?)?;
-    }
-    Ok(out)
 }
 
 /// The oid of each group beside the head of its first pair. The counter rises by the pairs of `g`

@@ -1,7 +1,8 @@
 use Rattle.std.proofs.Common.{◌++◌, ap, ◌∙◌, arith}
 use Rattle.std.specs.List.{zip}
 use Rattle.cell_core.specs.Relations.{selected, is_within}
-use Rattle.bat_algebra.proofs.RunLemmas.{run_within, filter_run}
+use Rattle.bat_core.proofs.RunLemmas.{run_within}
+use Rattle.bat_algebra.proofs.RunLemmas.{filter_run}
 use Rattle.bat_algebra.proofs.range.select_pairs.Goals as goal
 
 pub loop-from-preserved : goal.loop-from-preserved

@@ -1,27 +1,24 @@
-use Rattle.std.proofs.Common.{◌+◌, ◌∷◌, [], length, Some, sym, ap, ◌∙◌, arith}
-use Rattle.std.proofs.lemmas.List.{length_push}
-use Rattle.cell_core.specs.Pairs.{cell_at}
-use Rattle.cell_core.specs.Calc.{over_two}
+use Rattle.std.proofs.Common.{◌≡◌, ℕ, List, Option, Some, length, subst, sym, ap, ◌∙◌, arith}
+use Rattle.std.specs.Result.{IfOk}
+use Rattle.std.proofs.lemmas.Slice.Zip.{length-zip}
+use Rattle.cell_core.specs.declared.cell.Cell.{Cell}
 use Rattle.bat_core.specs.Objects.{value_of}
-use Rattle.bat_calc.specs.Functions.{function_of}
-use Rattle.bat_calc.proofs.RowLemmas.{all_more, none_at}
+use Rattle.bat_calc.proofs.RowLemmas.{rows_columns, length-column}
 use Rattle.bat_calc.proofs.calculate.cells_over.Goals as goal
 
-pub returns-in-None-clause-overflow : goal.returns-in-None-clause-overflow
-returns-in-None-clause-overflow c =
-    λ _. none_at (over_two (function_of c.args.function)) (value_of c.args.x.now ∷ value_of c.args.y.now ∷ []) c.loop-i.i c.args.count (omega arith)
-    (ap (λ a. function_of c.args.function a (cell_at c.loop-i.i (value_of c.args.y.now))) (sym c.cell_of.ensures)
-    ∙ ap (λ b. function_of c.args.function c.cell_of.result.now b) (sym c.cell_of-in-loop-i.ensures)
-    ∙ sym c.apply.ensures ∙ c.in-None.is)
+pub returns-clause-value : goal.returns-clause-value
+returns-clause-value c =
+    let P : Option (List Cell) → Type 0 = λ o. IfOk c.cells_of.result (λ cells. o ≡ Some cells) in
+    subst P (sym (rows_columns c.args.function (value_of c.args.x.now) (value_of c.args.y.now) c.args.count c.in_ok-left.left c.in_ok-right.right _ c.in_ok-left.ensures c.in_ok-right.ensures c.from_columns-rows.ensures)) c.cells_of.ensures.value
 
-pub loop-i-preserved : goal.loop-i-preserved
-loop-i-preserved c =
-    record {
-      value =
-          all_more (over_two (function_of c.args.function)) (value_of c.args.x.now ∷ value_of c.args.y.now ∷ []) c.loop-i.i c.loop-i.cells c.in-Some.cell c.loop-i.invariant.value
-          (ap (λ a. function_of c.args.function a (cell_at c.loop-i.i (value_of c.args.y.now))) (sym c.cell_of.ensures)
-          ∙ ap (λ b. function_of c.args.function c.cell_of.result.now b) (sym c.cell_of-in-loop-i.ensures)
-          ∙ sym c.apply.ensures ∙ c.in-Some.is)
-          ∙ ap Some (sym c.in_ok-push-in-Some.ensures.ok);
-      len = ap length c.in_ok-push-in-Some.ensures.ok ∙ length_push c.loop-i.cells c.in-Some.cell ∙ ap (λ n. n + 1) c.loop-i.invariant.len;
-    }
+pub returns-clause-overflow : goal.returns-clause-overflow
+returns-clause-overflow c = λ e.
+    rows_columns c.args.function (value_of c.args.x.now) (value_of c.args.y.now) c.args.count c.in_ok-left.left c.in_ok-right.right _ c.in_ok-left.ensures c.in_ok-right.ensures c.from_columns-rows.ensures
+    ∙ c.cells_of.ensures.overflow e
+
+pub returns-clause-len : goal.returns-clause-len
+returns-clause-len c =
+    let P : ℕ → Type 0 = λ n. IfOk c.cells_of.result (λ cells. length cells ≡ n) in
+    let left : length c.in_ok-left.left ≡ c.args.count = ap length c.in_ok-left.ensures ∙ length-column c.args.count (value_of c.args.x.now) in
+    let right : length c.in_ok-right.right ≡ c.args.count = ap length c.in_ok-right.ensures ∙ length-column c.args.count (value_of c.args.y.now) in
+    subst P (ap length c.from_columns-rows.ensures ∙ length-zip c.in_ok-left.left c.in_ok-right.right ∙ omega arith) c.cells_of.ensures.len

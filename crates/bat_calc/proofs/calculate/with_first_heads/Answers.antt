@@ -7,5 +7,5 @@ use Rattle.bat_calc.proofs.calculate.with_first_heads.Goals as goal
 pub returns : goal.returns
 returns c =
     c.from_columns.ensures
-    ∙ ap (λ heads. zip heads c.args.tails) (c.in_ok-heads.ensures ∙ ap (take c.len-count.result) c.heads.ensures ∙ ap (λ n. take n (heads_of c.args.first.now)) c.len-count.ensures.len)
+    ∙ ap (λ heads. zip heads c.args.tails) (c.in_ok-heads.ensures ∙ ap (take c.len.result) c.heads.ensures ∙ ap (λ n. take n (heads_of c.args.first.now)) c.len.ensures.len)
     ∙ zip_taken (heads_of c.args.first.now) c.args.tails

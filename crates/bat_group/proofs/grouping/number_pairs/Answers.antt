@@ -1,7 +1,9 @@
-use Rattle.std.proofs.Common.{◌≡◌, ◌<◌, length, take, map, get_or, sym, ap, subst, ◌∙◌, arith}
+use Rattle.std.proofs.Common.{◌≡◌, ◌<◌, List, length, take, map, get_or, sym, ap, subst, ◌∙◌, arith}
 use Rattle.std.specs.List.{zip}
+use Rattle.std.specs.Result.{IfOk}
 use Rattle.std.proofs.lemmas.List.{take_all}
 use Rattle.std.proofs.lemmas.Slice.Zip.{length-zip}
+use Rattle.cell_core.specs.declared.cell.Cell.{Cell}
 use Rattle.cell_core.specs.declared.cell.Cell.TheVariants.{Oid}
 use Rattle.cell_core.specs.Groups.{group_number, same_pair}
 use Rattle.bat_group.specs.Numbers.{AreNumbered}
@@ -31,4 +33,5 @@ loop-i-preserved c =
 pub returns : goal.returns
 returns c =
     let all : take c.loop-i.i (zip c.args.left.now c.args.right.now) ≡ zip c.args.left.now c.args.right.now = take_all _ _ (omega (arith, length-zip c.args.left.now c.args.right.now)) in
-    c.loop-i.invariant.so_far ∙ ap (map (λ p. Oid (group_number same_pair (zip c.args.left.now c.args.right.now) p))) all
+    let P : List Cell → Type 0 = λ wanted. IfOk c.finish.result (λ out. out ≡ wanted) in
+    subst P (c.loop-i.invariant.so_far ∙ ap (map (λ p. Oid (group_number same_pair (zip c.args.left.now c.args.right.now) p))) all) c.finish.ensures

@@ -1,0 +1,9 @@
+use Rattle.std.proofs.Common.{◌≡◌, ◌++◌, take, Some}
+use Rattle.std.specs.List.{zip}
+use Rattle.cell_core.specs.Pairs.{Pairs}
+use Rattle.bat_calc.specs.Functions.{applied}
+use Rattle.bat_calc.proofs.calculate.add_cells.Given as goal
+
+-- the cells of the pairs so far are added
+abbrev pub invariant-loop-i : goal.invariant-loop-i
+invariant-loop-i l = (before : Pairs) → applied l.function before ≡ Some l.initial.cells → applied l.function (before ++ take l.i (zip l.left l.right)) ≡ Some l.cells
