@@ -1,8 +1,8 @@
 -- Parts one after the other, and parts between operators.
-use Rattle.std.proofs.Common.{◌≡◌, ℕ, zero, suc, ◌+◌, ◌-◌, ◌<◌, ◌≤◌, arith, List, [], ◌∷◌, Bool, true, false, cond, Option, Some, None, refl, ap, sym, ◌∙◌, ◌⊎◌, inl, inr}
+use Rattle.std.proofs.Common.{◌≡◌, ℕ, zero, suc, ◌+◌, ◌-◌, ◌<◌, ◌≤◌, arith, List, [], ◌∷◌, length, Bool, true, false, cond, Option, Some, None, refl, ap, sym, ◌∙◌, ◌⊎◌, inl, inr}
 use Rattle.std.specs.Prelude.{Err, IsErrOf}
 use Rattle.sql_tree.specs.declared.token.Token.{Token}
-use Rattle.sql_reader.specs.Chain.{Parser, first_token, after_first, then_read, given, chain}
+use Rattle.sql_reader.specs.Chain.{Found, Parser, first_token, after_first, then_read, or_read, given, chain}
 
 -- what is found, each of the two readers found
 pub then_found : {X Y : Type 0} (o : Option X) (f : X → Option Y) (y : Y) → then_read o f ≡ Some y → (x : X) × (o ≡ Some x) × (f x ≡ Some y)
@@ -17,6 +17,27 @@ then_told o x f y first second = ap (λ o. then_read o f) first ∙ second
 pub then_none : {X Y : Type 0} (o : Option X) (f : X → Option Y) → o ≡ None → then_read o f ≡ None
 then_none o f first = ap (λ o. then_read o f) first
 
+-- a choice tells what is told of the case that holds
+pub given_told : {X Y : Type 0} (o : Option X) (x : X) (none : Y) (some : X → Y) (y : Y) → o ≡ Some x → some x ≡ y → given o none some ≡ y
+given_told o x none some y first second = ap (λ o. given o none some) first ∙ second
+
+pub given_none : {X Y : Type 0} (o : Option X) (none : Y) (some : X → Y) (y : Y) → o ≡ None → none ≡ y → given o none some ≡ y
+given_none o none some y first second = ap (λ o. given o none some) first ∙ second
+
+-- what the first of two readers tells, and what the second does where the first tells nothing
+pub or_told : {X : Type 0} (first second : Option X) (x : X) → first ≡ Some x → or_read first second ≡ Some x
+or_told first second x h = ap (λ o. or_read o second) h
+
+pub or_none : {X : Type 0} (first second : Option X) (y : Option X) → first ≡ None → second ≡ y → or_read first second ≡ y
+or_none first second y h k = ap (λ o. or_read o second) h ∙ k
+
+-- the branch of a test that is told
+pub branch_false : {X : Type 0} (b : Bool) (x y z : X) → b ≡ false → y ≡ z → cond b x y ≡ z
+branch_false b x y z h k = ap (λ b. cond b x y) h ∙ k
+
+pub branch_true : {X : Type 0} (b : Bool) (x y z : X) → b ≡ true → x ≡ z → cond b x y ≡ z
+branch_true b x y z h k = ap (λ b. cond b x y) h ∙ k
+
 -- a choice finds what one of the two finds
 pub given_found : {X Y : Type 0} (o : Option X) (none : Y) (some : X → Y) (y : Y) → given o none some ≡ y → ((o ≡ None) × (none ≡ y)) ⊎ ((x : X) × (o ≡ Some x) × (some x ≡ y))
 given_found None none some y h = inl (refl, h)
@@ -26,6 +47,16 @@ given_found (Some x) none some y h = inr (x, refl, h)
 pub cond_found : {X : Type 0} (b : Bool) (x y : X) → cond b (Some x) None ≡ Some y → (b ≡ true) × (x ≡ y)
 cond_found true x y h = (refl, cc)
 cond_found false x y h = cc
+
+-- where a test has to hold before a reader, it holds and the reader found it
+pub guard_found : {X : Type 0} (b : Bool) (o : Option X) (y : X) → cond b o None ≡ Some y → (b ≡ true) × (o ≡ Some y)
+guard_found true o y h = (refl, h)
+guard_found false o y h = cc
+
+-- what is found, the first choice or the second found
+pub or_found : {X : Type 0} (first second : Option X) (y : X) → or_read first second ≡ Some y → (first ≡ Some y) ⊎ (second ≡ Some y)
+or_found None second y h = inr h
+or_found (Some x) second y h = inl h
 
 -- one error is another's, whatever the values are
 pub same_err : {T U E : Type 0} (e f : E) → IsErrOf {T = T} {E = E} (Err e) f → IsErrOf {T = U} {E = E} (Err e) f
@@ -46,6 +77,20 @@ pair_found x a y b h = (ap (first_or x) h, ap (second_or y) h)
 
 pub value_found : {X : Type 0} (x y : X) → Some x ≡ Some y → x ≡ y
 value_found x y h = cc
+
+-- what is found is all of the tokens where none is left, and nothing is all of them where some are left
+-- or nothing is found
+pub all_found : {X : Type 0} (o : Found X) (x : X) (rest : List Token) → o ≡ Some (x, rest) → rest ≡ [] → o ≡ Some (x, [])
+all_found o x rest h none = h ∙ ap (λ (r : List Token). let f : Found _ = Some (x, r) in f) none
+
+pub left_over : {X : Type 0} (o : Found X) (x : X) (rest : List Token) → o ≡ Some (x, rest) → 0 < length rest → (y : X) → o ≡ Some (y, []) → ⊥
+left_over o x rest h some y k =
+    let parts = pair_found x y rest [] (sym h ∙ k) in
+    let none : length rest ≡ 0 = ap length parts.1 in
+    omega arith
+
+pub nothing_found : {X : Type 0} (o : Found X) → o ≡ None → (y : X) → o ≡ Some (y, []) → ⊥
+nothing_found o h y k = let both : ◌≡◌ {A = Found _} None (Some (y, [])) = sym h ∙ k in cc
 
 -- tokens with a first one are it and those behind it
 pub first_found : (ts : List Token) (t : Token) → first_token ts ≡ Some t → t ∷ after_first ts ≡ ts

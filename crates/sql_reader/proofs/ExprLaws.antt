@@ -1,12 +1,12 @@
 -- What is read, and only that, is derived.
-use Rattle.std.proofs.Common.{◌≡◌, ◌≢◌, ◌-◌, ℕ, zero, suc, ◌<◌, ◌≤◌, List, [], ◌∷◌, length, Some, None, ℤ, refl, ap, sym, ◌∙◌, subst, arith}
+use Rattle.std.proofs.Common.{◌≡◌, ◌≢◌, ◌-◌, ℕ, zero, suc, ◌<◌, List, [], length, Some, None, ℤ, refl, ap, sym, ◌∙◌, subst, arith}
 use Rattle.cell_core.specs.declared.cell.Cell.{Cell}
 use Rattle.cell_core.specs.declared.cell.Cell.TheVariants as cell
 use Rattle.sql_grammar.specs.Grammar.{write_expr, expr_of}
 use Rattle.sql_reader.specs.Chain.{Found, first_token, after_first}
 use Rattle.sql_reader.specs.Derived.{IsExpr, IsReadExpr, cell_with, expr_with, number_cell}
 use Rattle.sql_reader.specs.Reader.{expr, factor_at, factor}
-use Rattle.sql_reader.proofs.ChainLemmas.{pair_found}
+use Rattle.sql_reader.proofs.ChainLemmas.{pair_found, all_found}
 use Rattle.sql_reader.proofs.ExprTold.{expr_told, EndsExpr}
 use Rattle.sql_reader.proofs.ExprFound.{expr_found, factor_found}
 use Rattle.sql_tree.specs.Tree.{ExprTree}
@@ -29,7 +29,7 @@ same_cell (cell.Int n) = refl
 same_cell other = refl
 
 -- the numbers of a tree are its own
-same_tree : (e : ExprTree) → expr_with cell.Int e ≡ e
+pub same_tree : (e : ExprTree) → expr_with cell.Int e ≡ e
 same_tree (Literal literal) = ap Literal (same_cell literal)
 same_tree (ColumnOf column) = refl
 same_tree (Operator op left right) = ap (λ l. Operator op l (expr_with cell.Int right)) (same_tree left) ∙ ap (λ r. Operator op left r) (same_tree right)
@@ -52,9 +52,8 @@ pub none_found : (ts : List Token) → expr (factor number_cell (length ts)) ts 
 none_found ts h e is = let told : ◌≡◌ {A = Found ExprTree} None (Some (expr_with number_cell e, [])) = sym h ∙ derived_told number_cell ts e is in cc
 
 -- where no token is left what was read is derived
-pub whole_found : (ts : List Token) (n : ℕ) (tree : ExprTree) (rest : List Token) → expr (factor number_cell n) ts ≡ Some (tree, rest) → length rest ≤ 0 → IsReadExpr ts tree
-whole_found ts n tree [] h none = read_found ts n tree h
-whole_found ts n tree (t ∷ rest) h none = absurd (omega arith)
+pub whole_found : (ts : List Token) (n : ℕ) (tree : ExprTree) (rest : List Token) → expr (factor number_cell n) ts ≡ Some (tree, rest) → rest ≡ [] → IsReadExpr ts tree
+whole_found ts n tree rest h none = read_found ts n tree (all_found _ tree rest h none)
 
 -- nor where tokens are left
 pub left_found : (ts : List Token) (tree : ExprTree) (rest : List Token) → expr (factor number_cell (length ts)) ts ≡ Some (tree, rest) → 0 < length rest → (e : ExprTree) → IsExpr ts e → ⊥

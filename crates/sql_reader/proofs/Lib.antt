@@ -5,3 +5,7 @@ mod TokenLemmas
 mod ExprTold
 mod ExprFound
 mod ExprLaws
+mod CondLaws
+mod CondFound
+mod OperandTold
+mod CondTold

@@ -1,14 +1,20 @@
 -- The tests of tokens and the tokens that they tell.
 use Rattle.std.proofs.Common.{◌≡◌, ℕ, List, ◌∷◌, true, Some, refl, ap, sym, ◌∙◌}
+use denote.Enum.Bare.{same_true}
 use Rattle.sql_grammar.specs.Grammar.{sign, SignRule, write_sign, sign_op, NameRule, write_name, name_of}
 use Rattle.sql_grammar.specs.Grammar.SignRule.{PlusSign, MinusSign}
 use Rattle.sql_grammar.specs.Grammar.NameRule.{BareName, QuotedName}
 use Rattle.sql_reader.specs.Chain.{first_token, after_first}
+use Rattle.sql_reader.specs.Parts.{is_key, is_symbol, comma_in}
 use Rattle.sql_reader.specs.Reader.{sign_in, star_in, is_dot, is_close, digits_in, text_in, name_in, closed}
 use Rattle.sql_reader.proofs.ChainLemmas.{cond_found, pair_found, value_found}
+use Rattle.sql_tree.specs.contracts.token.Keyword.{the_type as the_keywords}
+use Rattle.sql_tree.specs.contracts.token.Symbol.{the_type as the_symbols}
+use Rattle.sql_tree.specs.declared.token.Keyword.{Keyword}
+use Rattle.sql_tree.specs.declared.token.Symbol.{Symbol}
 use Rattle.sql_tree.specs.declared.token.Symbol.TheVariants as symbol
 use Rattle.sql_tree.specs.declared.token.Token.{Token}
-use Rattle.sql_tree.specs.declared.token.Token.TheVariants.{Name, Quoted, Text, Digits}
+use Rattle.sql_tree.specs.declared.token.Token.TheVariants.{Name, Quoted, Text, Digits, Key}
 use Rattle.sql_tree.specs.declared.token.Token.TheVariants as token
 use Rattle.sql_tree.specs.declared.tree.ArithOp.{ArithOp}
 use Rattle.sql_tree.specs.declared.tree.ArithOp.TheVariants as arith
@@ -46,6 +52,20 @@ pub name_found : (ts : List Token) (name : List ℕ) → name_in (first_token ts
 name_found (Name found ∷ ts) name h = (BareName found, refl, value_found _ _ h)
 name_found (Quoted found ∷ ts) name h = (QuotedName found, refl, value_found _ _ h)
 name_found other name h = cc
+
+pub key_found : (word : Keyword) (ts : List Token) → is_key word (first_token ts) ≡ true → Key word ∷ after_first ts ≡ ts
+unfolding is_key
+key_found word (Key found ∷ ts) h = ap (λ w. Key w ∷ ts) (sym (same_true the_keywords tt found word h))
+key_found word other h = cc
+
+pub symbol_found : (symbol : Symbol) (ts : List Token) → is_symbol symbol (first_token ts) ≡ true → sign symbol ∷ after_first ts ≡ ts
+unfolding is_symbol
+symbol_found symbol (token.Symbol found ∷ ts) h = ap (λ s. sign s ∷ ts) (sym (same_true the_symbols tt found symbol h))
+symbol_found symbol other h = cc
+
+pub comma_found : (ts : List Token) (s : Symbol) → comma_in (first_token ts) ≡ Some s → sign symbol.Comma ∷ after_first ts ≡ ts
+comma_found (token.Symbol symbol.Comma ∷ ts) s h = refl
+comma_found other s h = cc
 
 -- what is closed stands before `)`
 pub closed_found : {X : Type 0} (found : X × List Token) (x : X) (rest : List Token) → closed found ≡ Some (x, rest) → (found.0 ≡ x) × (sign symbol.Close ∷ rest ≡ found.1)

@@ -1,3 +1,5 @@
 pub mod Derived
 pub mod Chain
+pub mod Parts
 pub mod Reader
+pub mod CondReader

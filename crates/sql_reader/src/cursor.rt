@@ -1,16 +1,18 @@
-ghost use Rattle.std.specs.Prelude.{◌≡◌, length, option_copied, Some, None, IfSome, IfNone, OnOk, IsErrOf, true, false};
+ghost use Rattle.std.specs.Prelude.{◌≡◌, ◌<◌, [], length, option_copied, Some, None, IfSome, IfNone, OnOk, IsErrOf, true, false};
 ghost use Rattle.sql_grammar.specs.Reads.{tokens_in};
 ghost use Rattle.sql_reader.specs.Chain.{first_token, after_first};
+ghost use Rattle.sql_reader.specs.CondReader as conditions;
+ghost use Rattle.sql_reader.specs.Parts as parts;
 ghost use Rattle.sql_reader.specs.Reader as reader;
 
 use crate::reading::ReadError;
 use cell_core::Word;
-use sql_tree::{ArithOp, Placed, Symbol, Token};
+use sql_tree::{AggOp, ArithOp, CmpOp, Keyword, Placed, Symbol, Token};
 
 /// The tokens that are still to be read.
 #[derive(Drop)]
 pub(crate) struct Cursor<'a> {
-    rest: &'a [Placed],
+    pub(crate) rest: &'a [Placed],
 }
 
 impl<'a> Cursor<'a> {
@@ -55,6 +57,45 @@ impl<'a> Cursor<'a> {
         let token = self.peek();
         self.advance();
         token
+    }
+
+    /// Takes a keyword that has to stand here.
+    pub(crate) fn key(&mut self, word: Keyword) -> Result<(), ReadError>
+        ensures rest { tokens_in self.new.rest.now ≡ after_first (tokens_in self.old.rest.now) }
+        ensures found { OnOk result (parts.is_key word (first_token (tokens_in self.old.rest.now)) ≡ true) }
+        ensures none { IsErrOf result ReadError.Syntax →
+            parts.is_key word (first_token (tokens_in self.old.rest.now)) ≡ false }
+    {
+        if is_key(self.next(), word) {
+            Ok(())
+        } else {
+            Err(ReadError::Syntax)
+        }
+    }
+
+    /// Takes a symbol that has to stand here.
+    pub(crate) fn symbol(&mut self, symbol: Symbol) -> Result<(), ReadError>
+        ensures rest { tokens_in self.new.rest.now ≡ after_first (tokens_in self.old.rest.now) }
+        ensures found { OnOk result (parts.is_symbol symbol (first_token (tokens_in self.old.rest.now)) ≡ true) }
+        ensures none { IsErrOf result ReadError.Syntax →
+            parts.is_symbol symbol (first_token (tokens_in self.old.rest.now)) ≡ false }
+    {
+        if is_symbol(self.next(), symbol) {
+            Ok(())
+        } else {
+            Err(ReadError::Syntax)
+        }
+    }
+
+    /// Passes only where no token is left.
+    pub(crate) fn end(&self) -> Result<(), ReadError>
+        ensures found { OnOk result (tokens_in self.now.rest.now ≡ []) }
+        ensures none { IsErrOf result ReadError.Syntax → 0 < length (tokens_in self.now.rest.now) }
+    {
+        match self.rest {
+            [] => Ok(()),
+            _ => Err(ReadError::Syntax),
+        }
     }
 
     /// Takes a `)` that has to stand here.
@@ -127,5 +168,96 @@ pub(crate) fn name<'a>(token: Option<&'a Token>) -> Option<&'a Word>
         Some(Token::Name(name)) => Some(name),
         Some(Token::Quoted(name)) => Some(name),
         _ => None,
+    }
+}
+
+/// Whether the token is the keyword.
+#[tactic(auto, unfolding(crate::specs::Parts::is_key))]
+pub(crate) fn is_key(token: Option<&Token>, word: Keyword) -> bool
+    ensures { result ≡ parts.is_key word (option_copied token.entry) }
+{
+    match token {
+        Some(Token::Key(found)) => *found == word,
+        _ => false,
+    }
+}
+
+/// Whether the token is the symbol.
+#[tactic(auto, unfolding(crate::specs::Parts::is_symbol))]
+fn is_symbol(token: Option<&Token>, symbol: Symbol) -> bool
+    ensures { result ≡ parts.is_symbol symbol (option_copied token.entry) }
+{
+    match token {
+        Some(Token::Symbol(found)) => *found == symbol,
+        _ => false,
+    }
+}
+
+/// Whether the token is `,`.
+pub(crate) fn comma(token: Option<&Token>) -> Option<Symbol>
+    ensures { result ≡ parts.comma_in (option_copied token.entry) }
+{
+    match token {
+        Some(Token::Symbol(Symbol::Comma)) => Some(Symbol::Comma),
+        _ => None,
+    }
+}
+
+/// The keyword OR that the token is.
+pub(crate) fn or(token: Option<&Token>) -> Option<Keyword>
+    ensures { result ≡ conditions.or_in (option_copied token.entry) }
+{
+    match token {
+        Some(Token::Key(Keyword::Or)) => Some(Keyword::Or),
+        _ => None,
+    }
+}
+
+/// The keyword AND that the token is.
+pub(crate) fn and(token: Option<&Token>) -> Option<Keyword>
+    ensures { result ≡ conditions.and_in (option_copied token.entry) }
+{
+    match token {
+        Some(Token::Key(Keyword::And)) => Some(Keyword::And),
+        _ => None,
+    }
+}
+
+/// The comparison that the token is.
+pub(crate) fn comparison(token: Option<&Token>) -> Option<CmpOp>
+    ensures { result ≡ conditions.comparison_in (option_copied token.entry) }
+{
+    match token {
+        Some(Token::Symbol(Symbol::Equal)) => Some(CmpOp::Eq),
+        Some(Token::Symbol(Symbol::NotEqual)) => Some(CmpOp::Ne),
+        Some(Token::Symbol(Symbol::BangEqual)) => Some(CmpOp::Ne),
+        Some(Token::Symbol(Symbol::Less)) => Some(CmpOp::Lt),
+        Some(Token::Symbol(Symbol::LessEqual)) => Some(CmpOp::Le),
+        Some(Token::Symbol(Symbol::Greater)) => Some(CmpOp::Gt),
+        Some(Token::Symbol(Symbol::GreaterEqual)) => Some(CmpOp::Ge),
+        _ => None,
+    }
+}
+
+/// The aggregate that the token names.
+pub(crate) fn aggregate_word(token: Option<&Token>) -> Option<AggOp>
+    ensures { result ≡ conditions.aggregate_in (option_copied token.entry) }
+{
+    match token {
+        Some(Token::Key(Keyword::Count)) => Some(AggOp::Count),
+        Some(Token::Key(Keyword::Sum)) => Some(AggOp::Sum),
+        Some(Token::Key(Keyword::Min)) => Some(AggOp::Min),
+        Some(Token::Key(Keyword::Max)) => Some(AggOp::Max),
+        _ => None,
+    }
+}
+
+/// Whether the token is the `*` of `COUNT(*)`.
+pub(crate) fn is_all(f: AggOp, token: Option<&Token>) -> bool
+    ensures { result ≡ conditions.is_all f (option_copied token.entry) }
+{
+    match (f, token) {
+        (AggOp::Count, Some(Token::Symbol(Symbol::Star))) => true,
+        _ => false,
     }
 }

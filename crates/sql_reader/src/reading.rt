@@ -1,12 +1,14 @@
-ghost use Rattle.std.specs.Prelude.{◌≡◌, ℤ, IfOk, IsErrOf};
+ghost use Rattle.std.specs.Prelude.{◌≡◌, ℤ, [], Some, true, false, IfOk, IsErrOf};
 ghost use Rattle.sql_grammar.specs.Reads.{tokens_in};
-ghost use Rattle.sql_tree.specs.Tree.{ExprTree, expr_tree};
-ghost use Rattle.sql_reader.specs.Derived.{IsExpr, IsReadExpr};
+ghost use Rattle.sql_tree.specs.Tree.{ExprTree, CondTree, expr_tree, cond_tree};
+ghost use Rattle.sql_reader.specs.CondReader as reader;
+ghost use Rattle.sql_reader.specs.Derived.{IsExpr, IsReadExpr, IsCond, IsHaving, IsReadCond, number_cell};
 
+use crate::conditions::whole_cond;
 use crate::cursor::Cursor;
 use crate::expressions::expr;
 use cell_core::Memory;
-use sql_tree::{Expr, Placed};
+use sql_tree::{Cond, Expr, Placed};
 use std::alloc::{AllocFailed, Global};
 
 /// Why tokens are not read.
@@ -49,13 +51,43 @@ pub fn read_expr(alloc: Global, tokens: &[Placed]) -> Result<Expr, ReadError>
 {
     let mut rest = Cursor::new(tokens);
     let levels = rest.len();
-    match expr(alloc, &mut rest, levels) {
-        Ok(read) => {
-            if rest.len() > 0 {
-                return Err(ReadError::Syntax);
-            }
-            Ok(read)
-        }
-        Err(e) => Err(e),
-    }
+    let read = expr(alloc, &mut rest, levels)?;
+    rest.end()?;
+    Ok(read)
+}
+
+/// The condition of WHERE or ON that the tokens are, all of them.
+///
+/// Its numbers stand as those of `read_expr` do.
+pub fn read_cond(alloc: Global, tokens: &[Placed]) -> Result<Cond, ReadError>
+    ensures cond { IfOk result (λ c. IsReadCond (IsCond (tokens_in tokens.now)) (cond_tree c)) }
+    ensures none { IsErrOf result ReadError.Syntax →
+        (c : CondTree) → IsCond (tokens_in tokens.now) c → ⊥ }
+{
+    all_cond(alloc, tokens, false)
+}
+
+/// The condition of HAVING that the tokens are, all of them: its operands may be aggregates.
+///
+/// Its numbers stand as those of `read_expr` do.
+pub fn read_having(alloc: Global, tokens: &[Placed]) -> Result<Cond, ReadError>
+    ensures cond { IfOk result (λ c. IsReadCond (IsHaving (tokens_in tokens.now)) (cond_tree c)) }
+    ensures none { IsErrOf result ReadError.Syntax →
+        (c : CondTree) → IsHaving (tokens_in tokens.now) c → ⊥ }
+{
+    all_cond(alloc, tokens, true)
+}
+
+/// The condition that the tokens are, all of them.
+fn all_cond(alloc: Global, tokens: &[Placed], aggregates: bool) -> Result<Cond, ReadError>
+    ensures found { IfOk result (λ c. reader.whole_cond (reader.operand number_cell aggregates)
+        (tokens_in tokens.now) ≡ Some (cond_tree c, [])) }
+    ensures none { IsErrOf result ReadError.Syntax →
+        (c : CondTree) → reader.whole_cond (reader.operand number_cell aggregates)
+        (tokens_in tokens.now) ≡ Some (c, []) → ⊥ }
+{
+    let mut rest = Cursor::new(tokens);
+    let read = whole_cond(alloc, &mut rest, aggregates)?;
+    rest.end()?;
+    Ok(read)
 }

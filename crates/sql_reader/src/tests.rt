@@ -1,6 +1,6 @@
-use crate::{ReadError, one_expr, read_expr};
+use crate::{ReadError, one_cond, one_expr, read_cond, read_expr, read_having};
 use cell_core::{Cell, Memory, word_of};
-use sql_tree::{Expr, Placed, Symbol, Token};
+use sql_tree::{CmpOp, Cond, Expr, Keyword, Placed, Symbol, Token};
 use std::alloc::Global;
 use std::test::Fail;
 
@@ -48,4 +48,79 @@ fn numbers_are_read(rt: HostRuntime) -> Result<(), Fail> {
 #[test]
 fn expressions_are_one() {
     one_expr();
+}
+
+/// `NOT ( a = 5 OR a IN ( 5 ) )`, without the `)` where it is left open.
+fn denied(alloc: Global, open: bool) -> Result<Vec<Placed>, Memory> {
+    let mut tokens = Vec::new(alloc);
+    push(&mut tokens, Token::Key(Keyword::Not))?;
+    push(&mut tokens, Token::Symbol(Symbol::Open))?;
+    push(&mut tokens, Token::Name(word_of(alloc, "a")?))?;
+    push(&mut tokens, Token::Symbol(Symbol::Equal))?;
+    push(&mut tokens, Token::Digits(word_of(alloc, "5")?))?;
+    push(&mut tokens, Token::Key(Keyword::Or))?;
+    push(&mut tokens, Token::Name(word_of(alloc, "a")?))?;
+    push(&mut tokens, Token::Key(Keyword::In))?;
+    push(&mut tokens, Token::Symbol(Symbol::Open))?;
+    push(&mut tokens, Token::Digits(word_of(alloc, "5")?))?;
+    push(&mut tokens, Token::Symbol(Symbol::Close))?;
+    if !open {
+        push(&mut tokens, Token::Symbol(Symbol::Close))?;
+    }
+    Ok(tokens)
+}
+
+fn push(tokens: &mut Vec<Placed>, token: Token) -> Result<(), Memory> {
+    Ok(tokens.push(Placed {
+        token,
+        start: 0,
+        end: 0,
+    })?)
+}
+
+#[test]
+fn conditions_in_parentheses_are_read(rt: HostRuntime) -> Result<(), Fail> {
+    let alloc = rt.alloc();
+    let Cond::Not(inner) = read_cond(alloc, &denied(alloc, false)?)? else {
+        return Err(Fail::from("no denial"));
+    };
+    assert!(rt; matches!(&*inner, Cond::Or(_, _)));
+    assert!(rt;
+        matches!(
+            read_cond(alloc, &denied(alloc, true)?),
+            Err(ReadError::Syntax)
+        )
+    );
+    Ok(())
+}
+
+/// `COUNT ( * ) > 5`
+fn counted(alloc: Global) -> Result<Vec<Placed>, Memory> {
+    let mut tokens = Vec::new(alloc);
+    push(&mut tokens, Token::Key(Keyword::Count))?;
+    push(&mut tokens, Token::Symbol(Symbol::Open))?;
+    push(&mut tokens, Token::Symbol(Symbol::Star))?;
+    push(&mut tokens, Token::Symbol(Symbol::Close))?;
+    push(&mut tokens, Token::Symbol(Symbol::Greater))?;
+    push(&mut tokens, Token::Digits(word_of(alloc, "5")?))?;
+    Ok(tokens)
+}
+
+#[test]
+fn aggregates_are_read_in_having_alone(rt: HostRuntime) -> Result<(), Fail> {
+    let alloc = rt.alloc();
+    let tokens = counted(alloc)?;
+    assert!(rt;
+        matches!(
+            read_having(alloc, &tokens)?,
+            Cond::Cmp { op: CmpOp::Gt, .. }
+        )
+    );
+    assert!(rt; matches!(read_cond(alloc, &tokens), Err(ReadError::Syntax)));
+    Ok(())
+}
+
+#[test]
+fn conditions_are_one() {
+    one_cond();
 }

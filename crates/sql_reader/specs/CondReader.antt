@@ -1,0 +1,160 @@
+-- What the functions that read aggregates and conditions compute, on plain lists of tokens: a definition
+-- for each. The public clauses don't speak of these.
+use Rattle.std.specs.Prelude.{ℕ, zero, suc, List, length, Bool, true, false, if◌then◌else◌, Option, Some, None, ℤ}
+use Rattle.cell_core.specs.declared.cell.Cell.{Cell}
+use Rattle.sql_reader.specs.Chain.{Found, Parser, first_token, after_first, then_read, or_read, given, chain}
+use Rattle.sql_reader.specs.Parts.{is_key, behind_key, behind_symbol, comma_in}
+use Rattle.sql_reader.specs.Reader.{expr, factor, closed}
+use Rattle.sql_tree.specs.Tree.{ExprTree, CondTree}
+use Rattle.sql_tree.specs.Tree.ExprTree.{AggregateAll, Aggregate}
+use Rattle.sql_tree.specs.Tree.CondTree.{Compare, Within, Negation, Both, Either}
+use Rattle.sql_tree.specs.declared.token.Keyword.{Keyword}
+use Rattle.sql_tree.specs.declared.token.Keyword.TheVariants as word
+use Rattle.sql_tree.specs.declared.token.Symbol.{Symbol}
+use Rattle.sql_tree.specs.declared.token.Symbol.TheVariants as symbol
+use Rattle.sql_tree.specs.declared.token.Token.{Token}
+use Rattle.sql_tree.specs.declared.token.Token.TheVariants.{Key}
+use Rattle.sql_tree.specs.declared.token.Token.TheVariants as token
+use Rattle.sql_tree.specs.declared.tree.AggOp.{AggOp}
+use Rattle.sql_tree.specs.declared.tree.AggOp.TheVariants as aggregate
+use Rattle.sql_tree.specs.declared.tree.CmpOp.{CmpOp}
+use Rattle.sql_tree.specs.declared.tree.CmpOp.TheVariants as compare
+
+-- ## Tokens
+
+-- an aggregate
+abbrev pub aggregate_in : Option Token → Option AggOp
+aggregate_in (Some (Key word.Count)) = Some aggregate.Count
+aggregate_in (Some (Key word.Sum)) = Some aggregate.Sum
+aggregate_in (Some (Key word.Min)) = Some aggregate.Min
+aggregate_in (Some (Key word.Max)) = Some aggregate.Max
+aggregate_in other = None
+
+-- a comparison
+abbrev pub comparison_in : Option Token → Option CmpOp
+comparison_in (Some (token.Symbol symbol.Equal)) = Some compare.Eq
+comparison_in (Some (token.Symbol symbol.NotEqual)) = Some compare.Ne
+comparison_in (Some (token.Symbol symbol.BangEqual)) = Some compare.Ne
+comparison_in (Some (token.Symbol symbol.Less)) = Some compare.Lt
+comparison_in (Some (token.Symbol symbol.LessEqual)) = Some compare.Le
+comparison_in (Some (token.Symbol symbol.Greater)) = Some compare.Gt
+comparison_in (Some (token.Symbol symbol.GreaterEqual)) = Some compare.Ge
+comparison_in other = None
+
+-- OR
+abbrev pub or_in : Option Token → Option Keyword
+or_in (Some (Key word.Or)) = Some word.Or
+or_in other = None
+
+-- AND
+abbrev pub and_in : Option Token → Option Keyword
+and_in (Some (Key word.And)) = Some word.And
+and_in other = None
+
+-- `*` as the argument of COUNT
+abbrev pub is_all : AggOp → Option Token → Bool
+is_all aggregate.Count (Some (token.Symbol symbol.Star)) = true
+is_all f other = false
+
+-- ## Expressions and aggregates
+
+module _ (number : ℤ → Cell) where
+  -- an expression, with as many levels as there are tokens
+  unfoldable pub whole_expr : Parser ExprTree
+  whole_expr tokens = expr (factor number (length tokens)) tokens
+
+  -- what follows an aggregate's word
+  unfoldable pub argument : AggOp → Parser ExprTree
+  argument f tokens =
+      if is_all f (first_token tokens) then closed (AggregateAll f, after_first tokens)
+      else then_read (whole_expr tokens) (λ of. closed (Aggregate f of.0, of.1))
+
+  -- expr | agg
+  unfoldable pub value : Parser ExprTree
+  value tokens = given (aggregate_in (first_token tokens)) (whole_expr tokens) (λ f. behind_symbol symbol.Open (argument f) (after_first tokens))
+
+  -- an expression, or an aggregate too
+  abbrev pub operand : Bool → Parser ExprTree
+  operand true = value
+  operand false = whole_expr
+
+-- ## Conditions over operands
+
+-- a condition behind AND or OR
+abbrev pub both_of : Keyword → CondTree → CondTree → CondTree
+both_of and left right = Both left right
+
+abbrev pub either_of : Keyword → CondTree → CondTree → CondTree
+either_of or left right = Either left right
+
+-- a member of an IN list behind those before it
+abbrev pub or_member : ExprTree → Symbol → CondTree → ExprTree → CondTree
+or_member of s so_far member = Either so_far (Compare compare.Eq of member)
+
+-- the denial of a condition that is found
+abbrev pub denied : CondTree × List Token → Found CondTree
+denied found = Some (Negation found.0, found.1)
+
+module _ (operand : Parser ExprTree) where
+  -- what follows `e BETWEEN`
+  unfoldable pub within : ExprTree → Parser CondTree
+  within of tokens =
+      then_read (operand tokens) (λ low.
+      behind_key word.And (λ tokens. then_read (operand tokens) (λ high. Some (Within of low.0 high.0, high.1))) low.1)
+
+  -- the members of an IN list
+  unfoldable pub members : ExprTree → Parser CondTree
+  members of tokens = then_read (operand tokens) (λ first. chain comma_in (or_member of) operand (length first.1) (Compare compare.Eq of first.0) first.1)
+
+  -- what follows `e IN`
+  unfoldable pub listed : ExprTree → Parser CondTree
+  listed of = behind_symbol symbol.Open (λ tokens. then_read (members of tokens) closed)
+
+  -- BETWEEN or IN, behind its operand
+  abbrev pub range_at : ExprTree → Option Token → Parser CondTree
+  range_at of (Some (Key word.Between)) rest = within of rest
+  range_at of (Some (Key word.In)) rest = listed of rest
+  range_at of other rest = None
+
+  -- [NOT] BETWEEN or IN, behind its operand
+  unfoldable pub range : ExprTree → Parser CondTree
+  range of tokens =
+      if is_key word.Not (first_token tokens) then then_read (range_at of (first_token (after_first tokens)) (after_first (after_first tokens))) denied
+      else range_at of (first_token tokens) (after_first tokens)
+
+  -- what follows a test's first operand
+  unfoldable pub test_behind : ExprTree → Parser CondTree
+  test_behind of tokens =
+      given (comparison_in (first_token tokens)) (range of tokens) (λ op. then_read (operand (after_first tokens)) (λ right. Some (Compare op of right.0, right.1)))
+
+  -- test = e cmp e | e [NOT] BETWEEN e AND e | e [NOT] IN "(" e {"," e} ")"
+  unfoldable pub test : Parser CondTree
+  test tokens = then_read (operand tokens) (λ of. test_behind of.0 of.1)
+
+-- conj = unit {AND unit}
+unfoldable pub conjunction : Parser CondTree → Parser CondTree
+conjunction unit tokens = then_read (unit tokens) (λ first. chain and_in both_of unit (length first.1) first.0 first.1)
+
+-- cond = conj {OR conj}
+unfoldable pub condition : Parser CondTree → Parser CondTree
+condition unit tokens = then_read (conjunction unit tokens) (λ first. chain or_in either_of (conjunction unit) (length first.1) first.0 first.1)
+
+-- "(" cond ")"
+unfoldable pub enclosed : Parser CondTree → Parser CondTree
+enclosed unit = behind_symbol symbol.Open (λ tokens. then_read (condition unit tokens) closed)
+
+module _ (operand : Parser ExprTree) where
+  -- unit = NOT unit | test | "(" cond ")": what is no test may be a condition in parentheses
+  abbrev pub unit_of : Parser CondTree → Parser CondTree
+  unit_of inner tokens =
+      if is_key word.Not (first_token tokens) then then_read (inner (after_first tokens)) denied
+      else or_read (test operand tokens) (enclosed inner tokens)
+
+  -- a unit of so many levels at most
+  unfoldable pub unit : ℕ → Parser CondTree
+  unit zero tokens = None
+  unit (suc n) tokens = unit_of (unit n) tokens
+
+  -- a condition, with as many levels as there are tokens
+  unfoldable pub whole_cond : Parser CondTree
+  whole_cond tokens = condition (unit (length tokens)) tokens
