@@ -1,0 +1,4 @@
+pub mod ExampleTrees
+mod ExampleQueries
+mod ExampleChanges
+mod ExampleRefusals

@@ -1,0 +1,11 @@
+pub mod Refusals
+pub mod Sources
+pub mod References
+pub mod Kinds
+pub mod Values
+pub mod Truth
+pub mod Kept
+pub mod Rows
+pub mod Answer
+pub mod Effect
+pub mod Check

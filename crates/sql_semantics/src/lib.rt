@@ -1,0 +1,16 @@
+//! What SQL means: which statements are refused over a schema and why, what a query answers over a
+//! database, and what the other statements do to it.
+//!
+//! It stands on `cell_core` and on the trees of `sql_tree`. The definitions in `specs/` are what a
+//! reader has to believe: which column a name means (`Sources`, `References`), kinds (`Kinds`), values
+//! of expressions (`Values`), truth (`Truth`), the choices of rows that a condition keeps (`Kept`), the
+//! rows of a query (`Rows`), its answer (`Answer`), what a change does (`Effect`), and the refusals in
+//! their order (`Check`, `Refusals`). They know no plan, no column store and no order of work. The
+//! crates above compute them; here stand the types that those crates share.
+#![tactic(auto)]
+
+mod refusal;
+mod source;
+
+pub use refusal::{Refusal, Reply};
+pub use source::{Schema, Source};
