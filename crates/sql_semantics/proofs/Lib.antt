@@ -1,3 +1,5 @@
+pub mod FoundLemmas
+pub mod SmallLemmas
 pub mod ExampleTrees
 mod ExampleQueries
 mod ExampleChanges

@@ -17,7 +17,7 @@ use Rattle.sql_semantics.specs.declared.refusal.Refusal.{Refusal}
 use Rattle.sql_semantics.specs.declared.refusal.Refusal.TheVariants.{NoTable, TableExists, NoColumn, Ambiguous, KindsDiffer, WrongCount, NameTwice, NotGrouped}
 use Rattle.sql_semantics.specs.declared.source.Schema.{Schema}
 use Rattle.sql_semantics.specs.declared.source.Source.{Source}
-use Rattle.sql_semantics.specs.Sources.{NamedSource, source_named, from_name, from_sources, places, place_of, same_place}
+use Rattle.sql_semantics.specs.Sources.{NamedSource, source_named, from_name, from_sources, called_sources, places, place_of, same_place}
 use Rattle.sql_semantics.specs.References.{references, outer_references, exprs_of_cond, items_of, item_exprs, is_grouped}
 use Rattle.sql_semantics.specs.Kinds.{kind_of_expr, is_misfit, is_cond_misfit}
 use Rattle.sql_semantics.specs.Answer.{key_place}
@@ -216,5 +216,4 @@ called_in (UpdateTable table sets cond) = table ∷ []
 
 -- tables under the names that a statement calls them
 abbrev pub sources_called : StmtTree → List Source → List NamedSource
-sources_called stmt sources =
-    map (λ (at : List ℕ × Source). record { name = at.0; columns = at.1.columns }) (zip (called_in stmt) sources)
+sources_called stmt sources = called_sources (called_in stmt) sources

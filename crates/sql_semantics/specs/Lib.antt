@@ -1,5 +1,6 @@
 pub mod Refusals
 pub mod Sources
+pub mod Found
 pub mod References
 pub mod Kinds
 pub mod Values
@@ -9,3 +10,5 @@ pub mod Rows
 pub mod Answer
 pub mod Effect
 pub mod Check
+pub mod Small
+pub mod Typed

@@ -1,5 +1,5 @@
 -- The tables that a statement speaks of, by the names that it calls them, and the places of their columns.
-use Rattle.std.specs.Prelude.{ℕ, List, [], ◌∷◌, map, filter, flat_map, filter_map, find, Bool, ◌&&◌, ◌==◌, true, false, bytes_eq, Option, Some, None, unwrap_or}
+use Rattle.std.specs.Prelude.{ℕ, List, [], ◌∷◌, map, filter, flat_map, filter_map, find, zip, Bool, ◌&&◌, ◌==◌, true, false, bytes_eq, Option, Some, None, unwrap_or}
 use Rattle.std.specs.List.{enumerate_from}
 use Rattle.std.specs.Option.{option_map, option_map_or}
 use Rattle.cell_core.specs.declared.cell.Cell.{Cell}
@@ -51,6 +51,11 @@ from_sources froms schema =
 abbrev pub from_tables : List FromItem → Db → List NamedTable
 from_tables froms db =
     filter_map (λ (from : FromItem). option_map (λ (table : Table). record { name = from_name from; table = table }) (named_table from.table db)) froms
+
+-- tables under these names
+abbrev pub called_sources : List (List ℕ) → List Source → List NamedSource
+called_sources names sources =
+    map (λ (at : List ℕ × Source). record { name = at.0; columns = at.1.columns }) (zip names sources)
 
 -- ## Places
 

@@ -6,11 +6,16 @@
 //! of expressions (`Values`), truth (`Truth`), the choices of rows that a condition keeps (`Kept`), the
 //! rows of a query (`Rows`), its answer (`Answer`), what a change does (`Effect`), and the refusals in
 //! their order (`Check`, `Refusals`). They know no plan, no column store and no order of work. The
-//! crates above compute them; here stand the types that those crates share.
+//! crates above compute them; here stand what those crates share: refusals and replies, tables without
+//! rows, a checked statement (`Typed`), and `find_column`, which gives the place of a column reference.
 #![tactic(auto)]
 
+mod called;
 mod refusal;
 mod source;
+mod typed;
 
+pub use called::{Called, Found, find_column};
 pub use refusal::{Refusal, Reply};
 pub use source::{Schema, Source};
+pub use typed::{Typed, from_name};

@@ -1,0 +1,28 @@
+-- Places that are found one after the other.
+use Rattle.std.proofs.Common.{◌≡◌, ℕ, List, [], ◌∷◌, ◌++◌, refl}
+use Rattle.sql_semantics.specs.declared.called.Found.{Found}
+use Rattle.sql_semantics.specs.declared.called.Found.TheVariants.{Nowhere, At, Twice}
+use Rattle.sql_semantics.specs.Found.{joined}
+
+-- one place, and then more
+pub joined_one : (found : Found) (place : ℕ × ℕ) (places : List (ℕ × ℕ)) → joined (joined found (place ∷ [])) places ≡ joined found (place ∷ places)
+joined_one Nowhere place [] = refl
+joined_one Nowhere place (other ∷ places) = refl
+joined_one (At table column) place places = refl
+joined_one Twice place places = refl
+
+-- some places, and then more
+pub joined_more : (found : Found) (some more : List (ℕ × ℕ)) → joined (joined found some) more ≡ joined found (some ++ more)
+joined_more Nowhere [] more = refl
+joined_more Nowhere (place ∷ []) [] = refl
+joined_more Nowhere (place ∷ []) (other ∷ more) = refl
+joined_more Nowhere (place ∷ other ∷ some) more = refl
+joined_more (At table column) [] more = refl
+joined_more (At table column) (place ∷ some) more = refl
+joined_more Twice some more = refl
+
+-- no further place
+pub joined_none : (found : Found) → joined found [] ≡ found
+joined_none Nowhere = refl
+joined_none (At table column) = refl
+joined_none Twice = refl

@@ -1,0 +1,17 @@
+-- How many places a reference has.
+use Rattle.std.specs.Prelude.{ℕ, List, [], ◌∷◌}
+use Rattle.sql_semantics.specs.declared.called.Found.{Found}
+use Rattle.sql_semantics.specs.declared.called.Found.TheVariants.{Nowhere, At, Twice}
+
+-- none, one, or more
+abbrev pub found_of : List (ℕ × ℕ) → Found
+found_of [] = Nowhere
+found_of (place ∷ []) = At place.0 place.1
+found_of (place ∷ other ∷ more) = Twice
+
+-- what is found so far, and then these places
+abbrev pub joined : Found → List (ℕ × ℕ) → Found
+joined Nowhere places = found_of places
+joined (At table column) [] = At table column
+joined (At table column) (place ∷ places) = Twice
+joined Twice places = Twice
