@@ -2,7 +2,8 @@
 use Rattle.std.proofs.Common.{◌≡◌, ℕ, List, [], ◌∷◌, ◌++◌, refl}
 use Rattle.sql_semantics.specs.declared.called.Found.{Found}
 use Rattle.sql_semantics.specs.declared.called.Found.TheVariants.{Nowhere, At, Twice}
-use Rattle.sql_semantics.specs.Found.{joined}
+use Rattle.sql_semantics.specs.Sources.{only}
+use Rattle.sql_semantics.specs.Found.{found_of, joined, place_found}
 
 -- one place, and then more
 pub joined_one : (found : Found) (place : ℕ × ℕ) (places : List (ℕ × ℕ)) → joined (joined found (place ∷ [])) places ≡ joined found (place ∷ places)
@@ -26,3 +27,9 @@ pub joined_none : (found : Found) → joined found [] ≡ found
 joined_none Nowhere = refl
 joined_none (At table column) = refl
 joined_none Twice = refl
+
+-- the only place is the one that is found
+pub only_is : (places : List (ℕ × ℕ)) → only places ≡ place_found (found_of places)
+only_is [] = refl
+only_is (place ∷ []) = refl
+only_is (place ∷ other ∷ more) = refl

@@ -1,5 +1,6 @@
 pub mod FoundLemmas
 pub mod SmallLemmas
+pub mod ItemLemmas
 pub mod ExampleTrees
 mod ExampleQueries
 mod ExampleChanges

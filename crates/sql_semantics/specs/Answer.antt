@@ -22,23 +22,23 @@ use Rattle.sql_semantics.specs.Rows.{same_cells, query_rows, query_overflows}
 abbrev pub is_called : ColRef → ItemTree → Bool
 is_called ref item = is_none ref.table && option_map_or (bytes_eq ref.column) item.alias false
 
--- the expression is the column that a reference means
-abbrev pub is_column : List NamedSource → ColRef → ExprTree → Bool
-is_column sources ref (ColumnOf column) = same_place (place_of sources ref) (place_of sources column)
-is_column sources ref _ = false
+-- the expression is the column at a place
+abbrev pub is_column : List NamedSource → Option (ℕ × ℕ) → ExprTree → Bool
+is_column sources place (ColumnOf ref) = same_place place (place_of sources ref)
+is_column sources place _ = false
 
 -- the item that a key names: the first with that alias, or else the first that is that column
 abbrev pub item_named : List NamedSource → List ItemTree → ColRef → Option ℕ
-item_named sources items ref = option_or (position (is_called ref) items) (position (λ (item : ItemTree). is_column sources ref item.expr) items)
+item_named sources items ref = option_or (position (is_called ref) items) (position (λ (item : ItemTree). is_column sources (place_of sources ref) item.expr) items)
 
--- the item at a position, which is counted from 1
-abbrev pub item_at : List ItemTree → ℕ → Option ℕ
-item_at items zero = None
-item_at items (suc n) = if nat_lt n (length items) then Some n else None
+-- of so many items the one at a position, which is counted from 1
+abbrev pub item_at : ℕ → ℕ → Option ℕ
+item_at count zero = None
+item_at count (suc n) = if nat_lt n count then Some n else None
 
 -- the item that a key sorts by, counted from 0
 abbrev pub key_place : List NamedSource → List ItemTree → Place → Option ℕ
-key_place sources items (Position n) = item_at items n
+key_place sources items (Position n) = item_at (length items) n
 key_place sources items (Named ref) = item_named sources items ref
 
 -- the keys as places of items, each with whether low cells come first

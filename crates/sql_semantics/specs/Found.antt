@@ -1,5 +1,5 @@
 -- How many places a reference has.
-use Rattle.std.specs.Prelude.{ℕ, List, [], ◌∷◌}
+use Rattle.std.specs.Prelude.{ℕ, List, [], ◌∷◌, Option, Some, None}
 use Rattle.sql_semantics.specs.declared.called.Found.{Found}
 use Rattle.sql_semantics.specs.declared.called.Found.TheVariants.{Nowhere, At, Twice}
 
@@ -15,3 +15,9 @@ joined Nowhere places = found_of places
 joined (At table column) [] = At table column
 joined (At table column) (place ∷ places) = Twice
 joined Twice places = Twice
+
+-- the place, where it is one alone
+abbrev pub place_found : Found → Option (ℕ × ℕ)
+place_found Nowhere = None
+place_found (At table column) = Some (table, column)
+place_found Twice = None

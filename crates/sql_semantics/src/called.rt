@@ -1,6 +1,6 @@
 ghost use Rattle.std.specs.Prelude.{◌≡◌, [], ◌∷◌};
 ghost use Rattle.std.specs.Option.{option_copied, option_map_or};
-ghost use Rattle.sql_semantics.specs.Sources.{means, places_in, places};
+ghost use Rattle.sql_semantics.specs.Sources.{means, places_in, places, place_of};
 ghost use Rattle.sql_semantics.specs.Found.{found_of, joined};
 
 use cell_core::{Column, Sequence, Word};
@@ -117,4 +117,20 @@ pub fn find_column(sources: &[Called<'_>], table: Option<&Word>, name: &Word) ->
         rest = more;
     }
     found
+}
+
+/// The place of the column that a reference means, where it may mean one alone: the table's number
+/// and the column's, from 0.
+#[tactic(auto, using(crate::proofs::FoundLemmas::only_is))]
+pub fn column_place(
+    sources: &[Called<'_>],
+    table: Option<&Word>,
+    name: &Word,
+) -> Option<(usize, usize)>
+    ensures { result ≡ place_of sources.now (record { table = option_copied table.entry; column = name.now }) }
+{
+    match find_column(sources, table, name) {
+        Found::At(source, column) => Some((source, column)),
+        Found::Nowhere | Found::Twice => None,
+    }
 }

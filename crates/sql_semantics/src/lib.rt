@@ -11,11 +11,13 @@
 #![tactic(auto)]
 
 mod called;
+mod items;
 mod refusal;
 mod source;
 mod typed;
 
-pub use called::{Called, Found, find_column};
+pub use called::{Called, Found, column_place, find_column};
+pub use items::{all_columns, has_aggregate, is_grouped, key_place};
 pub use refusal::{Refusal, Reply};
 pub use source::{Schema, Source};
 pub use typed::{Typed, from_name};
