@@ -1,0 +1,3 @@
+pub mod CalcLemmas
+pub mod AggregateLemmas
+pub mod ValueLemmas

@@ -1,0 +1,10 @@
+use Rattle.std.proofs.Common.{◌≡◌, length}
+use Rattle.sql_meaning.specs.Extremes.{is_greatest_of}
+use Rattle.sql_meaning.proofs.aggregates.is_at_least_all.Given as goal
+
+-- the rest decides as all do
+abbrev pub invariant-cells : goal.invariant-cells
+invariant-cells l = is_greatest_of l.rest l.cell ≡ is_greatest_of l.cells l.cell
+
+abbrev pub decreases-cells : goal.decreases-cells
+decreases-cells l = length l.rest

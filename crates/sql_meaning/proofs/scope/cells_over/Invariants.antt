@@ -1,0 +1,12 @@
+use Rattle.std.proofs.Common.{◌≡◌, ◌++◌, map, length}
+use Rattle.sql_tree.specs.Tree.{expr_tree}
+use Rattle.sql_semantics.specs.Values.{cell_over}
+use Rattle.sql_meaning.proofs.scope.cells_over.Given as goal
+
+-- what is made so far, and what the rest gives, is what all give
+abbrev pub invariant-choices : goal.invariant-choices
+invariant-choices l =
+    l.cells ++ map (λ choice. cell_over l.sources choice (expr_tree l.expr)) l.rest ≡ map (λ choice. cell_over l.sources choice (expr_tree l.expr)) l.group
+
+abbrev pub decreases-choices : goal.decreases-choices
+decreases-choices l = length l.rest

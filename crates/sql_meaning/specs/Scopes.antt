@@ -1,0 +1,13 @@
+-- What expressions and conditions are taken over: a choice of rows, or a group of choices.
+use Rattle.std.specs.Prelude.{List}
+use Rattle.cell_core.specs.declared.cell.Cell.{Cell}
+use Rattle.sql_tree.specs.Tree.{ExprTree}
+use Rattle.sql_semantics.specs.Sources.{NamedSource}
+use Rattle.sql_semantics.specs.Values.{cell_over, group_cell}
+use Rattle.sql_meaning.specs.declared.scope.Scope.{Scope}
+use Rattle.sql_meaning.specs.declared.scope.Scope.TheVariants.{Choice, Group}
+
+-- the cell of an expression
+abbrev pub cell_in : List NamedSource → Scope → ExprTree → Cell
+cell_in sources (Choice choice) = cell_over sources choice.now
+cell_in sources (Group group) = group_cell sources group.now

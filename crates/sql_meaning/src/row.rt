@@ -1,0 +1,40 @@
+ghost use Rattle.std.specs.Prelude.{◌≡◌};
+
+use cell_core::{Cell, Sequence};
+use std::marker::Model;
+
+/// A row of a table, lent. Contracts see its cells.
+#[derive(Drop)]
+pub(crate) struct Row<'a> {
+    cells: &'a Sequence<Cell>,
+}
+
+impl<'a> Model for Row<'a> {
+    ghost use Rattle.std.specs.Prelude.{List};
+    ghost use Rattle.cell_core.specs.declared.cell.Cell.{Cell};
+
+    ghost Value = { List Cell };
+
+    ghost view = { λ row. row.cells.now };
+}
+
+impl<'a> Row<'a> {
+    pub(crate) fn new(cells: &'a Sequence<Cell>) -> Row<'a>
+        ensures { result ≡ cells.now }
+    {
+        Row { cells }
+    }
+
+    pub(crate) fn cells(&self) -> &'a [Cell]
+        ensures { result.now ≡ self.now }
+    {
+        self.cells.as_slice()
+    }
+
+    /// The same row, lent once more.
+    pub(crate) fn again(&self) -> Row<'a>
+        ensures { result ≡ self.now }
+    {
+        Row { cells: self.cells }
+    }
+}
