@@ -1,3 +1,5 @@
 pub mod CalcLemmas
 pub mod AggregateLemmas
 pub mod ValueLemmas
+pub mod ListLemmas
+pub mod KeptLemmas

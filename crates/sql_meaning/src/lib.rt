@@ -6,6 +6,8 @@
 
 mod aggregates;
 mod calc;
+mod kept;
 mod row;
 mod scope;
+mod tables;
 mod value;

@@ -16,6 +16,7 @@ use sql_tree::{CmpOp, Cond, Expr};
 use std::alloc::Global;
 
 /// What an expression is taken over.
+#[derive(Drop)]
 pub(crate) enum Scope<'a> {
     /// A choice of one row for each table.
     Choice(&'a [Row<'a>]),
