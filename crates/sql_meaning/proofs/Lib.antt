@@ -3,3 +3,4 @@ pub mod AggregateLemmas
 pub mod ValueLemmas
 pub mod ListLemmas
 pub mod KeptLemmas
+pub mod GroupLemmas

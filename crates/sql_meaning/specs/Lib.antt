@@ -1,3 +1,6 @@
 pub mod Extremes
 pub mod Scopes
 pub mod Behind
+pub mod Members
+pub mod Exprs
+pub mod Shown

@@ -6,8 +6,11 @@
 
 mod aggregates;
 mod calc;
+mod groups;
 mod kept;
+mod overflow;
 mod row;
+mod rows;
 mod scope;
 mod tables;
 mod value;
