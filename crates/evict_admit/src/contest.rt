@@ -1,4 +1,4 @@
-//! A contest between places: who of those that take part goes first, told again after each change by
+//! A tournament tree over places: who of those that take part goes first, told again after each change by
 //! the games on its way alone.
 ghost use Rattle.std.specs.Prelude.{◌≡◌, ◌≢◌, ℕ, ◌+◌, ◌*◌, ◌<◌, ◌≤◌, All, length, None, slice_set};
 ghost use Rattle.std.specs.Option.{ForSome};
