@@ -4,3 +4,4 @@ pub mod ValueLemmas
 pub mod ListLemmas
 pub mod KeptLemmas
 pub mod GroupLemmas
+pub mod AnswerLemmas

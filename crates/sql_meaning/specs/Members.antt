@@ -1,7 +1,6 @@
 -- The choices of a group, by cells that stand beside them.
 use Rattle.std.specs.Prelude.{List, map, filter, zip}
 use Rattle.cell_core.specs.declared.cell.Cell.{Cell}
-use Rattle.cell_core.specs.Groups.{distinct}
 use Rattle.sql_semantics.specs.Values.{Choice}
 use Rattle.sql_semantics.specs.Rows.{same_cells}
 

@@ -35,7 +35,6 @@ fn int_cell(number: i128) -> Option<Cell>
     }
 }
 
-
 /// The sum of two numbers; of Nil it is Nil.
 #[tactic(auto, using(crate::proofs::CalcLemmas::wide_out))]
 fn plus(x: &Cell, y: &Cell) -> Option<Cell>

@@ -1,10 +1,12 @@
-//! The plain programs of what SQL means: what a query answers, and what the other statements do.
+//! The plain programs of what SQL means: today what a query answers over a database (`slow_answer`).
 //!
-//! It stands on `sql_semantics`, whose definitions its two public calls give exactly: loops over rows,
-//! without columns, hashes or plans.
+//! It stands on `sql_semantics`, whose definition of the answer it gives exactly: loops over choices of
+//! rows, groups and cells, without columns, hashes or plans. A choice holds rows that are lent, so no
+//! row is copied before it is shown.
 #![tactic(auto)]
 
 mod aggregates;
+mod answer;
 mod calc;
 mod groups;
 mod kept;
@@ -14,3 +16,5 @@ mod rows;
 mod scope;
 mod tables;
 mod value;
+
+pub use answer::slow_answer;

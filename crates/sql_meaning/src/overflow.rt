@@ -108,14 +108,20 @@ fn tree_overflows_over(
         Cond::Cmp { left, right, .. } => {
             Ok(part_overflows(sources, choices, left)? || part_overflows(sources, choices, right)?)
         }
-        Cond::Between { of, low, high } => Ok(part_overflows(sources, choices, of)?
-            || part_overflows(sources, choices, low)?
-            || part_overflows(sources, choices, high)?),
+        Cond::Between { of, low, high } => Ok(
+            part_overflows(sources, choices, of)?
+                || part_overflows(sources, choices, low)?
+                || part_overflows(sources, choices, high)?,
+        ),
         Cond::Not(cond) => tree_overflows_over(sources, choices, cond),
-        Cond::And(left, right) => Ok(tree_overflows_over(sources, choices, left)?
-            || tree_overflows_over(sources, choices, right)?),
-        Cond::Or(left, right) => Ok(tree_overflows_over(sources, choices, left)?
-            || tree_overflows_over(sources, choices, right)?),
+        Cond::And(left, right) => Ok(
+            tree_overflows_over(sources, choices, left)?
+                || tree_overflows_over(sources, choices, right)?,
+        ),
+        Cond::Or(left, right) => Ok(
+            tree_overflows_over(sources, choices, left)?
+                || tree_overflows_over(sources, choices, right)?,
+        ),
     }
 }
 
@@ -143,6 +149,8 @@ pub(crate) fn shown_overflow(
 ) -> Result<bool, Memory>
     ensures { IfOk result (λ overflows. overflows ≡ list_any (overflows_for sources.now choices.now) (flat_map over_choices (exprs_of items.now ++ exprs_of_cond (option_map cond_tree having.now)))) }
 {
-    Ok(items_overflow_over(sources, choices, items)?
-        || having_overflows_over(sources, choices, having)?)
+    Ok(
+        items_overflow_over(sources, choices, items)?
+            || having_overflows_over(sources, choices, having)?,
+    )
 }

@@ -66,10 +66,7 @@ pub(crate) fn from_tables<'a>(
 }
 
 /// The tables without their rows.
-pub(crate) fn called_all<'a>(
-    alloc: Global,
-    tables: &[Named<'a>],
-) -> Result<Vec<Called<'a>>, Memory>
+pub(crate) fn called_all<'a>(alloc: Global, tables: &[Named<'a>]) -> Result<Vec<Called<'a>>, Memory>
     ensures { IfOk result (λ sources. sources.items ≡ map source_of tables.now) }
 {
     let mut sources = Vec::with_capacity(alloc, tables.len())?;

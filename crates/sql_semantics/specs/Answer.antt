@@ -1,13 +1,14 @@
 -- What a query answers over a database: its rows without doubles, sorted and cut.
 use Rattle.std.specs.Prelude.{ℕ, suc, zero, List, map, take, filter_map, length, position, Bool, true, false, ◌&&◌, nat_lt, if◌then◌else◌, bytes_eq, Option, Some, None}
-use Rattle.std.specs.Option.{option_map, option_or, option_map_or, is_none}
+use Rattle.std.specs.Option.{option_map, option_and_then, option_or, option_map_or, is_none}
 use Rattle.cell_core.specs.declared.cell.Cell.{Cell}
 use Rattle.cell_core.specs.declared.table.Db.{Db}
 use Rattle.cell_core.specs.Groups.{distinct}
 use Rattle.cell_core.specs.Keys.{is_keyed_below}
 use Rattle.cell_core.specs.Sorted.{sorted_by}
-use Rattle.sql_tree.specs.Tree.{ExprTree, ItemTree, QueryTree}
+use Rattle.sql_tree.specs.Tree.{ExprTree, ItemTree, QueryTree, StmtTree}
 use Rattle.sql_tree.specs.Tree.ExprTree.{ColumnOf}
+use Rattle.sql_tree.specs.Tree.StmtTree.{Select, ExplainSelect}
 use Rattle.sql_tree.specs.declared.tree.ColRef.{ColRef}
 use Rattle.sql_tree.specs.declared.tree.Place.{Place}
 use Rattle.sql_tree.specs.declared.tree.Place.TheVariants.{Position, Named}
@@ -67,3 +68,13 @@ answer_over tables query = if query_overflows tables query then None else Some (
 
 abbrev pub answer : QueryTree → Db → Option (List (List Cell))
 answer query db = answer_over (from_tables query.froms db) query
+
+-- the query of a SELECT or an EXPLAIN
+abbrev pub query_of : StmtTree → Option QueryTree
+query_of (Select query) = Some query
+query_of (ExplainSelect query) = Some query
+query_of _ = None
+
+-- what it answers
+abbrev pub answer_of_stmt : StmtTree → Db → Option (List (List Cell))
+answer_of_stmt stmt db = option_and_then (λ query. answer query db) (query_of stmt)

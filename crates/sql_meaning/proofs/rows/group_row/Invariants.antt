@@ -1,4 +1,4 @@
-use Rattle.std.proofs.Common.{◌≡◌, ◌++◌, map, length}
+use Rattle.std.proofs.Common.{◌≡◌, ◌++◌, length}
 use Rattle.sql_semantics.specs.Rows.{group_row}
 use Rattle.sql_meaning.specs.Exprs.{exprs_of}
 use Rattle.sql_meaning.proofs.rows.group_row.Given as goal

@@ -1,0 +1,199 @@
+//! What a query answers.
+ghost use Rattle.std.specs.Prelude.{◌≡◌, map, filter_map, Some, None, Err, IfOk, IsSome};
+ghost use Rattle.std.specs.Option.{option_map};
+ghost use Rattle.cell_core.specs.declared.memory.RunError.TheVariants as RunError;
+ghost use Rattle.sql_tree.specs.Tree.{item_tree, query_tree, stmt_tree};
+ghost use Rattle.sql_semantics.specs.Sources.{source_of};
+ghost use Rattle.sql_semantics.specs.References.{items_of};
+ghost use Rattle.sql_semantics.specs.Rows.{rows_from};
+ghost use Rattle.sql_semantics.specs.Answer.{key_place as key_place_of, limited, undoubled, arranged, answer_over as answer_over_of, answer as answer_of, query_of, answer_of_stmt};
+
+use crate::groups::{distinct, groups_of};
+use crate::kept::kept_choices;
+use crate::overflow::{constants_overflow, shown_overflow};
+use crate::row::Row;
+use crate::rows::{choice_rows, group_rows};
+use crate::tables::{Named, called_all, from_tables};
+use cell_core::{Cell, Db, Memory, RunError, Sequence, sort_rows_by};
+use sql_semantics::{Called, Typed, all_columns, is_grouped, key_place};
+use sql_tree::{Item, Query, SortKey, Stmt};
+use std::alloc::Global;
+
+/// The keys of ORDER BY as places of items, each with whether low cells come first.
+fn sort_keys(
+    alloc: Global,
+    sources: &[Called<'_>],
+    items: &[Item],
+    keys: &[SortKey],
+) -> Result<Vec<(u32, bool)>, Memory>
+    ensures { IfOk result (λ places. places.items ≡ filter_map (λ (key : SortKey). option_map (λ n. (n, key.ascending)) (key_place_of sources.now (map item_tree items.now) key.at)) keys.now) }
+{
+    let mut places = Vec::new(alloc);
+    let mut rest = keys;
+    'keys: while let [key, more @ ..] = rest {
+        if let Some(place) = key_place(sources, items, &key.at) {
+            let place = u32::try_from(place).map_err(|_| Memory)?;
+            places.push((place, key.ascending))?;
+        }
+        rest = more;
+    }
+    Ok(places)
+}
+
+/// The rows without doubles, where DISTINCT asks for that.
+fn without_doubles(
+    alloc: Global,
+    is_distinct: bool,
+    rows: Vec<Sequence<Cell>>,
+) -> Result<Vec<Sequence<Cell>>, Memory>
+    ensures { IfOk result (λ out. out.items ≡ undoubled is_distinct rows.items) }
+{
+    if is_distinct {
+        distinct(alloc, &rows)
+    } else {
+        Ok(rows)
+    }
+}
+
+/// The first rows, where there is a limit.
+fn cut(limit: Option<u64>, rows: Vec<Sequence<Cell>>) -> Vec<Sequence<Cell>>
+    ensures { result.items ≡ limited limit rows.items }
+{
+    let Some(limit) = limit else {
+        return rows;
+    };
+    let mut rows = rows;
+    if limit < rows.len() as u64 {
+        rows.truncate(limit as usize);
+    }
+    rows
+}
+
+/// The rows without doubles where the query says DISTINCT, sorted, and then the first ones.
+fn arrange(
+    alloc: Global,
+    sources: &[Called<'_>],
+    items: &[Item],
+    query: &Query,
+    rows: Vec<Sequence<Cell>>,
+) -> Result<Sequence<Sequence<Cell>>, Memory>
+    requires { map item_tree items.now ≡ items_of sources.now (query_tree query.now) }
+    ensures { IfOk result (λ out. out ≡ arranged sources.now (query_tree query.now) rows.items) }
+{
+    let keys = sort_keys(alloc, sources, items, query.keys.as_slice())?;
+    let mut rows = without_doubles(alloc, query.distinct, rows)?;
+    sort_rows_by(&mut rows, &keys)?;
+    let first = cut(query.limit, rows);
+    Ok(Sequence::from_vec(first))
+}
+
+/// The rows of a query whose condition keeps these choices.
+fn rows_of_query(
+    alloc: Global,
+    sources: &[Called<'_>],
+    items: &[Item],
+    query: &Query,
+    choices: Vec<Sequence<Row<'_>>>,
+) -> Result<Vec<Sequence<Cell>>, Memory>
+    requires { map item_tree items.now ≡ items_of sources.now (query_tree query.now) }
+    ensures { IfOk result (λ rows. rows.items ≡ rows_from sources.now (query_tree query.now) choices.entry.items) }
+{
+    if is_grouped(query) {
+        let groups = groups_of(alloc, sources, query.groups.as_slice(), choices)?;
+        let rows = group_rows(alloc, sources, items, &query.having, groups)?;
+        Ok(rows)
+    } else {
+        let rows = choice_rows(alloc, sources, items, &choices)?;
+        Ok(rows)
+    }
+}
+
+/// What a query with these items answers over tables, or none where it overflows.
+fn answer_with(
+    alloc: Global,
+    tables: &[Named<'_>],
+    sources: &[Called<'_>],
+    items: &[Item],
+    query: &Query,
+) -> Result<Option<Sequence<Sequence<Cell>>>, Memory>
+    requires sources { sources.now ≡ map source_of tables.now }
+    requires items { map item_tree items.now ≡ items_of sources.now (query_tree query.now) }
+    ensures { IfOk result (λ answer. answer ≡ answer_over_of tables.now (query_tree query.now)) }
+{
+    if constants_overflow(items, &query.having, &query.cond)? {
+        return Ok(None);
+    }
+    let choices = kept_choices(alloc, sources, &query.cond, tables)?;
+    if shown_overflow(sources, &choices, items, &query.having)? {
+        return Ok(None);
+    }
+    let rows = rows_of_query(alloc, sources, items, query, choices)?;
+    let answer = arrange(alloc, sources, items, query, rows)?;
+    Ok(Some(answer))
+}
+
+/// What a query answers over tables, or none where it overflows.
+fn answer_over(
+    alloc: Global,
+    tables: &[Named<'_>],
+    query: &Query,
+) -> Result<Option<Sequence<Sequence<Cell>>>, Memory>
+    ensures { IfOk result (λ answer. answer ≡ answer_over_of tables.now (query_tree query.now)) }
+{
+    let sources = called_all(alloc, tables)?;
+    if query.items.len() == 0 {
+        let items = all_columns(alloc, &sources)?;
+        answer_with(alloc, tables, &sources, items.as_slice(), query)
+    } else {
+        answer_with(alloc, tables, &sources, query.items.as_slice(), query)
+    }
+}
+
+/// What a query answers over a database, computed row by row as its meaning says. `Overflow` comes
+/// where an arithmetic operator without a column leaves the signed 64-bit range, or another one does
+/// for a kept choice of rows. The statement is a SELECT or an EXPLAIN.
+pub fn slow_answer(
+    alloc: Global,
+    query: &Typed,
+    db: &Db,
+) -> Result<Sequence<Sequence<Cell>>, RunError>
+    requires { IsSome (query_of (stmt_tree query.now.stmt)) }
+    ensures rows { IfOk result (λ rows. answer_of_stmt (stmt_tree query.now.stmt) db.now ≡ Some rows) }
+    ensures overflow { result ≡ Err RunError.Overflow → answer_of_stmt (stmt_tree query.now.stmt) db.now ≡ None }
+{
+    match &query.stmt {
+        Stmt::Query(query) => rows_or_overflow(answer_of_query(alloc, query, db)?),
+        Stmt::Explain(query) => rows_or_overflow(answer_of_query(alloc, query, db)?),
+        Stmt::Create { .. }
+        | Stmt::Drop { .. }
+        | Stmt::Insert { .. }
+        | Stmt::Delete { .. }
+        | Stmt::Update { .. } => unreachable!(),
+    }
+}
+
+/// The rows of an answer; none is an overflow.
+fn rows_or_overflow(
+    answer: Option<Sequence<Sequence<Cell>>>,
+) -> Result<Sequence<Sequence<Cell>>, RunError>
+    ensures rows { IfOk result (λ rows. answer ≡ Some rows) }
+    ensures overflow { result ≡ Err RunError.Overflow → answer ≡ None }
+{
+    match answer {
+        Some(rows) => Ok(rows),
+        None => Err(RunError::Overflow),
+    }
+}
+
+/// What a query answers over a database, or none where it overflows.
+fn answer_of_query(
+    alloc: Global,
+    query: &Query,
+    db: &Db,
+) -> Result<Option<Sequence<Sequence<Cell>>>, Memory>
+    ensures { IfOk result (λ answer. answer ≡ answer_of (query_tree query.now) db.now) }
+{
+    let tables = from_tables(alloc, query.froms.as_slice(), db)?;
+    let answer = answer_over(alloc, &tables, query)?;
+    Ok(answer)
+}
