@@ -1,0 +1,129 @@
+//! The shapes of arguments.
+ghost use Rattle.std.specs.Prelude.{◌≡◌, [], ◌∷◌, Some, IsTrue, IsSome};
+ghost use Rattle.std.specs.List.{list_all};
+ghost use Rattle.cell_core.specs.Kinds.{is_of_kind as is_of_kind_cell, is_of_type, result_type};
+ghost use Rattle.bat_core.specs.Objects.{value_of};
+ghost use Rattle.kernel_rows.specs.Types.{type_of, is_pair_of};
+ghost use Rattle.kernel_rows.specs.declared.shape.Shape.TheVariants.{Ints, Oids, Int};
+
+use bat_core::{Bat, Obj};
+use cell_core::{Cell, Kind, Op};
+
+/// The shape of an argument. The heads of BATs are oids, and Nil is of each kind.
+#[derive(Clone, Copy, Debug, PartialEq, Eq)]
+pub enum Shape {
+    /// A BAT of numbers.
+    Ints,
+    /// A BAT of oids.
+    Oids,
+    /// A BAT of bits.
+    Bits,
+    /// A number.
+    Int,
+    /// An oid.
+    Oid,
+    /// A bit.
+    Bit,
+}
+
+/// Whether a value has a shape.
+pub(crate) fn has_shape(obj: &Obj, shape: Shape) -> bool
+    ensures { result ≡ is_of_type (value_of obj.now) (type_of shape) }
+{
+    match (obj, shape) {
+        (Obj::Bat(b), Shape::Ints) => has_tails(b.bat(), Kind::Int),
+        (Obj::Bat(b), Shape::Oids) => has_tails(b.bat(), Kind::Oid),
+        (Obj::Bat(b), Shape::Bits) => has_tails(b.bat(), Kind::Bit),
+        (Obj::One(cell), Shape::Int) => is_of_kind(cell, Kind::Int),
+        (Obj::One(cell), Shape::Oid) => is_of_kind(cell, Kind::Oid),
+        (Obj::One(cell), Shape::Bit) => is_of_kind(cell, Kind::Bit),
+        _ => false,
+    }
+}
+
+/// Whether the heads are oids and the tails of a kind.
+fn has_tails(b: &Bat, kind: Kind) -> bool
+    ensures { result ≡ list_all (is_pair_of kind) b.now }
+{
+    let mut all = true;
+    for i in 0..b.len() {
+        let (head, tail) = b.pair(i);
+        all = all && is_of_kind(head, Kind::Oid) && is_of_kind(tail, kind);
+    }
+    all
+}
+
+/// Whether a cell is of a kind, as Nil is of each.
+fn is_of_kind(cell: &Cell, kind: Kind) -> bool
+    ensures { result ≡ is_of_kind_cell (Some kind) cell.now }
+{
+    match (cell, kind) {
+        (Cell::Nil, _)
+        | (Cell::Int(_), Kind::Int)
+        | (Cell::Huge(_), Kind::Huge)
+        | (Cell::Text(_), Kind::Text)
+        | (Cell::Day(_), Kind::Day)
+        | (Cell::Bit(_), Kind::Bit)
+        | (Cell::Oid(_), Kind::Oid) => true,
+        _ => false,
+    }
+}
+
+/// Whether an argument of a shape is known to fit an operator.
+pub(crate) fn fits_one(op: Op, x: Shape) -> bool
+    ensures { IsTrue result → IsSome (result_type op (type_of x ∷ [])) }
+{
+    match (op, x) {
+        (
+            Op::Reverse | Op::Mirror | Op::GroupNew | Op::Count | Op::Sum | Op::Min | Op::Max,
+            Shape::Ints,
+        ) => true,
+        (Op::GroupHeads, Shape::Oids) => true,
+        (Op::Not, Shape::Bits | Shape::Bit) => true,
+        _ => false,
+    }
+}
+
+/// Whether two arguments of these shapes are known to fit an operator.
+pub(crate) fn fits_two(op: Op, x: Shape, y: Shape) -> bool
+    ensures { IsTrue result → IsSome (result_type op (type_of x ∷ type_of y ∷ [])) }
+{
+    match (x, y) {
+        (Shape::Ints, Shape::Ints) => takes_bats(op) || calculates(op),
+        (Shape::Ints, Shape::Oids) => takes_groups(op),
+        (Shape::Oids, Shape::Ints) => matches!(op, Op::Join | Op::GroupDerive),
+        (Shape::Ints, Shape::Oid) => matches!(op, Op::MarkT),
+        (Shape::Ints, Shape::Int) => matches!(op, Op::Project) || calculates(op),
+        (Shape::Int, Shape::Ints | Shape::Int) => calculates(op),
+        (Shape::Bits | Shape::Bit, Shape::Bits | Shape::Bit) => matches!(op, Op::And | Op::Or),
+        _ => false,
+    }
+}
+
+/// The operators that take two BATs whose heads are of one kind, and so are their tails.
+fn takes_bats(op: Op) -> bool
+    ensures { IsTrue result → IsSome (result_type op (type_of Ints ∷ type_of Ints ∷ [])) }
+{
+    matches!(op, Op::Semijoin | Op::Kdifference | Op::Kunion | Op::Cross)
+}
+
+/// The aggregates for each group.
+fn takes_groups(op: Op) -> bool
+    ensures { IsTrue result → IsSome (result_type op (type_of Ints ∷ type_of Oids ∷ [])) }
+{
+    matches!(op, Op::Subcount | Op::Subsum | Op::Submin | Op::Submax)
+}
+
+/// The functions of numbers.
+fn calculates(op: Op) -> bool
+    ensures bats { IsTrue result → IsSome (result_type op (type_of Ints ∷ type_of Ints ∷ [])) }
+    ensures left { IsTrue result → IsSome (result_type op (type_of Ints ∷ type_of Int ∷ [])) }
+    ensures right { IsTrue result → IsSome (result_type op (type_of Int ∷ type_of Ints ∷ [])) }
+    ensures cells { IsTrue result → IsSome (result_type op (type_of Int ∷ type_of Int ∷ [])) }
+{
+    match op {
+        Op::Plus | Op::Minus | Op::Times => true,
+        Op::Eq | Op::Ne | Op::Lt | Op::Le | Op::Gt | Op::Ge => true,
+        _ => false,
+    }
+}

@@ -1,0 +1,77 @@
+//! Operators of one argument.
+use crate::tables::{
+    BITS, FALSE, INTS, Lit, NIL_INTS, NIL_OIDS, NO_BIT, NO_BITS, NO_INTS, NO_OIDS, OIDS, ONE_BIT,
+    ONE_OID, OneRow, THREE, TRUE, Val,
+};
+use Lit::{Bit, Huge, Int, Nil, Oid};
+use Val::{Bat, One};
+use cell_core::Op;
+
+pub(crate) static ONE_ARGUMENT: [OneRow; 38] = [
+    (Op::Reverse, NO_INTS, Bat(&[])),
+    (Op::Reverse, THREE, Bat(&[(Int(3), Oid(0))])),
+    (Op::Reverse, NIL_INTS, Bat(&[(Nil, Oid(0)), (Int(3), Nil)])),
+    (
+        Op::Reverse,
+        INTS,
+        Bat(&[(Int(3), Oid(0)), (Int(1), Oid(1)), (Int(3), Oid(2))]),
+    ),
+    (Op::Mirror, NO_INTS, Bat(&[])),
+    (Op::Mirror, THREE, Bat(&[(Oid(0), Oid(0))])),
+    (Op::Mirror, NIL_INTS, Bat(&[(Oid(0), Oid(0)), (Nil, Nil)])),
+    (
+        Op::Mirror,
+        INTS,
+        Bat(&[(Oid(0), Oid(0)), (Oid(1), Oid(1)), (Oid(2), Oid(2))]),
+    ),
+    (Op::GroupNew, NO_INTS, Bat(&[])),
+    (Op::GroupNew, THREE, Bat(&[(Oid(0), Oid(0))])),
+    (
+        Op::GroupNew,
+        NIL_INTS,
+        Bat(&[(Oid(0), Oid(0)), (Nil, Oid(1))]),
+    ),
+    (
+        Op::GroupNew,
+        INTS,
+        Bat(&[(Oid(0), Oid(0)), (Oid(1), Oid(1)), (Oid(2), Oid(0))]),
+    ),
+    (Op::Count, NO_INTS, One(Int(0))),
+    (Op::Count, THREE, One(Int(1))),
+    (Op::Count, NIL_INTS, One(Int(1))),
+    (Op::Count, INTS, One(Int(3))),
+    (Op::Sum, NO_INTS, One(Nil)),
+    (Op::Sum, THREE, One(Huge(3))),
+    (Op::Sum, NIL_INTS, One(Huge(3))),
+    (Op::Sum, INTS, One(Huge(7))),
+    (Op::Min, NO_INTS, One(Nil)),
+    (Op::Min, THREE, One(Int(3))),
+    (Op::Min, NIL_INTS, One(Int(3))),
+    (Op::Min, INTS, One(Int(1))),
+    (Op::Max, NO_INTS, One(Nil)),
+    (Op::Max, THREE, One(Int(3))),
+    (Op::Max, NIL_INTS, One(Int(3))),
+    (Op::Max, INTS, One(Int(3))),
+    (Op::GroupHeads, NO_OIDS, Bat(&[])),
+    (Op::GroupHeads, ONE_OID, Bat(&[(Oid(0), Oid(5))])),
+    (
+        Op::GroupHeads,
+        NIL_OIDS,
+        Bat(&[(Oid(0), Oid(5)), (Oid(1), Nil)]),
+    ),
+    (
+        Op::GroupHeads,
+        OIDS,
+        Bat(&[(Oid(0), Oid(5)), (Oid(1), Oid(6))]),
+    ),
+    (Op::Not, NO_BITS, Bat(&[])),
+    (Op::Not, ONE_BIT, Bat(&[(Oid(0), Bit(false))])),
+    (
+        Op::Not,
+        BITS,
+        Bat(&[(Oid(0), Nil), (Oid(1), Bit(true)), (Oid(2), Bit(false))]),
+    ),
+    (Op::Not, TRUE, One(Bit(false))),
+    (Op::Not, FALSE, One(Bit(true))),
+    (Op::Not, NO_BIT, One(Nil)),
+];
