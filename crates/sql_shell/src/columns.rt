@@ -24,12 +24,7 @@ impl<'a> DbColumns<'a> {
 impl Columns for DbColumns<'_> {
     ghost database = { λ columns. columns.db.now };
 
-    fn column(
-        &self,
-        alloc: Global,
-        table: &Word,
-        column: &Word,
-    ) -> Result<Option<Shared>, Memory> {
+    fn column(&self, alloc: Global, table: &Word, column: &Word) -> Result<Option<Shared>, Memory> {
         let Some(table) = self.db.table(table) else {
             return Ok(None);
         };

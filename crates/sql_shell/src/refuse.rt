@@ -24,11 +24,7 @@ pub fn refuse_query(alloc: Global, query: &Query, db: &Db) -> Result<Option<Refu
 }
 
 /// The first refusal of a query of this table, if it has one.
-fn refuse_columns(
-    alloc: Global,
-    query: &Query,
-    table: &Table,
-) -> Result<Option<Refusal>, Memory>
+fn refuse_columns(alloc: Global, query: &Query, table: &Table) -> Result<Option<Refusal>, Memory>
     ensures { IfOk result (λ refusal. refusal ≡ column_refusal table.now query.now) }
 {
     match missing_in(table, query) {
