@@ -22,7 +22,7 @@ entry_cmp a b = ordering_then (cut_cmp b.1.high a.1.high) (nat_cmp a.0 b.0)
 abbrev pub is_better : Entry → Entry → Bool
 is_better a b = is_lt (entry_cmp a b)
 
--- an entry's span begins before that of another
+-- an entry's span begins before that of another (a helper of the proof: private contracts alone cite it)
 abbrev pub is_lower : Entry → Entry → Bool
 is_lower a b = is_cut_below a.1.low b.1.low
 

@@ -1,0 +1,5 @@
+pub mod DerivedLemmas
+pub mod LimitLemmas
+pub mod NumberLemmas
+pub mod ReadLemmas
+pub mod RuleLemmas

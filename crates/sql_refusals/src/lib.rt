@@ -1,0 +1,25 @@
+//! Why SQL text is refused: the first token to which a rule applies, what is left out of a statement,
+//! and the first limit that a statement passes.
+//!
+//! It stands on `sql_tree` and on the definitions of `sql_grammar`, and decides each of them exactly:
+//! `first_rule`, `left_out`, `statement_bytes`, `first_limit`. A reader gives Nil for a number of more
+//! than 64 bits, which no literal gives, so Nil passes the limit of literals (`specs/Unread`);
+//! `limits_as_read` is the law that the limits of a statement are then those of what was read. Memory
+//! running out is the only answer that may come instead.
+#![tactic(auto)]
+
+mod around;
+mod exprs;
+mod laws;
+mod limits;
+mod nodes;
+mod numbers;
+mod profile;
+mod rules;
+#[cfg(test)]
+mod tests;
+
+pub use laws::limits_as_read;
+pub use limits::{first_limit, statement_bytes};
+pub use profile::left_out;
+pub use rules::first_rule;
