@@ -372,10 +372,11 @@ none_left kind now (row ∷ rows) h = absurd (omega arith)
 
 -- ## What is known at first
 
-pub known_is : (known : Known) (kind : Evict) (now : ℕ) → length known.rows.now ≤ 1024 → IsNamed known.rows.now known.names.now → IsDistinct nat_eq (map (λ (row : Row). row.id) known.rows.now)
+pub known_is : (known : Known) (kind : Evict) (now : ℕ) → length known.rows.now ≤ 1024 → All (λ (row : Row). 0 < row.id) known.rows.now → IsNamed known.rows.now known.names.now → IsDistinct nat_eq (map (λ (row : Row). row.id) known.rows.now)
     → All (λ (row : Row). IsInRange row.stats now) known.rows.now → known.contenders.now ≡ map (contender_for kind now) known.rows.now → IsKnown known
-known_is known kind now few named distinct range scored = record {
+known_is known kind now few ids named distinct range scored = record {
   few = few;
+  ids = λ p low. ids p no_row low;
   named = named;
   apart = apart_by_place known.rows.now (apart_from_distinct known.rows.now distinct);
   same = ap length scored ∙ length-map known.rows.now (contender_for kind now);

@@ -80,6 +80,7 @@ pub record IsNamed (rows : List Row) (names : List Name) : Type 0 where
 -- what is known of the rows from the beginning
 pub record IsKnown (known : Known) : Type 0 where
   pub few : length known.rows.now ≤ 1024
+  pub ids : (p : ℕ) → p < length known.rows.now → 0 < (row_at known.rows.now p).id
   pub named : IsNamed known.rows.now known.names.now
   pub apart : (p q : ℕ) → p < length known.rows.now → q < length known.rows.now → (row_at known.rows.now p).id ≡ (row_at known.rows.now q).id → p ≡ q
   pub same : length known.contenders.now ≡ length known.rows.now

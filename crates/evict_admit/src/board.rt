@@ -118,7 +118,12 @@ fn lose(lefts: &mut [Left], winners: &mut [Option<u16>], known: &Known, id: u64)
             children: lefts[place].children.saturating_sub(1),
             gone: lefts[place].gone,
         };
-        reseat(lefts, winners, known, place, left);
+        // A row with a child takes no part, before and after.
+        if left.children == 0 {
+            reseat(lefts, winners, known, place, left);
+        } else {
+            lefts[place] = left;
+        }
     }
 }
 

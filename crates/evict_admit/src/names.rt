@@ -63,12 +63,15 @@ fn search(names: &[Name], id: u64) -> Option<usize>
 }
 
 impl Known<'_> {
-    /// The place of the row with this id.
+    /// The place of the row with this id; no row has 0.
     pub(crate) fn find(&self, id: u64) -> Option<usize>
         requires { IsKnown self.now }
         ensures some { IfSome result (λ p. (p < length self.now.rows.now) × ((row_at self.now.rows.now p).id ≡ id)) }
         ensures none { IfNone result ((p : ℕ) → p < length self.now.rows.now → (row_at self.now.rows.now p).id ≢ id) }
     {
+        if id == 0 {
+            return None;
+        }
         search(self.names, id)
     }
 }
