@@ -2,7 +2,7 @@
 use Rattle.std.proofs.Common.{◌≡◌, ◌≢◌, ◌-◌, ℕ, zero, suc, List, [], length, Some, None, ℤ, refl, ap, sym, ◌∙◌, subst, arith}
 use Rattle.cell_core.specs.declared.cell.Cell.{Cell}
 use Rattle.cell_core.specs.declared.cell.Cell.TheVariants as cell
-use Rattle.sql_grammar.specs.Grammar.{write_expr, expr_of, write_value, value_of, CondRule, write_cond, cond_of}
+use Rattle.sql_grammar.specs.Grammar.{ExprRule, write_expr, expr_of, ValueRule, write_value, value_of, CondRule, write_cond, cond_of}
 use Rattle.sql_reader.specs.Chain.{Found, Parser}
 use Rattle.sql_reader.specs.CondReader.{whole_expr, value, unit_of, unit, whole_cond}
 use Rattle.sql_reader.specs.Derived.{expr_with, cond_with, number_cell, IsCondOver, IsCond, IsHaving, IsReadCond}
@@ -27,7 +27,7 @@ unfolding unit
 unit_inner operand zero ts h = absurd (h refl)
 unit_inner operand (suc n) ts h = let e : n ≡ suc n - 1 = omega arith in ap (λ k. unit_of operand (unit operand k) ts) e
 
-same_cond : (c : CondTree) → cond_with cell.Int c ≡ c
+pub same_cond : (c : CondTree) → cond_with cell.Int c ≡ c
 same_cond (Compare op left right) = ap (λ l. Compare op l (expr_with cell.Int right)) (same_tree left) ∙ ap (λ r. Compare op left r) (same_tree right)
 same_cond (Within of low high) = ap (λ o. Within o (expr_with cell.Int low) (expr_with cell.Int high)) (same_tree of) ∙ ap (λ l. Within of l (expr_with cell.Int high)) (same_tree low) ∙ ap (λ h. Within of low h) (same_tree high)
 same_cond (Negation of) = ap Negation (same_cond of)
@@ -82,3 +82,16 @@ where_told = derived_told write_expr expr_of whole_expr expr_operand whole_found
 
 pub having_told : (ts : List Token) (c : CondTree) → IsHaving ts c → whole_cond (value number_cell) ts ≡ Some (cond_with number_cell c, [])
 having_told = derived_told write_value value_of value value_operand value_sound number_cell
+
+-- what is read of them before other tokens
+pub where_sound : (number : ℤ → Cell) → IsSound (write_cond write_expr) (λ d. cond_with number (cond_of expr_of d)) (whole_cond (whole_expr number))
+where_sound = whole_sound write_expr expr_of whole_expr expr_operand whole_found
+
+pub having_sound : (number : ℤ → Cell) → IsSound (write_cond write_value) (λ d. cond_with number (cond_of value_of d)) (whole_cond (value number))
+having_sound = whole_sound write_value value_of value value_operand value_sound
+
+pub where_cond_told : (number : ℤ → Cell) (d : CondRule ExprRule) (rest : List Token) → EndsCond rest → whole_cond (whole_expr number) (write_cond write_expr d rest) ≡ Some (cond_with number (cond_of expr_of d), rest)
+where_cond_told = whole_cond_told write_expr expr_of whole_expr expr_operand whole_found
+
+pub having_cond_told : (number : ℤ → Cell) (d : CondRule ValueRule) (rest : List Token) → EndsCond rest → whole_cond (value number) (write_cond write_value d rest) ≡ Some (cond_with number (cond_of value_of d), rest)
+having_cond_told = whole_cond_told write_value value_of value value_operand value_sound

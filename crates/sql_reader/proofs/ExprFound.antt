@@ -45,7 +45,7 @@ column_is : (name : List ℕ) (ts : List Token) → column name ts ≡ cond (is_
 unfolding column
 column_is name ts = refl
 
-column_found : (first : NameRule) (ts : List Token) (c : ColRef) (rest : List Token) → column (name_of first) ts ≡ Some (c, rest) → IsWritten write_column column_of (write_name first ts) c rest
+pub column_found : (first : NameRule) (ts : List Token) (c : ColRef) (rest : List Token) → column (name_of first) ts ≡ Some (c, rest) → IsWritten write_column column_of (write_name first ts) c rest
 column_found first ts c rest h = at (is_dot (first_token ts)) refl (sym (column_is (name_of first) ts) ∙ h)
   where
     at : (b : Bool) → is_dot (first_token ts) ≡ b → cond b (table_column (name_of first) ts) (Some (record { table = None; column = name_of first }, ts)) ≡ Some (c, rest) → IsWritten write_column column_of (write_name first ts) c rest

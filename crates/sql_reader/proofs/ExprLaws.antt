@@ -24,7 +24,7 @@ derived_told number ts e is =
     let told : P (write_expr is.rule []) = expr_told number is.rule (length (write_expr is.rule [])) [] (omega arith) none_ends ∙ ap (λ (e : ExprTree). let f : Found ExprTree = Some (expr_with number e, []) in f) is.expr_is in
     subst P is.tokens_are told
 
-same_cell : (c : Cell) → cell_with cell.Int c ≡ c
+pub same_cell : (c : Cell) → cell_with cell.Int c ≡ c
 same_cell (cell.Int n) = refl
 same_cell other = refl
 

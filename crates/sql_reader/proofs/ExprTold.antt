@@ -49,11 +49,11 @@ factors_end (MoreFactors factor factors) rest ends = record { no_dot = refl }
 
 -- ## What is written is longer than what follows it
 
-name_longer : (name : NameRule) (rest : List Token) → length rest < length (write_name name rest)
+pub name_longer : (name : NameRule) (rest : List Token) → length rest < length (write_name name rest)
 name_longer (BareName name) rest = omega arith
 name_longer (QuotedName name) rest = omega arith
 
-column_longer : (column : ColumnRule) (rest : List Token) → length rest < length (write_column column rest)
+pub column_longer : (column : ColumnRule) (rest : List Token) → length rest < length (write_column column rest)
 column_longer (PlainColumn column) rest = name_longer column rest
 column_longer (TableColumn table column) rest =
     let a = name_longer column rest in
@@ -118,7 +118,7 @@ abbrev column_at : List ℕ → List Token → Bool → Found ColRef
 column_at name rest dot = cond dot (then_read (name_in (first_token (after_first rest))) (λ column. Some (record { table = Some name; column = column }, after_first (after_first rest)))) (Some (record { table = None; column = name }, rest))
 
 -- a name before no dot is a column
-plain_told : (name : List ℕ) (rest : List Token) → EndsFactor rest → column name rest ≡ Some (record { table = None; column = name }, rest)
+pub plain_told : (name : List ℕ) (rest : List Token) → EndsFactor rest → column name rest ≡ Some (record { table = None; column = name }, rest)
 unfolding column
 plain_told name rest ends = ap (column_at name rest) ends.no_dot
 

@@ -1,11 +1,11 @@
-mod ChainLemmas
-mod DayLemmas
-mod NumberLemmas
-mod TokenLemmas
-mod ExprTold
-mod ExprFound
-mod ExprLaws
-mod CondLaws
-mod CondFound
-mod OperandTold
-mod CondTold
+pub mod ChainLemmas
+pub mod DayLemmas
+pub mod NumberLemmas
+pub mod TokenLemmas
+pub mod ExprTold
+pub mod ExprFound
+pub mod ExprLaws
+pub mod CondLaws
+pub mod CondFound
+pub mod OperandTold
+pub mod CondTold

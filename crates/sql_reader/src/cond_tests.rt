@@ -17,7 +17,7 @@ use std::alloc::Global;
 
 /// An expression, with as many levels as there are tokens.
 #[tactic(auto, unfolding(crate::specs::CondReader::whole_expr))]
-pub(crate) fn whole_expr(alloc: Global, tokens: &mut Cursor<'_>) -> Result<Expr, ReadError>
+pub fn whole_expr(alloc: Global, tokens: &mut Cursor<'_>) -> Result<Expr, ReadError>
     ensures found { IfOk result (λ e. reader.whole_expr number_cell
         (tokens_in tokens.old.rest.now) ≡ Some (expr_tree e, tokens_in tokens.new.rest.now)) }
     ensures none { IsErrOf result ReadError.Syntax →
@@ -29,7 +29,7 @@ pub(crate) fn whole_expr(alloc: Global, tokens: &mut Cursor<'_>) -> Result<Expr,
 
 /// An expression or an aggregate.
 #[tactic(auto, unfolding(crate::specs::CondReader::value))]
-pub(crate) fn value(alloc: Global, tokens: &mut Cursor<'_>) -> Result<Expr, ReadError>
+pub fn value(alloc: Global, tokens: &mut Cursor<'_>) -> Result<Expr, ReadError>
     ensures found { IfOk result (λ e. reader.value number_cell
         (tokens_in tokens.old.rest.now) ≡ Some (expr_tree e, tokens_in tokens.new.rest.now)) }
     ensures none { IsErrOf result ReadError.Syntax →

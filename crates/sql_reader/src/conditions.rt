@@ -14,7 +14,7 @@ use std::alloc::Global;
 
 /// A condition, with as many levels as there are tokens.
 #[tactic(auto, unfolding(crate::specs::CondReader::whole_cond))]
-pub(crate) fn whole_cond(
+pub fn whole_cond(
     alloc: Global,
     tokens: &mut Cursor<'_>,
     aggregates: bool,

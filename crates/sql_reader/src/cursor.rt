@@ -11,27 +11,28 @@ use sql_tree::{AggOp, ArithOp, CmpOp, Keyword, Placed, Symbol, Token};
 
 /// The tokens that are still to be read.
 #[derive(Drop)]
-pub(crate) struct Cursor<'a> {
-    pub(crate) rest: &'a [Placed],
+pub struct Cursor<'a> {
+    /// They, in order.
+    pub rest: &'a [Placed],
 }
 
 impl<'a> Cursor<'a> {
     /// A cursor before the first of the tokens.
-    pub(crate) fn new(tokens: &'a [Placed]) -> Cursor<'a>
+    pub fn new(tokens: &'a [Placed]) -> Cursor<'a>
         ensures { result.rest.now ≡ tokens.entry.now }
     {
         Cursor { rest: tokens }
     }
 
     /// How many tokens are left.
-    pub(crate) fn len(&self) -> usize
+    pub fn len(&self) -> usize
         ensures { result ≡ length (tokens_in self.now.rest.now) }
     {
         self.rest.len()
     }
 
     /// The next token, which stays.
-    pub(crate) fn peek(&self) -> Option<&'a Token>
+    pub fn peek(&self) -> Option<&'a Token>
         ensures { option_copied result ≡ first_token (tokens_in self.now.rest.now) }
     {
         match self.rest {
@@ -41,7 +42,7 @@ impl<'a> Cursor<'a> {
     }
 
     /// Leaves the next token behind.
-    pub(crate) fn advance(&mut self)
+    pub fn advance(&mut self)
         ensures { tokens_in self.new.rest.now ≡ after_first (tokens_in self.old.rest.now) }
     {
         if let [_, after @ ..] = self.rest {
@@ -50,7 +51,7 @@ impl<'a> Cursor<'a> {
     }
 
     /// Takes the next token.
-    pub(crate) fn next(&mut self) -> Option<&'a Token>
+    pub fn next(&mut self) -> Option<&'a Token>
         ensures token { option_copied result ≡ first_token (tokens_in self.old.rest.now) }
         ensures rest { tokens_in self.new.rest.now ≡ after_first (tokens_in self.old.rest.now) }
     {
@@ -60,7 +61,7 @@ impl<'a> Cursor<'a> {
     }
 
     /// Takes a keyword that has to stand here.
-    pub(crate) fn key(&mut self, word: Keyword) -> Result<(), ReadError>
+    pub fn key(&mut self, word: Keyword) -> Result<(), ReadError>
         ensures rest { tokens_in self.new.rest.now ≡ after_first (tokens_in self.old.rest.now) }
         ensures found { OnOk result (parts.is_key word (first_token (tokens_in self.old.rest.now)) ≡ true) }
         ensures none { IsErrOf result ReadError.Syntax →
@@ -74,7 +75,7 @@ impl<'a> Cursor<'a> {
     }
 
     /// Takes a symbol that has to stand here.
-    pub(crate) fn symbol(&mut self, symbol: Symbol) -> Result<(), ReadError>
+    pub fn symbol(&mut self, symbol: Symbol) -> Result<(), ReadError>
         ensures rest { tokens_in self.new.rest.now ≡ after_first (tokens_in self.old.rest.now) }
         ensures found { OnOk result (parts.is_symbol symbol (first_token (tokens_in self.old.rest.now)) ≡ true) }
         ensures none { IsErrOf result ReadError.Syntax →
@@ -88,7 +89,7 @@ impl<'a> Cursor<'a> {
     }
 
     /// Passes only where no token is left.
-    pub(crate) fn end(&self) -> Result<(), ReadError>
+    pub fn end(&self) -> Result<(), ReadError>
         ensures found { OnOk result (tokens_in self.now.rest.now ≡ []) }
         ensures none { IsErrOf result ReadError.Syntax → 0 < length (tokens_in self.now.rest.now) }
     {
@@ -99,7 +100,7 @@ impl<'a> Cursor<'a> {
     }
 
     /// Takes a `)` that has to stand here.
-    pub(crate) fn close(&mut self) -> Result<(), ReadError>
+    pub fn close(&mut self) -> Result<(), ReadError>
         ensures rest { tokens_in self.new.rest.now ≡ after_first (tokens_in self.old.rest.now) }
         ensures found { OnOk result (reader.is_close (first_token (tokens_in self.old.rest.now)) ≡ true) }
         ensures none { IsErrOf result ReadError.Syntax →
@@ -141,7 +142,7 @@ pub(crate) fn is_dot(token: Option<&Token>) -> bool
 }
 
 /// The digits that the token is.
-pub(crate) fn digits<'a>(token: Option<&'a Token>) -> Option<&'a Word>
+pub fn digits<'a>(token: Option<&'a Token>) -> Option<&'a Word>
     ensures { option_copied result ≡ reader.digits_in (option_copied token.entry) }
 {
     match token {
@@ -151,7 +152,7 @@ pub(crate) fn digits<'a>(token: Option<&'a Token>) -> Option<&'a Word>
 }
 
 /// The string that the token is.
-pub(crate) fn text<'a>(token: Option<&'a Token>) -> Option<&'a Word>
+pub fn text<'a>(token: Option<&'a Token>) -> Option<&'a Word>
     ensures { option_copied result ≡ reader.text_in (option_copied token.entry) }
 {
     match token {
@@ -161,7 +162,7 @@ pub(crate) fn text<'a>(token: Option<&'a Token>) -> Option<&'a Word>
 }
 
 /// The name that the token is, bare or in quotes.
-pub(crate) fn name<'a>(token: Option<&'a Token>) -> Option<&'a Word>
+pub fn name<'a>(token: Option<&'a Token>) -> Option<&'a Word>
     ensures { option_copied result ≡ reader.name_in (option_copied token.entry) }
 {
     match token {
@@ -173,7 +174,7 @@ pub(crate) fn name<'a>(token: Option<&'a Token>) -> Option<&'a Word>
 
 /// Whether the token is the keyword.
 #[tactic(auto, unfolding(crate::specs::Parts::is_key))]
-pub(crate) fn is_key(token: Option<&Token>, word: Keyword) -> bool
+pub fn is_key(token: Option<&Token>, word: Keyword) -> bool
     ensures { result ≡ parts.is_key word (option_copied token.entry) }
 {
     match token {
@@ -184,7 +185,7 @@ pub(crate) fn is_key(token: Option<&Token>, word: Keyword) -> bool
 
 /// Whether the token is the symbol.
 #[tactic(auto, unfolding(crate::specs::Parts::is_symbol))]
-fn is_symbol(token: Option<&Token>, symbol: Symbol) -> bool
+pub fn is_symbol(token: Option<&Token>, symbol: Symbol) -> bool
     ensures { result ≡ parts.is_symbol symbol (option_copied token.entry) }
 {
     match token {
@@ -194,7 +195,7 @@ fn is_symbol(token: Option<&Token>, symbol: Symbol) -> bool
 }
 
 /// Whether the token is `,`.
-pub(crate) fn comma(token: Option<&Token>) -> Option<Symbol>
+pub fn comma(token: Option<&Token>) -> Option<Symbol>
     ensures { result ≡ parts.comma_in (option_copied token.entry) }
 {
     match token {

@@ -146,7 +146,7 @@ fn date(tokens: &mut Cursor<'_>) -> Result<Expr, ReadError>
 }
 
 /// The day that a text names.
-fn day(text: &Word) -> Option<i32>
+pub fn day(text: &Word) -> Option<i32>
     ensures { result ≡ reader.day_named text.now }
 {
     read_day(text.text())
@@ -154,7 +154,7 @@ fn day(text: &Word) -> Option<i32>
 
 /// A column that begins with the name: `column` or `table.column`.
 #[tactic(auto, unfolding(crate::specs::Reader::column))]
-pub(crate) fn column(first: &Word, tokens: &mut Cursor<'_>) -> Result<ColRef, ReadError>
+pub fn column(first: &Word, tokens: &mut Cursor<'_>) -> Result<ColRef, ReadError>
     ensures found { IfOk result (λ column. reader.column first.now (tokens_in tokens.old.rest.now)
         ≡ Some (column, tokens_in tokens.new.rest.now)) }
     ensures none { IsErrOf result ReadError.Syntax →

@@ -5,6 +5,9 @@
 //! rules write them, and a number of more than 64 bits stands as Nil, which no literal gives. It
 //! promises that `read_expr`, `read_cond` and `read_having` give the tree of the tokens exactly where
 //! they derive one, and that no tokens derive two (`one_expr`, `one_cond`).
+//!
+//! `Cursor` and the readers at a cursor serve the crate of statements: their contracts speak of the
+//! readers on plain lists in `specs/`.
 #![tactic(auto)]
 
 mod cond_tests;
@@ -17,5 +20,10 @@ mod reading;
 #[cfg(test)]
 mod tests;
 
+pub use cond_tests::{value, whole_expr};
+pub use conditions::whole_cond;
+pub use cursor::{Cursor, comma, digits, is_key, is_symbol, name, text};
+pub use expressions::{column, day};
 pub use laws::{one_cond, one_expr};
+pub use number::{magnitude, negative_number, plain_number};
 pub use reading::{ReadError, read_cond, read_expr, read_having};

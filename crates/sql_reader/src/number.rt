@@ -8,7 +8,7 @@ use cell_core::Cell;
 
 /// The cell of the number that digits write; Nil where it leaves the signed 64-bit range.
 #[tactic(auto, using(crate::proofs::NumberLemmas::signed_plain, crate::proofs::NumberLemmas::great_plain))]
-pub(crate) fn plain_number(digits: &str) -> Cell
+pub fn plain_number(digits: &str) -> Cell
     ensures { result ≡ number_cell (pos (number_of digits.now)) }
 {
     match magnitude(digits) {
@@ -19,7 +19,7 @@ pub(crate) fn plain_number(digits: &str) -> Cell
 
 /// The same with a `-` before the digits.
 #[tactic(auto, using(crate::proofs::NumberLemmas::signed_negative, crate::proofs::NumberLemmas::great_negative))]
-pub(crate) fn negative_number(digits: &str) -> Cell
+pub fn negative_number(digits: &str) -> Cell
     ensures { result ≡ number_cell (negative_of digits.now) }
 {
     match magnitude(digits) {
@@ -45,7 +45,7 @@ fn signed(negative: bool, magnitude: u64) -> Cell
 
 /// The number that digits write, where it fits.
 #[tactic(auto, using(crate::proofs::NumberLemmas::value_grows))]
-fn magnitude(digits: &str) -> Option<u64>
+pub fn magnitude(digits: &str) -> Option<u64>
     ensures { MatchOption result (2 ^ 64 ≤ number_of digits.now) (λ n. n ≡ number_of digits.now) }
 {
     let mut number = 0;

@@ -1,0 +1,13 @@
+use Rattle.std.proofs.Common.{◌≡◌, ◌-◌, map}
+use Rattle.sql_grammar.specs.Reads.{tokens_in}
+use Rattle.sql_reader.specs.Chain.{chain}
+use Rattle.sql_reader.specs.Derived.{number_cell}
+use Rattle.sql_reader.specs.Parts.{comma_in}
+use Rattle.sql_tree.specs.Tree.{set_tree}
+use Rattle.sql_statements.specs.Reader as reader
+use Rattle.sql_statements.proofs.change.sets.Given as goal
+
+abbrev pub invariant-sets : goal.invariant-sets
+invariant-sets l =
+    reader.listed (reader.set number_cell) (tokens_in l.fn.tokens.rest.now)
+    ≡ chain comma_in reader.one_more (reader.set number_cell) (l.turn-end - l.turn) (map set_tree l.sets) (tokens_in l.tokens.rest.now)

@@ -1,0 +1,11 @@
+use Rattle.std.proofs.Common.{◌≡◌, ◌-◌}
+use Rattle.sql_grammar.specs.Reads.{tokens_in}
+use Rattle.sql_reader.specs.Chain.{chain}
+use Rattle.sql_reader.specs.Parts.{comma_in}
+use Rattle.sql_statements.specs.Reader as reader
+use Rattle.sql_statements.proofs.part.listed.Given as goal
+
+abbrev pub invariant-parts : goal.invariant-parts
+invariant-parts g l =
+    reader.listed g.P.Part.reader (tokens_in l.fn.tokens.rest.now)
+    ≡ chain comma_in reader.one_more g.P.Part.reader (l.turn-end - l.turn) l.parts (tokens_in l.tokens.rest.now)

@@ -1,0 +1,75 @@
+-- What a statement is read as, where tokens derive it.
+use Rattle.std.specs.Prelude.{◌≡◌, ℕ, ◌-◌, ◌^◌, List, map, nat_le, if◌then◌else◌, ℤ}
+use Rattle.std.specs.Option.{option_map}
+use Rattle.cell_core.specs.declared.cell.Cell.{Cell}
+use Rattle.cell_core.specs.declared.table.Column.{Column}
+use Rattle.sql_grammar.specs.Statements.{Derives}
+use Rattle.sql_reader.specs.Derived.{cell_with, expr_with, cond_with, number_cell}
+use Rattle.sql_tree.specs.Tree.{ExprTree, ItemTree, QueryTree, StmtTree}
+use Rattle.sql_tree.specs.Tree.StmtTree.{CreateTable, DropTable, InsertInto, DeleteFrom, UpdateTable, Select, ExplainSelect}
+use Rattle.sql_tree.specs.declared.token.Token.{Token}
+use Rattle.sql_tree.specs.declared.tree.Place.{Place}
+use Rattle.sql_tree.specs.declared.tree.Place.TheVariants.{Position, Named}
+use Rattle.sql_tree.specs.declared.tree.SortKey.{SortKey}
+
+-- the number, or the most where it is more
+abbrev pub at_most : ℕ → ℕ → ℕ
+at_most most n = if nat_le n most then n else most
+
+-- a statement with its literals, its counts and its lengths as others
+module _ (number : ℤ → Cell) (count : ℕ → ℕ) (length : ℕ → ℕ) where
+  abbrev pub column_with : Column → Column
+  column_with column = record { name = column.name; kind = column.kind; width = length column.width; not_null = column.not_null }
+
+  abbrev pub place_with : Place → Place
+  place_with (Position n) = Position (count n)
+  place_with (Named column) = Named column
+
+  abbrev pub key_with : SortKey → SortKey
+  key_with key = record { at = place_with key.at; ascending = key.ascending }
+
+  abbrev pub item_with : ItemTree → ItemTree
+  item_with item = record { expr = expr_with number item.expr; alias = item.alias }
+
+  abbrev pub set_with : List ℕ × ExprTree → List ℕ × ExprTree
+  set_with set = (set.0, expr_with number set.1)
+
+  abbrev pub query_with : QueryTree → QueryTree
+  query_with query = record {
+    distinct = query.distinct;
+    items = map item_with query.items;
+    froms = query.froms;
+    cond = option_map (cond_with number) query.cond;
+    groups = query.groups;
+    having = option_map (cond_with number) query.having;
+    keys = map key_with query.keys;
+    limit = option_map count query.limit;
+  }
+
+  abbrev pub stmt_with : StmtTree → StmtTree
+  stmt_with (CreateTable table columns) = CreateTable table (map column_with columns)
+  stmt_with (DropTable table) = DropTable table
+  stmt_with (InsertInto table columns rows) = InsertInto table columns (map (map (cell_with number)) rows)
+  stmt_with (DeleteFrom table cond) = DeleteFrom table (option_map (cond_with number) cond)
+  stmt_with (UpdateTable table sets cond) = UpdateTable table (map set_with sets) (option_map (cond_with number) cond)
+  stmt_with (Select query) = Select (query_with query)
+  stmt_with (ExplainSelect query) = ExplainSelect (query_with query)
+
+-- positions and LIMIT have 64 bits at most
+abbrev pub count_64 : ℕ → ℕ
+count_64 = at_most (2 ^ 64 - 1)
+
+-- the lengths of VARCHAR have 32
+abbrev pub length_32 : ℕ → ℕ
+length_32 = at_most (2 ^ 32 - 1)
+
+-- the tree is a statement that the tokens derive, but for numbers that don't fit: a literal of more than
+-- 64 bits stands as Nil, which no literal gives, and a position, a LIMIT or a length as the most of its type
+pub record IsReadStmt (tokens : List Token) (tree : StmtTree) : Type 0 where
+  pub statement : StmtTree
+  pub derived : Derives tokens statement
+  pub tree_is : stmt_with number_cell count_64 length_32 statement ≡ tree
+
+-- no tokens derive two statements
+abbrev pub EachIsOneStmt : Type 0
+EachIsOneStmt = (tokens : List Token) (a b : StmtTree) → Derives tokens a → Derives tokens b → a ≡ b

@@ -1,0 +1,159 @@
+ghost use Rattle.std.specs.Prelude.{◌≡◌, ℕ, Some, None, option_copied, IfOk, IsErrOf};
+ghost use Rattle.sql_grammar.specs.Grammar.{number_of};
+ghost use Rattle.sql_grammar.specs.Reads.{tokens_in};
+ghost use Rattle.sql_grammar.specs.Statements.{length_of};
+ghost use Rattle.sql_tree.specs.Tree.{stmt_tree};
+ghost use Rattle.sql_reader.specs.Chain.{first_token, after_first};
+ghost use Rattle.sql_statements.specs.Derived.{length_32};
+ghost use Rattle.sql_statements.specs.Reader as reader;
+
+use crate::part::{Part, enclosed, name};
+use cell_core::{Column, Kind, Word};
+use sql_reader::{Cursor, ReadError, digits, is_key, magnitude};
+use sql_tree::{Keyword, Stmt, Symbol, Token};
+use std::alloc::Global;
+
+/// The width that stands for VARCHAR(0), past the most that is allowed: 0 would be no limit.
+const PAST_WIDTHS: u32 = 65536;
+
+/// What follows CREATE: TABLE, a name and column definitions.
+#[tactic(auto, unfolding(crate::specs::Reader::create))]
+pub(crate) fn create(alloc: Global, tokens: &mut Cursor<'_>) -> Result<Stmt, ReadError>
+    ensures found { IfOk result (λ statement. reader.create length_32
+        (tokens_in tokens.old.rest.now) ≡ Some (stmt_tree statement, tokens_in tokens.new.rest.now)) }
+    ensures none { IsErrOf result ReadError.Syntax →
+        reader.create length_32 (tokens_in tokens.old.rest.now) ≡ None }
+{
+    tokens.key(Keyword::Table)?;
+    let table = name(tokens)?;
+    let columns = enclosed(alloc, tokens)?;
+    Ok(Stmt::Create { table, columns })
+}
+
+/// What follows DROP: TABLE and a name.
+#[tactic(auto, unfolding(crate::specs::Reader::drop_table))]
+pub(crate) fn drop_table(tokens: &mut Cursor<'_>) -> Result<Stmt, ReadError>
+    ensures found { IfOk result (λ statement. reader.drop_table (tokens_in tokens.old.rest.now)
+        ≡ Some (stmt_tree statement, tokens_in tokens.new.rest.now)) }
+    ensures none { IsErrOf result ReadError.Syntax →
+        reader.drop_table (tokens_in tokens.old.rest.now) ≡ None }
+{
+    tokens.key(Keyword::Table)?;
+    let table = name(tokens)?;
+    Ok(Stmt::Drop { table })
+}
+
+/// A column definition: a name, a type and NOT NULL or nothing.
+#[tactic(auto, unfolding(crate::specs::Reader::coldef))]
+fn coldef(tokens: &mut Cursor<'_>) -> Result<Column, ReadError>
+    ensures found { IfOk result (λ column. reader.coldef length_32 (tokens_in tokens.old.rest.now)
+        ≡ Some (column, tokens_in tokens.new.rest.now)) }
+    ensures none { IsErrOf result ReadError.Syntax →
+        reader.coldef length_32 (tokens_in tokens.old.rest.now) ≡ None }
+{
+    let name = name(tokens)?;
+    let (kind, width) = column_type(tokens)?;
+    let not_null = not_null(tokens)?;
+    Ok(Column {
+        name,
+        kind,
+        width,
+        not_null,
+    })
+}
+
+/// The kind that a type's words name, and the most characters or 0.
+fn column_type(tokens: &mut Cursor<'_>) -> Result<(Kind, u32), ReadError>
+    ensures found { IfOk result (λ type. reader.type_at length_32
+        (first_token (tokens_in tokens.old.rest.now)) (after_first (tokens_in tokens.old.rest.now))
+        ≡ Some (type, tokens_in tokens.new.rest.now)) }
+    ensures none { IsErrOf result ReadError.Syntax →
+        reader.type_at length_32 (first_token (tokens_in tokens.old.rest.now))
+        (after_first (tokens_in tokens.old.rest.now)) ≡ None }
+{
+    match tokens.next() {
+        Some(Token::Key(Keyword::Int)) => Ok((Kind::Int, 0)),
+        Some(Token::Key(Keyword::Integer)) => Ok((Kind::Int, 0)),
+        Some(Token::Key(Keyword::Bigint)) => Ok((Kind::Int, 0)),
+        Some(Token::Key(Keyword::Text)) => Ok((Kind::Text, 0)),
+        Some(Token::Key(Keyword::Date)) => Ok((Kind::Day, 0)),
+        Some(Token::Key(Keyword::Varchar)) => varchar(tokens),
+        _ => Err(ReadError::Syntax),
+    }
+}
+
+/// The length behind VARCHAR, in parentheses.
+#[tactic(auto, unfolding(crate::specs::Reader::varchar))]
+fn varchar(tokens: &mut Cursor<'_>) -> Result<(Kind, u32), ReadError>
+    ensures found { IfOk result (λ type. reader.varchar length_32 (tokens_in tokens.old.rest.now)
+        ≡ Some (type, tokens_in tokens.new.rest.now)) }
+    ensures none { IsErrOf result ReadError.Syntax →
+        reader.varchar length_32 (tokens_in tokens.old.rest.now) ≡ None }
+{
+    tokens.symbol(Symbol::Open)?;
+    let Some(digits) = digits(tokens.next()) else {
+        return Err(ReadError::Syntax);
+    };
+    tokens.close()?;
+    Ok((Kind::Text, width(digits)))
+}
+
+/// The width that digits write; the most of its type where they write more.
+#[tactic(auto, using(crate::proofs::NumberLemmas::great_length, crate::proofs::NumberLemmas::small_length))]
+fn width(digits: &Word) -> u32
+    ensures { result ≡ length_32 (length_of (number_of digits.now)) }
+{
+    match magnitude(digits.text()) {
+        Some(0) => PAST_WIDTHS,
+        Some(length) => narrow(length),
+        None => u32::MAX,
+    }
+}
+
+/// The number, or the most of 32 bits.
+fn narrow(number: u64) -> u32
+    ensures { result ≡ length_32 number }
+{
+    if number <= u64::from(u32::MAX) {
+        number as u32
+    } else {
+        u32::MAX
+    }
+}
+
+/// Whether NOT NULL stands here, which may be left out.
+#[tactic(auto, unfolding(crate::specs::Reader::not_null))]
+fn not_null(tokens: &mut Cursor<'_>) -> Result<bool, ReadError>
+    ensures found { IfOk result (λ required. reader.not_null (tokens_in tokens.old.rest.now)
+        ≡ Some (required, tokens_in tokens.new.rest.now)) }
+    ensures none { IsErrOf result ReadError.Syntax →
+        reader.not_null (tokens_in tokens.old.rest.now) ≡ None }
+{
+    if !is_key(tokens.peek(), Keyword::Not) {
+        return Ok(false);
+    }
+    tokens.advance();
+    if !is_null(tokens.next()) {
+        return Err(ReadError::Syntax);
+    }
+    Ok(true)
+}
+
+/// Whether the token is NULL.
+#[tactic(auto, unfolding(crate::specs::Reader::is_null))]
+fn is_null(token: Option<&Token>) -> bool
+    ensures { result ≡ reader.is_null (option_copied token.entry) }
+{
+    match token {
+        Some(Token::Unsupported(word)) => word.text() == "null",
+        _ => false,
+    }
+}
+
+impl Part for Column {
+    ghost reader = { reader.coldef length_32 };
+
+    fn read(alloc: Global, tokens: &mut Cursor<'_>) -> Result<Column, ReadError> {
+        coldef(tokens)
+    }
+}

@@ -1,0 +1,155 @@
+ghost use Rattle.std.specs.Prelude.{◌≡◌, ◌∷◌, [], List, Some, None, option_copied, IfOk, IsErrOf};
+ghost use Rattle.std.specs.Option.{option_map};
+ghost use Rattle.sql_grammar.specs.Reads.{tokens_in};
+ghost use Rattle.sql_tree.specs.Tree.{cond_tree};
+ghost use Rattle.sql_reader.specs.Derived.{number_cell};
+ghost use Rattle.sql_statements.specs.Reader as reader;
+
+use crate::part::name;
+use cell_core::{Memory, Sequence, Word};
+use sql_reader::{Cursor, ReadError, is_key, whole_cond};
+use sql_tree::{Cond, FromItem, Keyword, Symbol, Token};
+use std::alloc::Global;
+
+/// What joins a source to those before it.
+#[derive(Clone, Copy)]
+pub(crate) enum Joint {
+    /// `,`
+    Comma,
+    /// `INNER`, before JOIN
+    Inner,
+    /// `JOIN`
+    Join,
+}
+
+/// The tables of FROM, and the conditions of ON, joined by AND.
+#[tactic(auto, unfolding(crate::specs::Reader::sources))]
+pub(crate) fn sources(
+    alloc: Global,
+    tokens: &mut Cursor<'_>,
+) -> Result<(Sequence<FromItem>, Option<Cond>), ReadError>
+    ensures found { IfOk result (λ sources. reader.sources number_cell
+        (tokens_in tokens.old.rest.now)
+        ≡ Some ((sources.0, option_map cond_tree sources.1), tokens_in tokens.new.rest.now)) }
+    ensures none { IsErrOf result ReadError.Syntax →
+        reader.sources number_cell (tokens_in tokens.old.rest.now) ≡ None }
+{
+    let first = source(tokens)?;
+    let mut froms = Sequence::new(alloc);
+    froms.push(first)?;
+    let mut cond = None;
+    'joins: for turn in 0..tokens.len() {
+        let Some(joint) = joint_of(tokens.peek()) else {
+            return Ok((froms, cond));
+        };
+        tokens.advance();
+        let (source, on) = joined(alloc, tokens, joint)?;
+        froms.push(source)?;
+        cond = also(alloc, cond, on)?;
+    }
+    Ok((froms, cond))
+}
+
+/// What joins the next source, where the token does.
+fn joint_of(token: Option<&Token>) -> Option<Joint>
+    ensures { result ≡ reader.joint_in (option_copied token.entry) }
+{
+    match token {
+        Some(Token::Symbol(Symbol::Comma)) => Some(Joint::Comma),
+        Some(Token::Key(Keyword::Inner)) => Some(Joint::Inner),
+        Some(Token::Key(Keyword::Join)) => Some(Joint::Join),
+        _ => None,
+    }
+}
+
+/// A source behind what joins it, and the condition of its ON.
+#[tactic(auto, unfolding(crate::specs::Reader::joined))]
+fn joined(
+    alloc: Global,
+    tokens: &mut Cursor<'_>,
+    joint: Joint,
+) -> Result<(FromItem, Option<Cond>), ReadError>
+    ensures found { IfOk result (λ next. reader.joined number_cell joint
+        (tokens_in tokens.old.rest.now)
+        ≡ Some ((next.0, option_map cond_tree next.1), tokens_in tokens.new.rest.now)) }
+    ensures none { IsErrOf result ReadError.Syntax →
+        reader.joined number_cell joint (tokens_in tokens.old.rest.now) ≡ None }
+{
+    match joint {
+        Joint::Comma => {
+            let source = source(tokens)?;
+            Ok((source, None))
+        }
+        Joint::Inner => {
+            tokens.key(Keyword::Join)?;
+            source_on(alloc, tokens)
+        }
+        Joint::Join => source_on(alloc, tokens),
+    }
+}
+
+/// A source, ON and its condition.
+#[tactic(auto, unfolding(crate::specs::Reader::source_on, crate::specs::Reader::where_cond))]
+fn source_on(alloc: Global, tokens: &mut Cursor<'_>) -> Result<(FromItem, Option<Cond>), ReadError>
+    ensures found { IfOk result (λ next. reader.source_on number_cell
+        (tokens_in tokens.old.rest.now)
+        ≡ Some ((next.0, option_map cond_tree next.1), tokens_in tokens.new.rest.now)) }
+    ensures none { IsErrOf result ReadError.Syntax →
+        reader.source_on number_cell (tokens_in tokens.old.rest.now) ≡ None }
+{
+    let source = source(tokens)?;
+    tokens.key(Keyword::On)?;
+    let cond = whole_cond(alloc, tokens, false)?;
+    Ok((source, Some(cond)))
+}
+
+/// A table, with a name of its own or without.
+#[tactic(auto, unfolding(crate::specs::Reader::source))]
+fn source(tokens: &mut Cursor<'_>) -> Result<FromItem, ReadError>
+    ensures found { IfOk result (λ source. reader.source (tokens_in tokens.old.rest.now)
+        ≡ Some (source, tokens_in tokens.new.rest.now)) }
+    ensures none { IsErrOf result ReadError.Syntax →
+        reader.source (tokens_in tokens.old.rest.now) ≡ None }
+{
+    let table = name(tokens)?;
+    let alias = alias(tokens)?;
+    Ok(FromItem { table, alias })
+}
+
+/// The name behind a table or an item, with AS or without, or none.
+#[tactic(auto, unfolding(crate::specs::Reader::alias))]
+pub(crate) fn alias(tokens: &mut Cursor<'_>) -> Result<Option<Word>, ReadError>
+    ensures found { IfOk result (λ alias. reader.alias (tokens_in tokens.old.rest.now)
+        ≡ Some (alias, tokens_in tokens.new.rest.now)) }
+    ensures none { IsErrOf result ReadError.Syntax →
+        reader.alias (tokens_in tokens.old.rest.now) ≡ None }
+{
+    if is_key(tokens.peek(), Keyword::As) {
+        tokens.advance();
+        return Ok(Some(name(tokens)?));
+    }
+    let Some(alias) = sql_reader::name(tokens.peek()) else {
+        return Ok(None);
+    };
+    tokens.advance();
+    Ok(Some(alias.share()?))
+}
+
+/// A condition or none behind those so far, joined by AND.
+pub(crate) fn also(
+    alloc: Global,
+    so_far: Option<Cond>,
+    next: Option<Cond>,
+) -> Result<Option<Cond>, Memory>
+    ensures { IfOk result (λ all. option_map cond_tree all
+        ≡ reader.also (option_map cond_tree so_far) (option_map cond_tree next)) }
+{
+    match (so_far, next) {
+        (so_far, None) => Ok(so_far),
+        (None, Some(next)) => Ok(Some(next)),
+        (Some(left), Some(right)) => Ok(Some(Cond::And(
+            Box::new(alloc, left)?,
+            Box::new(alloc, right)?,
+        ))),
+    }
+}

@@ -1,0 +1,127 @@
+ghost use Rattle.std.specs.Prelude.{◌≡◌, [], Some, None, IfOk, IsErrOf};
+ghost use Rattle.sql_grammar.specs.Reads.{tokens_in};
+ghost use Rattle.sql_reader.specs.Chain.{Parser};
+ghost use Rattle.sql_statements.specs.Reader as reader;
+
+use cell_core::{Sequence, Word};
+use sql_reader::{Cursor, ReadError, comma, is_key};
+use sql_tree::{ColRef, Keyword, Symbol};
+use std::alloc::Global;
+
+/// What stands in lists, with a comma between two of it.
+pub(crate) trait Part: Drop + Sized {
+    ghost reader: { Parser Self };
+
+    /// Reads one.
+    fn read(alloc: Global, tokens: &mut Cursor<'_>) -> Result<Self, ReadError>
+        ensures found { IfOk result (λ part. reader (tokens_in tokens.old.rest.now)
+            ≡ Some (part, tokens_in tokens.new.rest.now)) }
+        ensures none { IsErrOf result ReadError.Syntax →
+            reader (tokens_in tokens.old.rest.now) ≡ None };
+}
+
+/// One part or more, with commas between them.
+#[tactic(auto, unfolding(crate::specs::Reader::listed))]
+pub(crate) fn listed<P: Part>(
+    alloc: Global,
+    tokens: &mut Cursor<'_>,
+) -> Result<Sequence<P>, ReadError>
+    ensures found { IfOk result (λ parts. reader.listed P.reader (tokens_in tokens.old.rest.now)
+        ≡ Some (parts, tokens_in tokens.new.rest.now)) }
+    ensures none { IsErrOf result ReadError.Syntax →
+        reader.listed P.reader (tokens_in tokens.old.rest.now) ≡ None }
+{
+    let first = P::read(alloc, tokens)?;
+    let mut parts = Sequence::new(alloc);
+    parts.push(first)?;
+    'parts: for turn in 0..tokens.len() {
+        let Some(_) = comma(tokens.peek()) else {
+            return Ok(parts);
+        };
+        tokens.advance();
+        let next = P::read(alloc, tokens)?;
+        parts.push(next)?;
+    }
+    Ok(parts)
+}
+
+/// One part or more in parentheses, with commas between them.
+#[tactic(auto, unfolding(crate::specs::Reader::enclosed))]
+pub(crate) fn enclosed<P: Part>(
+    alloc: Global,
+    tokens: &mut Cursor<'_>,
+) -> Result<Sequence<P>, ReadError>
+    ensures found { IfOk result (λ parts. reader.enclosed P.reader (tokens_in tokens.old.rest.now)
+        ≡ Some (parts, tokens_in tokens.new.rest.now)) }
+    ensures none { IsErrOf result ReadError.Syntax →
+        reader.enclosed P.reader (tokens_in tokens.old.rest.now) ≡ None }
+{
+    tokens.symbol(Symbol::Open)?;
+    let parts = listed(alloc, tokens)?;
+    tokens.close()?;
+    Ok(parts)
+}
+
+/// A list behind a word and BY; no parts where the word doesn't stand here.
+#[tactic(auto, unfolding(crate::specs::Reader::listed_by))]
+pub(crate) fn listed_by<P: Part>(
+    alloc: Global,
+    tokens: &mut Cursor<'_>,
+    word: Keyword,
+) -> Result<Sequence<P>, ReadError>
+    ensures found { IfOk result (λ parts. reader.listed_by word P.reader
+        (tokens_in tokens.old.rest.now) ≡ Some (parts, tokens_in tokens.new.rest.now)) }
+    ensures none { IsErrOf result ReadError.Syntax →
+        reader.listed_by word P.reader (tokens_in tokens.old.rest.now) ≡ None }
+{
+    if !is_key(tokens.peek(), word) {
+        return Ok(Sequence::new(alloc));
+    }
+    tokens.advance();
+    tokens.key(Keyword::By)?;
+    listed(alloc, tokens)
+}
+
+/// A name, bare or in quotes.
+#[tactic(auto, unfolding(crate::specs::Reader::name))]
+pub(crate) fn name(tokens: &mut Cursor<'_>) -> Result<Word, ReadError>
+    ensures found { IfOk result (λ name. reader.name (tokens_in tokens.old.rest.now)
+        ≡ Some (name, tokens_in tokens.new.rest.now)) }
+    ensures none { IsErrOf result ReadError.Syntax →
+        reader.name (tokens_in tokens.old.rest.now) ≡ None }
+{
+    let Some(name) = sql_reader::name(tokens.next()) else {
+        return Err(ReadError::Syntax);
+    };
+    Ok(name.share()?)
+}
+
+/// A column: `column` or `table.column`.
+#[tactic(auto, unfolding(crate::specs::Reader::column))]
+pub(crate) fn column(tokens: &mut Cursor<'_>) -> Result<ColRef, ReadError>
+    ensures found { IfOk result (λ column. reader.column (tokens_in tokens.old.rest.now)
+        ≡ Some (column, tokens_in tokens.new.rest.now)) }
+    ensures none { IsErrOf result ReadError.Syntax →
+        reader.column (tokens_in tokens.old.rest.now) ≡ None }
+{
+    let Some(name) = sql_reader::name(tokens.next()) else {
+        return Err(ReadError::Syntax);
+    };
+    sql_reader::column(name, tokens)
+}
+
+impl Part for Word {
+    ghost reader = { reader.name };
+
+    fn read(alloc: Global, tokens: &mut Cursor<'_>) -> Result<Word, ReadError> {
+        name(tokens)
+    }
+}
+
+impl Part for ColRef {
+    ghost reader = { reader.column };
+
+    fn read(alloc: Global, tokens: &mut Cursor<'_>) -> Result<ColRef, ReadError> {
+        column(tokens)
+    }
+}

@@ -1,0 +1,63 @@
+ghost use Rattle.std.specs.Prelude.{◌≡◌, Some, None, IfOk, IsErrOf};
+ghost use Rattle.sql_grammar.specs.Reads.{tokens_in};
+ghost use Rattle.sql_grammar.specs.Statements.{Derives};
+ghost use Rattle.sql_tree.specs.Tree.{StmtTree, stmt_tree};
+ghost use Rattle.sql_reader.specs.Derived.{number_cell};
+ghost use Rattle.sql_statements.specs.Derived.{IsReadStmt, count_64, length_32};
+ghost use Rattle.sql_statements.specs.Reader as reader;
+
+use crate::change::{delete, update};
+use crate::define::{create, drop_table};
+use crate::query::query;
+use crate::values::insert;
+use sql_reader::{Cursor, ReadError};
+use sql_tree::{Keyword, Placed, Stmt, Token};
+use std::alloc::Global;
+
+/// The statement that the tokens are, all of them.
+///
+/// A literal outside the signed 64-bit range stands as Nil, which no literal gives; a position of ORDER
+/// BY, a LIMIT or a length that doesn't fit stands as the most of its type. The limits of these are a
+/// step of its own.
+pub fn read_stmt(alloc: Global, tokens: &[Placed]) -> Result<Stmt, ReadError>
+    ensures statement { IfOk result (λ s. IsReadStmt (tokens_in tokens.now) (stmt_tree s)) }
+    ensures none { IsErrOf result ReadError.Syntax →
+        (s : StmtTree) → Derives (tokens_in tokens.now) s → ⊥ }
+{
+    let mut rest = Cursor::new(tokens);
+    let read = stmt(alloc, &mut rest)?;
+    rest.end()?;
+    Ok(read)
+}
+
+/// A statement.
+#[tactic(auto, unfolding(crate::specs::Reader::stmt))]
+fn stmt(alloc: Global, tokens: &mut Cursor<'_>) -> Result<Stmt, ReadError>
+    ensures found { IfOk result (λ s. reader.stmt number_cell count_64 length_32
+        (tokens_in tokens.old.rest.now) ≡ Some (stmt_tree s, tokens_in tokens.new.rest.now)) }
+    ensures none { IsErrOf result ReadError.Syntax →
+        reader.stmt number_cell count_64 length_32 (tokens_in tokens.old.rest.now) ≡ None }
+{
+    match tokens.next() {
+        Some(Token::Key(Keyword::Create)) => create(alloc, tokens),
+        Some(Token::Key(Keyword::Drop)) => drop_table(tokens),
+        Some(Token::Key(Keyword::Insert)) => insert(alloc, tokens),
+        Some(Token::Key(Keyword::Delete)) => delete(alloc, tokens),
+        Some(Token::Key(Keyword::Update)) => update(alloc, tokens),
+        Some(Token::Key(Keyword::Select)) => Ok(Stmt::Query(query(alloc, tokens)?)),
+        Some(Token::Key(Keyword::Explain)) => explain(alloc, tokens),
+        _ => Err(ReadError::Syntax),
+    }
+}
+
+/// What follows EXPLAIN: a query.
+#[tactic(auto, unfolding(crate::specs::Reader::explain))]
+fn explain(alloc: Global, tokens: &mut Cursor<'_>) -> Result<Stmt, ReadError>
+    ensures found { IfOk result (λ s. reader.explain number_cell count_64
+        (tokens_in tokens.old.rest.now) ≡ Some (stmt_tree s, tokens_in tokens.new.rest.now)) }
+    ensures none { IsErrOf result ReadError.Syntax →
+        reader.explain number_cell count_64 (tokens_in tokens.old.rest.now) ≡ None }
+{
+    tokens.key(Keyword::Select)?;
+    Ok(Stmt::Explain(query(alloc, tokens)?))
+}

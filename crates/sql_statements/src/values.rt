@@ -1,0 +1,120 @@
+ghost use Rattle.std.specs.Prelude.{◌≡◌, Some, None, IfOk, IsErrOf};
+ghost use Rattle.sql_grammar.specs.Reads.{tokens_in};
+ghost use Rattle.sql_tree.specs.Tree.{stmt_tree};
+ghost use Rattle.sql_reader.specs.Derived.{number_cell};
+ghost use Rattle.sql_statements.specs.Reader as reader;
+
+use crate::part::{Part, enclosed, listed, name};
+use cell_core::{Cell, Sequence, Word};
+use sql_reader::{Cursor, ReadError, day, digits, is_symbol, negative_number, plain_number, text};
+use sql_tree::{Keyword, Stmt, Symbol, Token};
+use std::alloc::Global;
+
+/// What follows INSERT: INTO, a table, its columns or none, VALUES and rows.
+#[tactic(auto, unfolding(crate::specs::Reader::insert))]
+pub(crate) fn insert(alloc: Global, tokens: &mut Cursor<'_>) -> Result<Stmt, ReadError>
+    ensures found { IfOk result (λ statement. reader.insert number_cell
+        (tokens_in tokens.old.rest.now) ≡ Some (stmt_tree statement, tokens_in tokens.new.rest.now)) }
+    ensures none { IsErrOf result ReadError.Syntax →
+        reader.insert number_cell (tokens_in tokens.old.rest.now) ≡ None }
+{
+    tokens.key(Keyword::Into)?;
+    let table = name(tokens)?;
+    let columns = names(alloc, tokens)?;
+    tokens.key(Keyword::Values)?;
+    let rows = listed(alloc, tokens)?;
+    Ok(Stmt::Insert {
+        table,
+        columns,
+        rows,
+    })
+}
+
+/// The columns in parentheses, or none.
+#[tactic(auto, unfolding(crate::specs::Reader::names))]
+fn names(alloc: Global, tokens: &mut Cursor<'_>) -> Result<Sequence<Word>, ReadError>
+    ensures found { IfOk result (λ names. reader.names (tokens_in tokens.old.rest.now)
+        ≡ Some (names, tokens_in tokens.new.rest.now)) }
+    ensures none { IsErrOf result ReadError.Syntax →
+        reader.names (tokens_in tokens.old.rest.now) ≡ None }
+{
+    if !is_symbol(tokens.peek(), Symbol::Open) {
+        return Ok(Sequence::new(alloc));
+    }
+    enclosed(alloc, tokens)
+}
+
+/// A row: literals in parentheses.
+#[tactic(auto, unfolding(crate::specs::Reader::row))]
+fn row(alloc: Global, tokens: &mut Cursor<'_>) -> Result<Sequence<Cell>, ReadError>
+    ensures found { IfOk result (λ row. reader.row number_cell (tokens_in tokens.old.rest.now)
+        ≡ Some (row, tokens_in tokens.new.rest.now)) }
+    ensures none { IsErrOf result ReadError.Syntax →
+        reader.row number_cell (tokens_in tokens.old.rest.now) ≡ None }
+{
+    enclosed(alloc, tokens)
+}
+
+/// A literal: digits, digits behind a `-`, a string, or DATE and a string that names a day.
+#[tactic(auto, unfolding(crate::specs::Reader::literal))]
+fn literal(tokens: &mut Cursor<'_>) -> Result<Cell, ReadError>
+    ensures found { IfOk result (λ literal. reader.literal number_cell
+        (tokens_in tokens.old.rest.now) ≡ Some (literal, tokens_in tokens.new.rest.now)) }
+    ensures none { IsErrOf result ReadError.Syntax →
+        reader.literal number_cell (tokens_in tokens.old.rest.now) ≡ None }
+{
+    match tokens.next() {
+        Some(Token::Digits(digits)) => Ok(plain_number(digits.text())),
+        Some(Token::Text(text)) => Ok(Cell::Text(text.share()?)),
+        Some(Token::Key(Keyword::Date)) => day_literal(tokens),
+        Some(Token::Symbol(Symbol::Minus)) => negative_literal(tokens),
+        _ => Err(ReadError::Syntax),
+    }
+}
+
+/// The digits behind a `-`.
+#[tactic(auto, unfolding(crate::specs::Reader::negative_literal))]
+fn negative_literal(tokens: &mut Cursor<'_>) -> Result<Cell, ReadError>
+    ensures found { IfOk result (λ literal. reader.negative_literal number_cell
+        (tokens_in tokens.old.rest.now) ≡ Some (literal, tokens_in tokens.new.rest.now)) }
+    ensures none { IsErrOf result ReadError.Syntax →
+        reader.negative_literal number_cell (tokens_in tokens.old.rest.now) ≡ None }
+{
+    let Some(digits) = digits(tokens.next()) else {
+        return Err(ReadError::Syntax);
+    };
+    Ok(negative_number(digits.text()))
+}
+
+/// What follows DATE: a string that names a day.
+#[tactic(auto, unfolding(crate::specs::Reader::day_literal))]
+fn day_literal(tokens: &mut Cursor<'_>) -> Result<Cell, ReadError>
+    ensures found { IfOk result (λ literal. reader.day_literal (tokens_in tokens.old.rest.now)
+        ≡ Some (literal, tokens_in tokens.new.rest.now)) }
+    ensures none { IsErrOf result ReadError.Syntax →
+        reader.day_literal (tokens_in tokens.old.rest.now) ≡ None }
+{
+    let Some(text) = text(tokens.next()) else {
+        return Err(ReadError::Syntax);
+    };
+    match day(text) {
+        Some(day) => Ok(Cell::Day(day)),
+        None => Err(ReadError::Syntax),
+    }
+}
+
+impl Part for Cell {
+    ghost reader = { reader.literal number_cell };
+
+    fn read(alloc: Global, tokens: &mut Cursor<'_>) -> Result<Cell, ReadError> {
+        literal(tokens)
+    }
+}
+
+impl Part for Sequence<Cell> {
+    ghost reader = { reader.row number_cell };
+
+    fn read(alloc: Global, tokens: &mut Cursor<'_>) -> Result<Sequence<Cell>, ReadError> {
+        row(alloc, tokens)
+    }
+}
