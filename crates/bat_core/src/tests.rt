@@ -1,5 +1,5 @@
 //! Each call with ample memory, past a chunk, and the facts of small BATs.
-use crate::{Bat, Cells, Obj, Shared};
+use crate::{Bat, BatBuilder, Cells, CellsBuilder, Obj, Shared};
 use cell_core::{Cell, Memory};
 use std::alloc::Global;
 use std::test::Fail;
@@ -84,5 +84,63 @@ fn columns_made_whole(rt: HostRuntime) -> Result<(), Fail> {
         assert!(rt; place < oids.len() && *oids.get(place) == Cell::Oid(7 + place));
         assert!(rt; place < same.len() && *same.get(place) == Cell::Bit(true));
     }
+    Ok(())
+}
+
+/// The same as `many_pairs`, by a builder.
+fn built_pairs(alloc: Global) -> Result<Bat, Memory> {
+    let mut bat = BatBuilder::new(alloc);
+    for place in 0..MANY {
+        bat.append(alloc, Cell::Oid(place), Cell::Huge(i128::from(place)))?;
+    }
+    bat.finish()
+}
+
+/// Whether the BAT has these pairs past its chunks.
+fn has_many(bat: &Bat) -> bool {
+    let mut all = bat.len() == MANY;
+    for place in [0, 4_095, 4_096, 8_192, 9_999] {
+        let tail = Cell::Huge(i128::from(place));
+        all = all && has_pair(bat, place, &Cell::Oid(place), &tail);
+    }
+    all
+}
+
+#[test]
+fn pairs_built_past_a_chunk(rt: HostRuntime) -> Result<(), Fail> {
+    let bat = built_pairs(rt.alloc())?;
+    assert!(rt; has_many(&bat) && bat.heads_rise());
+    assert_eq!(rt; bat.bytes(), 64 + 160_000);
+    Ok(())
+}
+
+#[test]
+fn columns_after_others(rt: HostRuntime) -> Result<(), Fail> {
+    let bat = built_pairs(rt.alloc())?;
+    let twice = bat.followed_by(rt.alloc(), &bat)?;
+    assert!(rt; twice.len() == 2 * MANY && !twice.heads_rise());
+    Ok(())
+}
+
+#[test]
+fn fronts_of_columns(rt: HostRuntime) -> Result<(), Fail> {
+    let oids = Cells::oids(rt.alloc(), 7, MANY)?;
+    let front = oids.front(rt.alloc(), 5_000)?;
+    assert!(rt; front.len() == 5_000 && front.is_dense());
+    Ok(())
+}
+
+/// A column of three cells.
+fn built_cells(alloc: Global) -> Result<Cells, Memory> {
+    let mut cells = CellsBuilder::new(alloc);
+    cells.push(alloc, Cell::Oid(1))?;
+    cells.push_all(alloc, &[Cell::Oid(2), Cell::Nil])?;
+    cells.finish()
+}
+
+#[test]
+fn columns_built(rt: HostRuntime) -> Result<(), Fail> {
+    let few = built_cells(rt.alloc())?;
+    assert!(rt; few.len() == 3 && few.bytes() == 24 && !few.rises());
     Ok(())
 }
