@@ -1,0 +1,11 @@
+use Rattle.std.proofs.Common.{◌≡◌, length}
+use Rattle.sql_check.specs.First.{first_by, bad_expr, exprs_of}
+use Rattle.sql_check.proofs.references.bad_in_items.Given as goal
+
+-- the rest decides as all do
+abbrev pub invariant-items : goal.invariant-items
+invariant-items l =
+    first_by (bad_expr l.sources) (exprs_of l.rest) ≡ first_by (bad_expr l.sources) (exprs_of l.items)
+
+abbrev pub decreases-items : goal.decreases-items
+decreases-items l = length l.rest
