@@ -49,21 +49,21 @@ refused_keeps (stmt.Insert table columns rows) db r e = refused_second (has_tabl
 refused_keeps (stmt.Query query) db r e = refl
 
 -- the commits of a write lead where its statement does
-written : (statement : Stmt) (db after : Db) (reply : Reply) (k n : ℕ) → (effect statement db).0 ≡ after → ((r : Refusal) → reply ≡ Refused r → after ≡ db) → replay_from db (commits (events_of k (Write (Some statement) (code_of (shown_reply reply)) n ∷ []))) ≡ after
-written statement db after Done k n leads keeps = leads
-written statement db after (Rows m) k n leads keeps = leads
-written statement db after (Refused r) k n leads keeps =
+written : (statement : Stmt) (db after : Db) (reply : Reply) (s k n : ℕ) → (effect statement db).0 ≡ after → ((r : Refusal) → reply ≡ Refused r → after ≡ db) → replay_from db (commits (events_of s k (Write (Some statement) (code_of (shown_reply reply)) n ∷ []))) ≡ after
+written statement db after Done s k n leads keeps = leads
+written statement db after (Rows m) s k n leads keeps = leads
+written statement db after (Refused r) s k n leads keeps =
     ap (λ b. replay_from db (commit_list (cond b (Some statement) None))) (number_not_zero r) ∙ sym (keeps r refl)
   where
     commit_list : Option Stmt → List Stmt
     commit_list o = filter_map (λ x. x) (o ∷ [])
 
 -- the commits of a statement's events lead where the statement does
-pub commits_lead : (db : Db) (reading : Result Stmt Refusal) (k : ℕ) → replay_from db (commits (events_of k (acts_over db reading))) ≡ db_after db reading
-commits_lead db (Err r) k = ap (λ b. replay_from db (filter_map (λ (x : Option Stmt). x) (cond b None None ∷ []))) (number_not_zero r)
-commits_lead db (Ok (stmt.Create table columns)) k = written (stmt.Create table columns) db _ (effect (stmt.Create table columns) db).1 k (count_of (shown_reply (effect (stmt.Create table columns) db).1)) refl (refused_keeps (stmt.Create table columns) db)
-commits_lead db (Ok (stmt.Insert table columns rows)) k = written (stmt.Insert table columns rows) db _ (effect (stmt.Insert table columns rows) db).1 k (count_of (shown_reply (effect (stmt.Insert table columns rows) db).1)) refl (refused_keeps (stmt.Insert table columns rows) db)
-commits_lead db (Ok (stmt.Query query)) k = refl
+pub commits_lead : (s : ℕ) (db : Db) (reading : Result Stmt Refusal) (k : ℕ) → replay_from db (commits (events_of s k (acts_over db reading))) ≡ db_after db reading
+commits_lead s db (Err r) k = ap (λ b. replay_from db (filter_map (λ (x : Option Stmt). x) (cond b None None ∷ []))) (number_not_zero r)
+commits_lead s db (Ok (stmt.Create table columns)) k = written (stmt.Create table columns) db _ (effect (stmt.Create table columns) db).1 s k (count_of (shown_reply (effect (stmt.Create table columns) db).1)) refl (refused_keeps (stmt.Create table columns) db)
+commits_lead s db (Ok (stmt.Insert table columns rows)) k = written (stmt.Insert table columns rows) db _ (effect (stmt.Insert table columns rows) db).1 s k (count_of (shown_reply (effect (stmt.Insert table columns rows) db).1)) refl (refused_keeps (stmt.Insert table columns rows) db)
+commits_lead s db (Ok (stmt.Query query)) k = refl
 
 pub commits-append : (xs ys : List Event) → commits (xs ++ ys) ≡ commits xs ++ commits ys
 commits-append xs ys = filter_map-append (λ (event : Event). committed event.act) xs ys

@@ -29,9 +29,9 @@ use Rattle.sql_core.specs.declared.tree.Stmt.TheVariants as stmt
 use Rattle.sql_to_mal.specs.Translation.{range_query, IsRange, AreInts, Serves}
 use Rattle.sql_shell.specs.Ints.{are_ints, hold_ints, HasInts}
 use Rattle.sql_shell.specs.Missing.{column_refusal}
-use Rattle.sql_shell.specs.Readings.{AreReadings}
-use Rattle.sql_shell.specs.Session.{no_tables, db_after, run_db, HasServed}
-use Rattle.sql_shell.specs.declared.session.Session.{Session}
+use Rattle.sql_shell.specs.Readings.{AreReadings, AreAllRead}
+use Rattle.sql_shell.specs.Session.{no_tables, db_after, run_db, all_db, ServesPieces, HasServed}
+use Rattle.sql_shell.specs.declared.session.Run.{Run}
 use Rattle.sql_shell.proofs.MissingLemmas.{refusal_of_one, refusal_without}
 
 and_left : (a b : Bool) → (a && b) ≡ true → a ≡ true
@@ -159,6 +159,16 @@ module _ (item name of : List ℕ) (low high : ℤ) (db : Db) (ints : HasInts db
 pub columns_of : (query : Query) (db : Db) → HasInts db → query_refusal query db ≡ None → (r : IsRange query) → Serves r.item r.table r.of db
 columns_of query db ints none r = columns_there r.item r.table r.of r.low r.high db ints (ap (λ q. query_refusal q db) (sym r.is) ∙ none)
 
--- a session that has served pieces holds numbers alone
-pub served_ints : (pieces : List (List ℕ)) (session : Session) → HasServed pieces session → HasInts session.db
-served_ints pieces session served = subst HasInts (sym served.db) (readings_keep no_tables pieces served.readings served.read refl)
+all_keep : (db : Db) (scripts : List (List (List ℕ))) (readings : List (List (Result Stmt Refusal))) → AreAllRead scripts readings → HasInts db → HasInts (all_db db readings)
+all_keep db [] [] read h = h
+all_keep db [] (r ∷ rs) read h = absurd read
+all_keep db (p ∷ ps) [] read h = absurd read
+all_keep db (p ∷ ps) (r ∷ rs) read h = all_keep (run_db db r) ps rs read.1 (readings_keep db p r read.0 h)
+
+-- a run that has served scripts holds numbers alone
+pub served_ints : (names : List (List ℕ)) (scripts : List (List (List ℕ))) (run : Run) → HasServed names scripts run → HasInts run.db
+served_ints names scripts run served = subst HasInts (sym served.db) (all_keep no_tables scripts served.readings served.read refl)
+
+-- and goes on so
+pub pieces_ints : (old new : Run) (s : ℕ) (pieces : List (List ℕ)) → HasInts old.db → ServesPieces old new s pieces → HasInts new.db
+pieces_ints old new s pieces h serves = subst HasInts (sym serves.db) (readings_keep old.db pieces serves.readings serves.read h)

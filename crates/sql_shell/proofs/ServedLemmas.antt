@@ -1,26 +1,29 @@
--- A session that has served pieces, and one more.
-use Rattle.std.proofs.Common.{◌≡◌, ℕ, ◌+◌, List, [], ◌∷◌, ◌++◌, length, refl, ap, sym, ◌∙◌, subst, arith, append_assoc, append-nil, Option, Some, None, Ok, Err, Result}
-use Rattle.cell_core.specs.declared.table.Db.{Db}
-use Rattle.sql_core.specs.Reading.{IsReadAs}
-use Rattle.sql_core.specs.declared.tree.Stmt.{Stmt}
-use Rattle.sql_core.specs.declared.refusal.Refusal.{Refusal}
-use Rattle.answer_text.specs.declared.event.Event.{Event}
+-- A run that has served scripts, and one statement or one script more.
+use Rattle.std.proofs.Common.{◌≡◌, ℕ, ◌+◌, ◌<◌, List, [], ◌∷◌, ◌++◌, length, take, map, slice_index_or, refl, ap, sym, ◌∙◌, subst, arith, append_assoc, append-nil, Option, Some, None, Ok, Err, Result}
+use Rattle.std.proofs.lemmas.List.{take_more, length-take-le, length-map, map-append}
 use Rattle.cell_core.specs.declared.cell.Cell.{Cell}
+use Rattle.cell_core.specs.declared.table.Db.{Db}
 use Rattle.cell_core.specs.Order.{is_row_below}
 use Rattle.cell_core.specs.Sorted.{sorted_by}
 use Rattle.sql_core.specs.Answer.{tables_of, query_rows}
 use Rattle.sql_core.specs.Effect.{query_refusal}
+use Rattle.sql_core.specs.Reading.{IsReadAs}
 use Rattle.sql_core.specs.declared.tree.Query.{Query}
+use Rattle.sql_core.specs.declared.tree.Stmt.{Stmt}
 use Rattle.sql_core.specs.declared.tree.Stmt.TheVariants as stmt
+use Rattle.sql_core.specs.declared.refusal.Refusal.{Refusal}
+use Rattle.answer_text.specs.declared.event.Event.{Event}
 use Rattle.answer_text.specs.declared.event.Act.TheVariants.{Begin, End}
 use Rattle.answer_text.specs.declared.event.Shown.{Shown}
 use Rattle.answer_text.specs.Log.{acts_over, shown_over, shown_query, code_of, begin_code, IsOrdered}
 use Rattle.answer_text.specs.Layout.{reply_text, session_line, history_text, printed}
-use Rattle.sql_shell.specs.declared.session.Session.{Session}
-use Rattle.sql_shell.specs.Session.{no_tables, events_of, db_after, run_db, run_log, run_text, work_from, Follows, Serves, HasServed, Notes, Counts, Produces}
+use Rattle.sql_shell.specs.declared.session.Run.{Run}
+use Rattle.sql_shell.specs.Session.{no_tables, events_of, db_after, run_db, run_log, run_text, work_from, all_db, all_log, all_text, all_work, Follows, Serves, ServesPieces, HasServed, Notes, Counts, Produces}
 use Rattle.sql_shell.specs.Work.{statement_work, run_work}
-use Rattle.sql_shell.proofs.SessionLemmas.{one_session_ordered, one_session_printed, one_session_work}
-use Rattle.sql_shell.specs.Readings.{AreReadings}
+use Rattle.sql_shell.proofs.SessionLemmas.{sessions_ordered, sessions_printed, sessions_work}
+use Rattle.sql_shell.specs.Readings.{AreReadings, AreAllRead}
+use Rattle.sql_shell.specs.Scripts.{names_of, pieces_in}
+use Rattle.sql_shell.specs.declared.scripts.Script.{Script}
 
 more_readings : (pieces : List (List ℕ)) (readings : List (Result Stmt Refusal)) (text : List ℕ) (reading : Result Stmt Refusal) → AreReadings pieces readings → IsReadAs text reading → AreReadings (pieces ++ text ∷ []) (readings ++ reading ∷ [])
 more_readings [] [] text reading are is = (is, tt)
@@ -38,11 +41,11 @@ more_db : (db : Db) (readings : List (Result Stmt Refusal)) (reading : Result St
 more_db db [] reading = refl
 more_db db (r ∷ rs) reading = more_db (db_after db r) rs reading
 
-more_log : (db : Db) (k j : ℕ) (readings : List (Result Stmt Refusal)) (reading : Result Stmt Refusal) → j ≡ k + length readings → run_log db k (readings ++ reading ∷ []) ≡ run_log db k readings ++ events_of j (acts_over (run_db db readings) reading)
-more_log db k j [] reading is = append-nil _ ∙ ap (λ n. events_of n (acts_over db reading)) (let same : k ≡ j = omega arith in same)
-more_log db k j (r ∷ rs) reading is =
-    ap (λ later. events_of k (acts_over db r) ++ later) (more_log (db_after db r) (k + 1) j rs reading (omega arith))
-    ∙ sym (append_assoc (events_of k (acts_over db r)) (run_log (db_after db r) (k + 1) rs) (events_of j (acts_over (run_db (db_after db r) rs) reading)))
+more_log : (s : ℕ) (db : Db) (k j : ℕ) (readings : List (Result Stmt Refusal)) (reading : Result Stmt Refusal) → j ≡ k + length readings → run_log s db k (readings ++ reading ∷ []) ≡ run_log s db k readings ++ events_of s j (acts_over (run_db db readings) reading)
+more_log s db k j [] reading is = append-nil _ ∙ ap (λ n. events_of s n (acts_over db reading)) (let same : k ≡ j = omega arith in same)
+more_log s db k j (r ∷ rs) reading is =
+    ap (λ later. events_of s k (acts_over db r) ++ later) (more_log s (db_after db r) (k + 1) j rs reading (omega arith))
+    ∙ sym (append_assoc (events_of s k (acts_over db r)) (run_log s (db_after db r) (k + 1) rs) (events_of s j (acts_over (run_db (db_after db r) rs) reading)))
 
 more_text : (db : Db) (k j : ℕ) (readings : List (Result Stmt Refusal)) (reading : Result Stmt Refusal) → j ≡ k + length readings → run_text db k (readings ++ reading ∷ []) ≡ run_text db k readings ++ reply_text j (shown_over (run_db db readings) reading)
 more_text db k j [] reading is = append-nil _ ∙ ap (λ n. reply_text n (shown_over db reading)) (let same : k ≡ j = omega arith in same)
@@ -54,42 +57,124 @@ more_work : (db : Db) (readings : List (Result Stmt Refusal)) (reading : Result 
 more_work db [] reading = omega arith
 more_work db (r ∷ rs) reading = omega (arith, more_work (db_after db r) rs reading)
 
+-- no statement yet
+pub serves_none : (run : Run) (s : ℕ) → ServesPieces run run s []
+serves_none run s = record { readings = []; read = tt; db = refl; log = sym (append-nil run.log.items); text = sym (append-nil run.text.items); work = omega arith }
+
 -- one piece more
-pub serves_more : (pieces : List (List ℕ)) (old new : Session) (k : ℕ) (text : List ℕ) → k ≡ length pieces + 1 → HasServed pieces old → Serves old new k text → HasServed (pieces ++ text ∷ []) new
-serves_more pieces old new k text is served serves =
+pub serves_more : (first old new : Run) (s : ℕ) (pieces : List (List ℕ)) (k : ℕ) (text : List ℕ) → k ≡ length pieces + 1 → ServesPieces first old s pieces → Serves old new s k text → ServesPieces first new s (pieces ++ text ∷ [])
+serves_more first old new s pieces k text is served serves =
     let readings = served.readings in
     let reading = serves.reading in
     let count : k ≡ 1 + length readings = omega (arith, as_many pieces readings served.read) in
     record {
       readings = readings ++ reading ∷ [];
       read = more_readings pieces readings text reading served.read serves.read;
-      db = serves.follows.db ∙ ap (λ db. db_after db reading) served.db ∙ sym (more_db no_tables readings reading);
-      log = serves.follows.log ∙ ap (λ log. log ++ events_of k (acts_over old.db reading)) served.log
-          ∙ ap (λ db. run_log no_tables 1 readings ++ events_of k (acts_over db reading)) served.db
-          ∙ sym (more_log no_tables 1 k readings reading count);
+      db = serves.follows.db ∙ ap (λ db. db_after db reading) served.db ∙ sym (more_db first.db readings reading);
+      log = serves.follows.log ∙ ap (λ log. log ++ events_of s k (acts_over old.db reading)) served.log
+          ∙ ap (λ db. (first.log.items ++ run_log s first.db 1 readings) ++ events_of s k (acts_over db reading)) served.db
+          ∙ append_assoc first.log.items (run_log s first.db 1 readings) (events_of s k (acts_over (run_db first.db readings) reading))
+          ∙ ap (λ log. first.log.items ++ log) (sym (more_log s first.db 1 k readings reading count));
       text = serves.follows.text ∙ ap (λ out. out ++ reply_text k (shown_over old.db reading)) served.text
-          ∙ ap (λ db. run_text no_tables 1 readings ++ reply_text k (shown_over db reading)) served.db
-          ∙ sym (more_text no_tables 1 k readings reading count);
+          ∙ ap (λ db. (first.text.items ++ run_text first.db 1 readings) ++ reply_text k (shown_over db reading)) served.db
+          ∙ append_assoc first.text.items (run_text first.db 1 readings) (reply_text k (shown_over (run_db first.db readings) reading))
+          ∙ ap (λ text. first.text.items ++ text) (sym (more_text first.db 1 k readings reading count));
       work = serves.follows.work ∙ ap (λ n. n + statement_work old.db reading) served.work
-          ∙ ap (λ db. work_from no_tables readings + statement_work db reading) served.db
-          ∙ sym (more_work no_tables readings reading);
+          ∙ ap (λ db. (first.work + work_from first.db readings) + statement_work db reading) served.db
+          ∙ omega (arith, more_work first.db readings reading);
     }
 
--- what a session alone logs and prints
-pub produces : (name : List ℕ) (pieces : List (List ℕ)) (session : Session) (text : List ℕ) → HasServed pieces session → text ≡ session_line 1 name ++ session.text.items ++ history_text session.log.items → Produces name pieces session.log.items text session.work
-produces name pieces session text served is =
+-- ## Scripts
+
+all_more_read : (scripts : List (List (List ℕ))) (readings : List (List (Result Stmt Refusal))) (pieces : List (List ℕ)) (more : List (Result Stmt Refusal)) → AreAllRead scripts readings → AreReadings pieces more → AreAllRead (scripts ++ pieces ∷ []) (readings ++ more ∷ [])
+all_more_read [] [] pieces more are is = (is, tt)
+all_more_read [] (r ∷ rs) pieces more are is = absurd are
+all_more_read (p ∷ ps) [] pieces more are is = absurd are
+all_more_read (p ∷ ps) (r ∷ rs) pieces more are is = (are.0, all_more_read ps rs pieces more are.1 is)
+
+all_as_many : (scripts : List (List (List ℕ))) (readings : List (List (Result Stmt Refusal))) → AreAllRead scripts readings → length readings ≡ length scripts
+all_as_many [] [] are = refl
+all_as_many [] (r ∷ rs) are = absurd are
+all_as_many (p ∷ ps) [] are = absurd are
+all_as_many (p ∷ ps) (r ∷ rs) are = omega (arith, all_as_many ps rs are.1)
+
+all_more_db : (db : Db) (scripts : List (List (Result Stmt Refusal))) (more : List (Result Stmt Refusal)) → all_db db (scripts ++ more ∷ []) ≡ run_db (all_db db scripts) more
+all_more_db db [] more = refl
+all_more_db db (r ∷ rs) more = all_more_db (run_db db r) rs more
+
+all_more_log : (s t : ℕ) (db : Db) (scripts : List (List (Result Stmt Refusal))) (more : List (Result Stmt Refusal)) → t ≡ s + length scripts → all_log s db (scripts ++ more ∷ []) ≡ all_log s db scripts ++ run_log t (all_db db scripts) 1 more
+all_more_log s t db [] more is = append-nil _ ∙ ap (λ n. run_log n db 1 more) (let same : s ≡ t = omega arith in same)
+all_more_log s t db (r ∷ rs) more is =
+    ap (λ later. run_log s db 1 r ++ later) (all_more_log (s + 1) t (run_db db r) rs more (omega arith))
+    ∙ sym (append_assoc (run_log s db 1 r) (all_log (s + 1) (run_db db r) rs) (run_log t (all_db (run_db db r) rs) 1 more))
+
+all_more_text : (s t : ℕ) (db : Db) (names : List (List ℕ)) (scripts : List (List (Result Stmt Refusal))) (name : List ℕ) (more : List (Result Stmt Refusal)) → length names ≡ length scripts → t ≡ s + length scripts → all_text s db (names ++ name ∷ []) (scripts ++ more ∷ []) ≡ all_text s db names scripts ++ (session_line t name ++ run_text (all_db db scripts) 1 more)
+all_more_text s t db [] [] name more long is = append-nil _ ∙ ap (λ n. session_line n name ++ run_text db 1 more) (let same : s ≡ t = omega arith in same)
+all_more_text s t db [] (r ∷ rs) name more long is = grind arith
+all_more_text s t db (n ∷ ns) [] name more long is = grind arith
+all_more_text s t db (n ∷ ns) (r ∷ rs) name more long is =
+    ap (λ later. session_line s n ++ run_text db 1 r ++ later) (all_more_text (s + 1) t (run_db db r) ns rs name more (omega (arith, long)) (omega arith))
+    ∙ sym (append_assoc (session_line s n ++ run_text db 1 r) (all_text (s + 1) (run_db db r) ns rs) (session_line t name ++ run_text (all_db (run_db db r) rs) 1 more))
+
+all_more_work : (db : Db) (scripts : List (List (Result Stmt Refusal))) (more : List (Result Stmt Refusal)) → all_work db (scripts ++ more ∷ []) ≡ all_work db scripts + work_from (all_db db scripts) more
+all_more_work db [] more = omega arith
+all_more_work db (r ∷ rs) more = omega (arith, all_more_work (run_db db r) rs more)
+
+-- one script more: its line, and then its statements
+pub served_more : (names : List (List ℕ)) (scripts : List (List (List ℕ))) (old begun new : Run) (s : ℕ) (name : List ℕ) (pieces : List (List ℕ))
+    → length names ≡ length scripts → s ≡ length scripts + 1 → HasServed names scripts old
+    → begun.db ≡ old.db → begun.log.items ≡ old.log.items → begun.work ≡ old.work → begun.text.items ≡ old.text.items ++ session_line s name
+    → ServesPieces begun new s pieces → HasServed (names ++ name ∷ []) (scripts ++ pieces ∷ []) new
+served_more names scripts old begun new s name pieces long count served db log work text serves =
+    let all = served.readings in
+    let more = serves.readings in
+    let many = all_as_many scripts all served.read in
+    let number : s ≡ 1 + length all = omega (arith, many) in
+    let before : begun.db ≡ all_db no_tables all = db ∙ served.db in
+    record {
+      readings = all ++ more ∷ [];
+      read = all_more_read scripts all pieces more served.read serves.read;
+      db = serves.db ∙ ap (λ d. run_db d more) before ∙ sym (all_more_db no_tables all more);
+      log = serves.log ∙ ap (λ l. l ++ run_log s begun.db 1 more) (log ∙ served.log) ∙ ap (λ d. all_log 1 no_tables all ++ run_log s d 1 more) before ∙ sym (all_more_log 1 s no_tables all more number);
+      text = serves.text ∙ ap (λ t. t ++ run_text begun.db 1 more) (text ∙ ap (λ t. t ++ session_line s name) served.text)
+          ∙ ap (λ d. (all_text 1 no_tables names all ++ session_line s name) ++ run_text d 1 more) before
+          ∙ append_assoc (all_text 1 no_tables names all) (session_line s name) (run_text (all_db no_tables all) 1 more)
+          ∙ sym (all_more_text 1 s no_tables names all name more (omega (arith, many, long)) number);
+      work = serves.work ∙ ap (λ n. n + work_from begun.db more) (work ∙ served.work) ∙ ap (λ d. all_work no_tables all + work_from d more) before ∙ sym (all_more_work no_tables all more);
+    }
+
+-- the same for the next of a list of scripts
+pub scripts_more : (scripts : List Script) (i : ℕ) (script : Script) (old begun new : Run)
+    → i < length scripts → script ≡ slice_index_or scripts i script → HasServed (names_of (take i scripts)) (pieces_in (take i scripts)) old
+    → begun.db ≡ old.db → begun.log.items ≡ old.log.items → begun.work ≡ old.work → begun.text.items ≡ old.text.items ++ session_line (i + 1) script.name
+    → ServesPieces begun new (i + 1) script.pieces → HasServed (names_of (take (i + 1) scripts)) (pieces_in (take (i + 1) scripts)) new
+scripts_more scripts i script old begun new inside is served db log work text serves =
+    let done = take i scripts in
+    let more : done ++ script ∷ [] ≡ take (i + 1) scripts = ap (λ x. done ++ x ∷ []) is ∙ sym (take_more scripts i script inside) in
+    let long : length done ≡ i = length-take-le i scripts (omega arith) in
+    let names : length (names_of done) ≡ length done = length-map done (λ (s : Script). s.name) in
+    let pieces : length (pieces_in done) ≡ length done = length-map done (λ (s : Script). s.pieces) in
+    let all = served_more (names_of done) (pieces_in done) old begun new (i + 1) script.name script.pieces (names ∙ sym pieces) (omega (arith, pieces, long)) served db log work text serves in
+    let P : List Script → Type 0 = λ ss. HasServed (names_of ss) (pieces_in ss) new in
+    let Q : List (List ℕ) → Type 0 = λ ns. HasServed ns (pieces_in done ++ script.pieces ∷ []) new in
+    let R : List (List (List ℕ)) → Type 0 = λ ps. HasServed (names_of (done ++ script ∷ [])) ps new in
+    subst P more (subst R (sym (map-append (λ (s : Script). s.pieces) done (script ∷ []))) (subst Q (sym (map-append (λ (s : Script). s.name) done (script ∷ []))) all))
+
+-- what the scripts log and print
+pub produces : (names : List (List ℕ)) (scripts : List (List (List ℕ))) (run : Run) (text : List ℕ) → HasServed names scripts run → text ≡ run.text.items ++ history_text run.log.items → Produces names scripts run.log.items text run.work
+produces names scripts run text served is =
     let readings = served.readings in
-    let P : List Event → Type 0 = λ log. IsOrdered (readings ∷ []) log in
+    let P : List Event → Type 0 = λ log. IsOrdered readings log in
     record {
       readings = readings;
       read = served.read;
-      ordered = subst P (sym served.log) (one_session_ordered readings);
+      ordered = subst P (sym served.log) (sessions_ordered readings);
       printed_is = is
-          ∙ ap (λ out. session_line 1 name ++ out ++ history_text session.log.items) served.text
-          ∙ ap (λ log. session_line 1 name ++ run_text no_tables 1 readings ++ history_text log) served.log
-          ∙ sym (one_session_printed name readings)
-          ∙ ap (λ log. printed (name ∷ []) (readings ∷ []) log) (sym served.log);
-      work_is = served.work ∙ sym (one_session_work readings) ∙ ap (λ log. run_work (readings ∷ []) log) (sym served.log);
+          ∙ ap (λ out. out ++ history_text run.log.items) served.text
+          ∙ ap (λ log. all_text 1 no_tables names readings ++ history_text log) served.log
+          ∙ sym (sessions_printed names readings)
+          ∙ ap (λ log. printed names readings log) (sym served.log);
+      work_is = served.work ∙ sym (sessions_work readings) ∙ ap (λ log. run_work readings log) (sym served.log);
     }
 
 -- ## A query
@@ -99,18 +184,18 @@ same_code None rows = refl
 same_code (Some refusal) rows = refl
 
 -- a query's work counted, its two acts logged, and its reply written
-pub query_served : (old counted begun ended new : Session) (k work code : ℕ) (shown : Shown) (query : Query)
-    → Counts old counted work → Notes counted begun k (Begin code) → Notes begun ended k (End code)
+pub query_served : (old counted begun ended new : Run) (s k work code : ℕ) (shown : Shown) (query : Query)
+    → Counts old counted work → Notes counted begun s k (Begin code) → Notes begun ended s k (End code)
     → new.db ≡ ended.db → new.log.items ≡ ended.log.items → new.work ≡ ended.work → new.text.items ≡ ended.text.items ++ reply_text k shown
     → shown ≡ shown_over old.db (Ok (stmt.Query query)) → work ≡ statement_work old.db (Ok (stmt.Query query)) → code ≡ code_of shown
-    → Follows old new k (Ok (stmt.Query query))
-query_served old counted begun ended new k work code shown query counts begins ends db log total replies shows works codes =
+    → Follows old new s k (Ok (stmt.Query query))
+query_served old counted begun ended new s k work code shown query counts begins ends db log total replies shows works codes =
     let is : code ≡ code_of (shown_over old.db (Ok (stmt.Query query))) = codes ∙ ap code_of shows in
-    let events = λ (b e : ℕ). let es : List Event = record { session = 1; statement = k; act = Begin b } ∷ record { session = 1; statement = k; act = End e } ∷ [] in es in
+    let events = λ (b e : ℕ). let es : List Event = record { session = s; statement = k; act = Begin b } ∷ record { session = s; statement = k; act = End e } ∷ [] in es in
     record {
       db = db ∙ ends.db ∙ begins.db ∙ counts.db;
-      log = log ∙ ends.log ∙ ap (λ l. l ++ record { session = 1; statement = k; act = End code } ∷ []) (begins.log ∙ ap (λ l. l ++ record { session = 1; statement = k; act = Begin code } ∷ []) counts.log)
-          ∙ append_assoc old.log.items (record { session = 1; statement = k; act = Begin code } ∷ []) (record { session = 1; statement = k; act = End code } ∷ [])
+      log = log ∙ ends.log ∙ ap (λ l. l ++ record { session = s; statement = k; act = End code } ∷ []) (begins.log ∙ ap (λ l. l ++ record { session = s; statement = k; act = Begin code } ∷ []) counts.log)
+          ∙ append_assoc old.log.items (record { session = s; statement = k; act = Begin code } ∷ []) (record { session = s; statement = k; act = End code } ∷ [])
           ∙ ap (λ (b : ℕ). old.log.items ++ events b code) (is ∙ same_code (query_refusal query old.db) (sorted_by is_row_below (query_rows query (tables_of query old.db))))
           ∙ ap (λ (e : ℕ). old.log.items ++ events (begin_code (query_refusal query old.db)) e) is;
       text = replies ∙ ap (λ t. t ++ reply_text k shown) (ends.text ∙ begins.text ∙ counts.text) ∙ ap (λ s. old.text.items ++ reply_text k s) shows;

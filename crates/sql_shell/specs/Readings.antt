@@ -9,3 +9,9 @@ abbrev pub AreReadings : List (List ℕ) → List (Result Stmt Refusal) → Type
 AreReadings [] [] = Unit {0}
 AreReadings (piece ∷ pieces) (reading ∷ readings) = IsReadAs piece reading × AreReadings pieces readings
 AreReadings _ _ = ⊥
+
+-- so of each script
+abbrev pub AreAllRead : List (List (List ℕ)) → List (List (Result Stmt Refusal)) → Type 0
+AreAllRead [] [] = Unit {0}
+AreAllRead (pieces ∷ scripts) (readings ∷ others) = AreReadings pieces readings × AreAllRead scripts others
+AreAllRead _ _ = ⊥

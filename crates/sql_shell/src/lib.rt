@@ -1,5 +1,5 @@
-//! The program as one call, `top`: it reads a script, runs its statements in order over one database,
-//! and writes the replies and the history of accepted changes.
+//! The program as one call, `top`: it reads scripts, runs them one after the other as sessions over one
+//! database, and writes the replies and the history of accepted changes.
 //!
 //! It stands on `causes` for reading and writing, on `sql_parse` for text, on `sql_core` for what SQL
 //! means, on `sql_to_mal` and `mal_exec` for queries as plans, and on `answer_text` for the layouts.
@@ -10,6 +10,7 @@ mod columns;
 mod effect;
 mod produce;
 mod refuse;
+mod scripts;
 mod served;
 mod session;
 mod show;

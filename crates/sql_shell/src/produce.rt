@@ -1,14 +1,16 @@
-ghost use Rattle.std.specs.Prelude.{◌≡◌, ◌≤◌, ◌+◌, length, IfOk};
+ghost use Rattle.std.specs.Prelude.{◌≡◌, ◌≤◌, ◌+◌, length, All, IfOk};
+ghost use Rattle.sql_shell.specs.Scripts.{names_of, pieces_in};
 ghost use Rattle.sql_shell.specs.Session.{Produces};
 
-use crate::session::run;
-use answer_text::{Event, write_history, write_session_line};
+use crate::scripts::Script;
+use crate::session::run_scripts;
+use answer_text::{Event, write_history};
 use bat_core::Operate;
-use cell_core::{Memory, Sequence, Steps, Word};
+use cell_core::{Memory, Sequence, Steps};
 use std::alloc::Global;
 use std::sync::ledger::Ledger;
 
-/// What a script's run gives.
+/// What a run gives.
 #[derive(Drop)]
 pub struct Produced {
     /// The log.
@@ -19,26 +21,25 @@ pub struct Produced {
     pub work: u128,
 }
 
-/// Runs a script: its log, what is printed of it, and its work, by which the counter rises.
+/// Runs scripts one after the other: their log, what is printed of it, and their work, by which the
+/// counter rises.
 pub fn produce<E: Operate, L: Ledger>(
     alloc: Global,
-    name: &Word,
-    pieces: &[Word],
+    scripts: &[Script],
     kernel: &E,
     steps: &mut Steps<L>,
 ) -> Result<Produced, Memory>
-    requires { length pieces.now ≤ 256 }
-    ensures produced { IfOk result (λ run. Produces name.now pieces.now run.log run.text.items run.work) }
+    requires few { length scripts.now ≤ 16 }
+    requires short { All (λ script. length script.pieces ≤ 256) scripts.now }
+    ensures produced { IfOk result (λ run. Produces (names_of scripts.now) (pieces_in scripts.now) run.log run.text.items run.work) }
     ensures counted { IfOk result (λ run. steps.new ≡ steps.old + run.work) }
 {
-    let session = run(alloc, pieces, kernel, steps)?;
-    let mut text = Vec::new(alloc);
-    write_session_line(alloc, 1, name.text(), &mut text)?;
-    text.extend_from_slice(session.text.as_slice())?;
-    write_history(alloc, session.log.as_slice(), &mut text)?;
+    let run = run_scripts(alloc, scripts, kernel, steps)?;
+    let mut text = run.text;
+    write_history(alloc, run.log.as_slice(), &mut text)?;
     Ok(Produced {
-        log: Sequence::from_vec(session.log),
+        log: Sequence::from_vec(run.log),
         text,
-        work: session.work,
+        work: run.work,
     })
 }

@@ -1,25 +1,29 @@
-ghost use Rattle.std.specs.Prelude.{◌≡◌, ◌≢◌, ◌≤◌, ◌⊎◌, ◌+◌, ℕ, List, [], ◌∷◌, length, IfOk, IfSome, IsUtf8, None, true};
+ghost use Rattle.std.specs.Prelude.{◌≡◌, ◌≤◌, ◌⊎◌, ◌+◌, ℕ, List, [], ◌∷◌, length, All, IfSome, None, true};
 ghost use Rattle.std.specs.Io.KnownBytes.{Appends};
 ghost use Rattle.causes.specs.Faults.{AppendsPrefix, Rose};
-ghost use Rattle.sql_core.specs.Reading.{pieces_of};
-ghost use Rattle.sql_shell.specs.Served.{run_file, IsRunnable, IsServed, is_status, file_at};
+ghost use Rattle.sql_shell.specs.Failures.{status_of, at_of};
+ghost use Rattle.sql_shell.specs.Scripts.{AreRunnable, IsFirstUnfit, told, names_of, pieces_in};
+ghost use Rattle.sql_shell.specs.Served.{IsServed, is_status};
+ghost use Rattle.sql_shell.specs.Session.{Produces};
+ghost use Rattle.sql_shell.specs.Words.{run_files};
 ghost use Rattle.sql_shell.specs.Work.{HasWork};
 
 use crate::produce::produce;
-use crate::words::file_of;
+use crate::scripts::{Failure, Script, read_scripts};
+use crate::words::files_of;
 use answer_text::Event;
 use bat_core::Operate;
-use causes::{ReadError, Scripts, Sink, read_all, write_all};
+use causes::{Scripts, Sink, write_all};
 use cell_core::{Memory, Sequence, Steps, Word};
-use sql_parse::{SplitError, has_marks, split};
 use std::alloc::Global;
 use std::sync::ledger::Ledger;
 
 /// What the program answers.
 #[derive(Debug, Drop)]
 pub struct Served {
-    /// 0: served; 1: the words or the script's bytes are outside what is run; 2: the script can't be
-    /// read; 3: the answer can't be written; 5: memory ran out.
+    /// 0: served; 1: the words, or what a script holds, are outside what is run; 2: a script can't be
+    /// read; 3: the answer can't be written; 4: a script has too many bytes or statements; 5: memory
+    /// ran out; 6: a script isn't UTF-8.
     pub status: u8,
     /// The file that the status is about, from 1 in the order of the words, or 0.
     pub at: u64,
@@ -29,9 +33,9 @@ pub struct Served {
     pub work: u128,
 }
 
-/// Does all that the program does: reads the script that the words name, runs its statements in order
-/// over one database, its queries as plans by the kernel, and writes the replies and the history of
-/// accepted changes. The counter rises by the work of the plans.
+/// Does all that the program does: reads the scripts that the words name, runs them one after the
+/// other as sessions over one database, their queries as plans by the kernel, and writes the replies
+/// and the history of accepted changes. The counter rises by the work of the plans.
 pub fn top<S: Scripts, K: Sink, E: Operate, L: Ledger>(
     alloc: Global,
     words: &[Word],
@@ -40,92 +44,79 @@ pub fn top<S: Scripts, K: Sink, E: Operate, L: Ledger>(
     kernel: &E,
     steps: &mut Steps<L>,
 ) -> Served
-    // The headline: what is written is the meaning of the script, by the log of this run.
-    ensures served { result.status ≡ 0 → IfSome (run_file words.now) (λ name. IfSome (S.bytes_of scripts.old name) (λ script.
-        (text : List ℕ) × Appends (K.contents out.old) (K.contents out.new) text × IsServed (name ∷ []) (script ∷ []) text result.log)) }
-    ensures prefix { result.status ≡ 3 → IfSome (run_file words.now) (λ name. IfSome (S.bytes_of scripts.old name) (λ script.
-        (text : List ℕ) × AppendsPrefix (K.contents out.old) (K.contents out.new) text × IsServed (name ∷ []) (script ∷ []) text result.log)) }
+    // The headline: what is written is the meaning of the scripts, by the log of this run.
+    ensures served { result.status ≡ 0 → IfSome (run_files words.now) (λ names. IfSome (told (S.bytes_of scripts.old) names) (λ texts.
+        (text : List ℕ) × Appends (K.contents out.old) (K.contents out.new) text × IsServed names texts text result.log)) }
+    ensures prefix { result.status ≡ 3 → IfSome (run_files words.now) (λ names. IfSome (told (S.bytes_of scripts.old) names) (λ texts.
+        (text : List ℕ) × AppendsPrefix (K.contents out.old) (K.contents out.new) text × IsServed names texts text result.log)) }
 
-    // When each other status comes.
-    ensures words { run_file words.now ≡ None → result.status ≡ 1 }
-    ensures bytes { result.status ≡ 1 → IfSome (run_file words.now) (λ name. IfSome (S.bytes_of scripts.old name) (λ script. ¬ IsRunnable script)) }
+    // When each other status comes, and which file it is about.
+    ensures words { run_files words.now ≡ None → (result.status ≡ 1) × (result.at ≡ 0) ⊎ (result.status ≡ 5) }
+    ensures bytes { (result.status ≡ 1) ⊎ (result.status ≡ 4) ⊎ (result.status ≡ 6) → IfSome (run_files words.now) (λ names. IfSome (told (S.bytes_of scripts.old) names) (λ texts.
+        IsFirstUnfit 1 texts result.status result.at)) }
     ensures read_fault { result.status ≡ 2 → Rose (S.faults scripts.old) (S.faults scripts.new) }
     ensures write_fault { result.status ≡ 3 → Rose (K.faults out.old) (K.faults out.new) }
-    ensures complete { IfSome (run_file words.now) (λ name. IfSome (S.bytes_of scripts.old name) (λ script.
-        IsRunnable script → ¬ Rose (S.faults scripts.old) (S.faults scripts.new) → ¬ Rose (K.faults out.old) (K.faults out.new)
+    ensures complete { IfSome (run_files words.now) (λ names. IfSome (told (S.bytes_of scripts.old) names) (λ texts.
+        AreRunnable texts → ¬ Rose (S.faults scripts.old) (S.faults scripts.new) → ¬ Rose (K.faults out.old) (K.faults out.new)
         → (result.status ≡ 0) ⊎ (result.status ≡ 5))) }
     ensures known { is_status result.status ≡ true }
+    ensures at { (result.status ≡ 0) ⊎ (result.status ≡ 1) ⊎ (result.status ≡ 3) ⊎ (result.status ≡ 5) → result.at ≡ 0 }
+    ensures file { IfSome (run_files words.now) (λ names. result.at ≤ length names) }
 
     // What each of them leaves.
-    ensures silent { (result.status ≡ 1) ⊎ (result.status ≡ 2) ⊎ (result.status ≡ 5) → (K.contents out.new ≡ K.contents out.old) × (result.log ≡ []) }
-    ensures at { result.at ≡ file_at result.status }
+    ensures silent { (result.status ≡ 1) ⊎ (result.status ≡ 2) ⊎ (result.status ≡ 4) ⊎ (result.status ≡ 5) ⊎ (result.status ≡ 6) → (K.contents out.new ≡ K.contents out.old) × (result.log ≡ []) × (result.work ≡ 0) }
 
     // The work of the run's plans, which is counted.
-    ensures work { (result.status ≡ 0) ⊎ (result.status ≡ 3) → IfSome (run_file words.now) (λ name. IfSome (S.bytes_of scripts.old name) (λ script. HasWork (script ∷ []) result.log result.work)) }
+    ensures work { (result.status ≡ 0) ⊎ (result.status ≡ 3) → IfSome (run_files words.now) (λ names. IfSome (told (S.bytes_of scripts.old) names) (λ texts. HasWork texts result.log result.work)) }
     ensures counted { (result.status ≡ 0) ⊎ (result.status ≡ 3) → steps.new ≡ steps.old + result.work }
-    ensures idle { (result.status ≡ 1) ⊎ (result.status ≡ 2) → (result.work ≡ 0) × (steps.new ≡ steps.old) }
-    ensures given_up { result.status ≡ 5 → result.work ≡ 0 }
+    ensures idle { (result.status ≡ 1) ⊎ (result.status ≡ 2) ⊎ (result.status ≡ 4) ⊎ (result.status ≡ 6) → steps.new ≡ steps.old }
 {
-    let Some(file) = file_of(words) else {
-        return failed(alloc, 1, 0);
+    let files = match files_of(alloc, words) {
+        Ok(Some(files)) => files,
+        Ok(None) => return failed(alloc, Failure::Words),
+        Err(Memory) => return failed(alloc, Failure::Memory),
     };
-    match read_all(alloc, scripts, file.text()) {
-        Ok(script) => serve(alloc, file, script.text(), out, kernel, steps),
-        Err(ReadError::ReadFault) => failed(alloc, 2, 1),
-        Err(ReadError::TooLong) => failed(alloc, 1, 0),
-        Err(ReadError::NotText) => failed(alloc, 1, 0),
-        Err(ReadError::Memory) => failed(alloc, 5, 0),
+    match read_scripts(alloc, scripts, files.as_slice()) {
+        Ok(read) => serve(alloc, read.as_slice(), out, kernel, steps),
+        Err(failure) => failed(alloc, failure),
     }
 }
 
 /// A run that wrote nothing.
-fn failed(alloc: Global, status: u8, at: u64) -> Served
-    ensures status { result.status ≡ status }
-    ensures at { result.at ≡ at }
+fn failed(alloc: Global, failure: Failure) -> Served
+    ensures status { result.status ≡ status_of failure }
+    ensures at { result.at ≡ at_of failure }
     ensures log { result.log ≡ [] }
     ensures work { result.work ≡ 0 }
 {
     Served {
-        status,
-        at,
+        status: failure.status(),
+        at: failure.at(),
         log: Sequence::new(alloc),
         work: 0,
     }
 }
 
-/// The same for a script that was read.
+/// Runs scripts that were read, and writes what is printed of their log.
 fn serve<K: Sink, E: Operate, L: Ledger>(
     alloc: Global,
-    name: &Word,
-    script: &str,
+    scripts: &[Script],
     out: &mut K,
     kernel: &E,
     steps: &mut Steps<L>,
 ) -> Served
-    requires short { length script.now ≤ 1048576 }
-    requires text { IsUtf8 script.now }
-    ensures served { result.status ≡ 0 → (text : List ℕ) × Appends (K.contents out.old) (K.contents out.new) text × IsServed (name.now ∷ []) (script.now ∷ []) text result.log }
-    ensures prefix { result.status ≡ 3 → (text : List ℕ) × AppendsPrefix (K.contents out.old) (K.contents out.new) text × IsServed (name.now ∷ []) (script.now ∷ []) text result.log }
-    ensures bytes { result.status ≡ 1 → ¬ IsRunnable script.now }
+    requires few { length scripts.now ≤ 16 }
+    requires short { All (λ script. length script.pieces ≤ 256) scripts.now }
+    ensures served { result.status ≡ 0 → (text : List ℕ) × Appends (K.contents out.old) (K.contents out.new) text × Produces (names_of scripts.now) (pieces_in scripts.now) result.log text result.work }
+    ensures prefix { result.status ≡ 3 → (text : List ℕ) × AppendsPrefix (K.contents out.old) (K.contents out.new) text × Produces (names_of scripts.now) (pieces_in scripts.now) result.log text result.work }
     ensures write_fault { result.status ≡ 3 → Rose (K.faults out.old) (K.faults out.new) }
-    ensures known { (result.status ≡ 0) ⊎ (result.status ≡ 1) ⊎ (result.status ≡ 3) ⊎ (result.status ≡ 5) }
-    ensures silent { (result.status ≡ 1) ⊎ (result.status ≡ 5) → (K.contents out.new ≡ K.contents out.old) × (result.log ≡ []) }
+    ensures known { (result.status ≡ 0) ⊎ (result.status ≡ 3) ⊎ (result.status ≡ 5) }
+    ensures silent { result.status ≡ 5 → (K.contents out.new ≡ K.contents out.old) × (result.log ≡ []) × (result.work ≡ 0) }
     ensures at { result.at ≡ 0 }
-    ensures work { (result.status ≡ 0) ⊎ (result.status ≡ 3) → HasWork (script.now ∷ []) result.log result.work }
     ensures counted { (result.status ≡ 0) ⊎ (result.status ≡ 3) → steps.new ≡ steps.old + result.work }
-    ensures idle { result.status ≡ 1 → (result.work ≡ 0) × (steps.new ≡ steps.old) }
-    ensures given_up { result.status ≡ 5 → result.work ≡ 0 }
 {
-    if has_marks(script) {
-        return failed(alloc, 1, 0);
-    }
-    let pieces = match split(alloc, script) {
-        Ok(pieces) => pieces,
-        Err(SplitError::TooMany) => return failed(alloc, 1, 0),
-        Err(SplitError::Memory) => return failed(alloc, 5, 0),
-    };
-    match produce(alloc, name, pieces.as_slice(), kernel, steps) {
-        Err(Memory) => failed(alloc, 5, 0),
+    match produce(alloc, scripts, kernel, steps) {
+        Err(Memory) => failed(alloc, Failure::Memory),
         Ok(produced) => {
             let status = match write_all(out, produced.text.as_slice()) {
                 Ok(()) => 0,

@@ -14,11 +14,11 @@ use std::test::Fail;
 /// The status of a run, the file that it is about, and what is written.
 type Outcome = (u8, u64, Vec<u8>);
 
-/// A run over a script named `a.sql`, with the call of the source and the call of the sink that fail.
+/// A run of the words over files, with the call of the source and the call of the sink that fail.
 fn run_words<L: Ledger>(
     alloc: Global,
     texts: &[&str],
-    script: Vec<u8>,
+    files: Vec<(Word, Vec<u8>)>,
     failing: (u64, u64),
     blank: Blank,
 ) -> Result<Outcome, Memory>
@@ -30,8 +30,6 @@ fn run_words<L: Ledger>(
     for text in texts {
         words.push(word_of(alloc, text)?)?;
     }
-    let mut files = Vec::new(alloc);
-    files.push((word_of(alloc, "a.sql")?, script))?;
     let mut scripts = MemScripts::new(files, vec![in alloc; failing.0]?);
     let mut out = MemSink::new(alloc, 10, 100_000, vec![in alloc; failing.1]?)?;
     let mut steps = Steps::<L>::new(blank);
@@ -48,6 +46,7 @@ fn run_words<L: Ledger>(
     Ok((served.status, served.at, held))
 }
 
+/// The same over one script, named `a.sql`.
 fn run(
     alloc: Global,
     texts: &[&str],
@@ -55,7 +54,8 @@ fn run(
     failing: (u64, u64),
 ) -> Result<Outcome, Memory> {
     let script = Vec::from_slice(alloc, script)?;
-    run_words::<Brand>(alloc, texts, script, failing, Blank::new(1))
+    let files = vec![in alloc; (word_of(alloc, "a.sql")?, script)]?;
+    run_words::<Brand>(alloc, texts, files, failing, Blank::new(1))
 }
 
 const THREE: &str = "CREATE TABLE t (a INT); INSERT INTO t VALUES (3), (1), (2); \
@@ -112,14 +112,32 @@ fn statuses_and_what_they_are_about(rt: HostRuntime) -> Result<(), Fail> {
     let run_a: &[&str] = &["run", "a.sql"];
     for (name, texts, script, failing, status, at, written) in [
         ("no words", &[] as &[&str], three, (0, 0), 1, 0, ""),
-        ("run alone", &["run"], three, (0, 0), 1, 0, ""),
         (
-            "two files",
-            &["run", "a.sql", "b.sql"],
+            "files behind --",
+            &["run", "--", "-"],
+            three,
+            (0, 0),
+            2,
+            1,
+            "",
+        ),
+        (
+            "an option behind a file",
+            &["run", "a.sql", "-x"],
             three,
             (0, 0),
             1,
             0,
+            "",
+        ),
+        ("run alone", &["run"], three, (0, 0), 1, 0, ""),
+        (
+            "a second file that isn't there",
+            &["run", "a.sql", "b.sql"],
+            three,
+            (0, 0),
+            2,
+            2,
             "",
         ),
         ("an option", &["run", "-a.sql"], three, (0, 0), 1, 0, ""),
@@ -145,15 +163,15 @@ fn statuses_and_what_they_are_about(rt: HostRuntime) -> Result<(), Fail> {
             0,
             "session 1 a.sql\nhistory 0\n",
         ),
-        ("too long", run_a, too_long.as_slice(), (0, 0), 1, 0, ""),
-        ("no text", run_a, &[0xff], (0, 0), 1, 0, ""),
+        ("too long", run_a, too_long.as_slice(), (0, 0), 4, 1, ""),
+        ("no text", run_a, &[0xff], (0, 0), 6, 1, ""),
         (
             "257 statements",
             run_a,
             many_pieces.as_slice(),
             (0, 0),
+            4,
             1,
-            0,
             "",
         ),
         ("a string", run_a, b"'", (0, 0), 1, 0, ""),
@@ -165,6 +183,49 @@ fn statuses_and_what_they_are_about(rt: HostRuntime) -> Result<(), Fail> {
         assert_eq!(rt; (got, about), (status, at), "{name}");
         assert_eq!(rt; text.as_slice(), written.as_bytes(), "{name}");
     }
+    Ok(())
+}
+
+/// A run of two scripts, and one of as many files as there are names.
+fn run_two(alloc: Global, first: &str, second: &str) -> Result<Outcome, Memory> {
+    let first = Vec::from_slice(alloc, first.as_bytes())?;
+    let second = Vec::from_slice(alloc, second.as_bytes())?;
+    let files = vec![in alloc;
+        (word_of(alloc, "a.sql")?, first),
+        (word_of(alloc, "b.sql")?, second),
+    ]?;
+    let words = ["run", "a.sql", "b.sql"];
+    run_words::<Brand>(alloc, words.as_slice(), files, (0, 0), Blank::new(1))
+}
+
+#[test]
+fn sessions_one_after_the_other(rt: HostRuntime) -> Result<(), Fail> {
+    let alloc = rt.alloc();
+    let second = " SELECT a FROM t WHERE a BETWEEN 2 AND 3;";
+    let (status, at, text) = run_two(alloc, THREE, second)?;
+    assert_eq!(rt; (status, at), (0, 0));
+    let want = "session 1 a.sql\n1 ok\n2 ok 3\n3 rows 2\n2\n3\nsession 2 b.sql\n1 rows 2\n2\n3\n\
+        history 2\n1 1 1 CREATE TABLE t (a INT);\n2 1 2 INSERT INTO t VALUES (3), (1), (2);\n";
+    assert_eq!(rt; text.as_slice(), want.as_bytes());
+    Ok(())
+}
+
+#[test]
+fn at_most_sixteen_files(rt: HostRuntime) -> Result<(), Fail> {
+    let alloc = rt.alloc();
+    let sixteen = [
+        "run", "a.sql", "a.sql", "a.sql", "a.sql", "a.sql", "a.sql", "a.sql", "a.sql", "a.sql",
+        "a.sql", "a.sql", "a.sql", "a.sql", "a.sql", "a.sql", "a.sql",
+    ];
+    let (status, _, text) = run(alloc, sixteen.as_slice(), b"", (0, 0))?;
+    assert_eq!(rt; status, 0);
+    assert_eq!(rt; text.len(), 9 * 16 + 7 * 17 + 10);
+    let seventeen = [
+        "run", "a.sql", "a.sql", "a.sql", "a.sql", "a.sql", "a.sql", "a.sql", "a.sql", "a.sql",
+        "a.sql", "a.sql", "a.sql", "a.sql", "a.sql", "a.sql", "a.sql", "a.sql",
+    ];
+    let (status, at, _) = run(alloc, seventeen.as_slice(), b"", (0, 0))?;
+    assert_eq!(rt; (status, at), (1, 0));
     Ok(())
 }
 

@@ -1,0 +1,23 @@
+use Rattle.std.proofs.Common.{◌≡◌, ℕ, ◌+◌, List, [], ◌∷◌, ◌++◌, length, take, ap, sym, ◌∙◌, subst, arith}
+use Rattle.std.proofs.lemmas.List.{take_more, length-take-le}
+use Rattle.sql_shell.specs.Session.{ServesPieces}
+use Rattle.sql_shell.proofs.IntLemmas.{pieces_ints}
+use Rattle.sql_shell.proofs.ServedLemmas.{serves_none, serves_more}
+use Rattle.sql_shell.proofs.session.Run.serve_pieces.Goals as goal
+
+pub pieces-init : goal.pieces-init
+pieces-init g c = (serves_none c.args.self.now c.args.s, omega arith)
+
+pub serve-requires : goal.serve-requires
+serve-requires g c = pieces_ints c.args.self.now c.pieces.self c.args.s (take c.pieces.i c.args.pieces.now) c.requires.ints c.pieces.invariant.0
+
+pub pieces-preserved : goal.pieces-preserved
+pieces-preserved g c =
+    let pieces = c.args.pieces.now in
+    let i = c.pieces.i in
+    let piece = c.index-pieces-i.result in
+    let more : take i pieces ++ c.text.result.now ∷ [] ≡ take (i + 1) pieces =
+    ap (λ t. take i pieces ++ t ∷ []) (c.text.ensures.text ∙ c.index-pieces-i.is) ∙ sym (take_more pieces i piece c.pieces-test.true) in
+    let count : i + 1 ≡ length (take i pieces) + 1 = omega (arith, length-take-le i pieces (omega arith)) in
+    let P : List (List ℕ) → Type 0 = λ ps. ServesPieces c.args.self.now c.serve.new.self c.args.s ps in
+    (subst P more (serves_more c.args.self.now c.pieces.self c.serve.new.self c.args.s (take i pieces) (i + 1) c.text.result.now count c.pieces.invariant.0 c.in_ok-serve.ensures.served), omega (arith, c.in_ok-serve.ensures.counted, c.pieces.invariant.1))

@@ -1,0 +1,25 @@
+use Rattle.std.proofs.Common.{◌≡◌, ℕ, ◌+◌, List, ◌++◌, take, refl, ap, sym, ◌∙◌, subst, arith}
+use Rattle.answer_text.specs.Layout.{session_line}
+use Rattle.sql_shell.specs.Scripts.{names_of, pieces_in}
+use Rattle.sql_shell.specs.Session.{ServesPieces}
+use Rattle.sql_shell.proofs.IntLemmas.{served_ints}
+use Rattle.sql_shell.proofs.ServedLemmas.{scripts_more}
+use Rattle.sql_shell.proofs.session.run_scripts.Goals as goal
+
+pub serve_pieces-requires-clause-ints : goal.serve_pieces-requires-clause-ints
+serve_pieces-requires-clause-ints g c =
+    let done = take c.scripts.i c.args.scripts.now in
+    served_ints (names_of done) (pieces_in done) c.scripts.run c.scripts.invariant.0
+
+pub scripts-preserved : goal.scripts-preserved
+scripts-preserved g c =
+    let old = c.scripts.run in
+    let script = c.index-scripts-i.result in
+    let number = c.scripts.i + 1 in
+    let line : c.write_session_line.new.out.items ≡ old.text.items ++ session_line number script.name =
+    c.in_ok-write_session_line.ensures.ok ∙ ap (λ name. old.text.items ++ session_line number name) c.text.ensures.text in
+    let P : List (List ℕ) → Type 0 = λ pieces. ServesPieces (record { db = old.db; log = old.log; text = c.write_session_line.new.out; work = old.work }) c.serve_pieces.new.self number pieces in (
+      scripts_more c.args.scripts.now c.scripts.i script old (record { db = old.db; log = old.log; text = c.write_session_line.new.out; work = old.work }) c.serve_pieces.new.self
+          c.scripts-test.true c.index-scripts-i.is c.scripts.invariant.0 refl refl refl line (subst P c.as_slice.ensures c.in_ok-serve_pieces.ensures.served),
+      omega (arith, c.in_ok-serve_pieces.ensures.counted, c.scripts.invariant.1),
+    )

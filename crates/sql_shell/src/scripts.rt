@@ -1,0 +1,151 @@
+//! Reading the scripts of a run.
+ghost use Rattle.std.specs.Prelude.{◌≡◌, ◌≢◌, ◌≤◌, ℕ, List, true, length, IfOk, IfSome, MatchResult};
+ghost use Rattle.causes.specs.Faults.{Rose};
+ghost use Rattle.sql_core.specs.Reading.{pieces_of};
+ghost use Rattle.sql_shell.specs.Failures.{status_of, at_of, is_by_bytes};
+ghost use Rattle.sql_shell.specs.Scripts.{IsRunnable, IsCut, AreCut, IsUnfit, IsFirstUnfit, about, told};
+
+use causes::{ReadError, Scripts, read_all};
+use cell_core::{Memory, Sequence, Word};
+use sql_parse::{SplitError, has_marks, split};
+use std::alloc::{AllocFailed, Global};
+
+/// A script that was read, cut into its statements.
+#[derive(Debug, Drop)]
+pub struct Script {
+    /// Its file's name.
+    pub name: Word,
+    /// The texts of its statements.
+    pub pieces: Sequence<Word>,
+}
+
+/// Why a run ends before its first statement. Files are counted from 1.
+#[derive(Clone, Copy, Debug, PartialEq, Eq, Drop)]
+pub enum Failure {
+    /// The words, or the bytes of a script, are outside what is run.
+    Words,
+    /// This file can't be read.
+    Fault(u64),
+    /// This file has too many bytes or too many statements.
+    TooLong(u64),
+    /// This file isn't UTF-8.
+    NotText(u64),
+    /// Memory ran out.
+    Memory,
+}
+
+impl Failure {
+    /// The status that tells it.
+    pub fn status(self) -> u8
+        ensures { result ≡ status_of self }
+    {
+        match self {
+            Failure::Words => 1,
+            Failure::Fault(_) => 2,
+            Failure::TooLong(_) => 4,
+            Failure::NotText(_) => 6,
+            Failure::Memory => 5,
+        }
+    }
+
+    /// The file that it is about, or 0.
+    pub fn at(self) -> u64
+        ensures { result ≡ at_of self }
+    {
+        match self {
+            Failure::Fault(number) | Failure::TooLong(number) | Failure::NotText(number) => number,
+            _ => 0,
+        }
+    }
+}
+
+impl From<Memory> for Failure {
+    ghost use Rattle.sql_shell.specs.declared.scripts.Failure.TheVariants.{Memory as NoMemory};
+
+    ghost from_gives = { λ _ e. e ≡ NoMemory };
+
+    fn from(_e: Memory) -> Failure {
+        Failure::Memory
+    }
+}
+
+impl<T: Drop> From<AllocFailed<T>> for Failure {
+    ghost use Rattle.sql_shell.specs.declared.scripts.Failure.TheVariants.{Memory as NoMemory};
+
+    ghost from_gives = { λ _ e. e ≡ NoMemory };
+
+    fn from(_e: AllocFailed<T>) -> Failure {
+        Failure::Memory
+    }
+}
+
+/// Reads the scripts of these files in order, and cuts each into its statements. The first that
+/// can't be run ends it.
+pub fn read_scripts<S: Scripts>(
+    alloc: Global,
+    source: &mut S,
+    names: &[Word],
+) -> Result<Vec<Script>, Failure>
+    ensures cut { IfOk result (λ scripts. AreCut (S.bytes_of source.old) names.now scripts.items) }
+    ensures unfit { MatchResult result (λ scripts. Unit {0}) (λ e. is_by_bytes (status_of e) ≡ true →
+        IfSome (told (S.bytes_of source.old) names.now) (λ scripts. IsFirstUnfit 1 scripts (status_of e) (at_of e))) }
+    ensures fault { MatchResult result (λ scripts. Unit {0}) (λ e. status_of e ≡ 2 → Rose (S.faults source.old) (S.faults source.new)) }
+    ensures within { MatchResult result (λ scripts. Unit {0}) (λ e. at_of e ≤ length names.now) }
+{
+    let mut read = Vec::new(alloc);
+    'files: for i in 0..names.len() {
+        match read_script(alloc, source, &names[i], i as u64 + 1) {
+            Ok(script) => read.push(script)?,
+            Err(failure) => return Err(failure),
+        }
+    }
+    Ok(read)
+}
+
+/// Reads one script.
+fn read_script<S: Scripts>(
+    alloc: Global,
+    source: &mut S,
+    name: &Word,
+    number: u64,
+) -> Result<Script, Failure>
+    ensures cut { IfOk result (λ script. IsCut (S.bytes_of source.old) name.now script) }
+    ensures unfit { MatchResult result (λ script. Unit {0}) (λ e. is_by_bytes (status_of e) ≡ true →
+        IfSome (S.bytes_of source.old name.now) (λ text. IsUnfit text (status_of e) × (at_of e ≡ about (status_of e) number))) }
+    ensures fault { MatchResult result (λ script. Unit {0}) (λ e. status_of e ≡ 2 → Rose (S.faults source.old) (S.faults source.new)) }
+    ensures within { MatchResult result (λ script. Unit {0}) (λ e. at_of e ≤ number) }
+    ensures later { S.faults source.old ≤ S.faults source.new }
+    ensures same { (other : List ℕ) → S.bytes_of source.new other ≡ S.bytes_of source.old other }
+{
+    match read_all(alloc, source, name.text()) {
+        Ok(script) => cut(alloc, name, script.text(), number),
+        Err(ReadError::ReadFault) => Err(Failure::Fault(number)),
+        Err(ReadError::TooLong) => Err(Failure::TooLong(number)),
+        Err(ReadError::NotText) => Err(Failure::NotText(number)),
+        Err(ReadError::Memory) => Err(Failure::Memory),
+    }
+}
+
+/// Cuts a script into its statements.
+fn cut(alloc: Global, name: &Word, text: &str, number: u64) -> Result<Script, Failure>
+    requires { length text.now ≤ 1048576 }
+    ensures cut { IfOk result (λ script. (script.name ≡ name.now) × IsRunnable text.now × (script.pieces ≡ pieces_of text.now)) }
+    ensures unfit { MatchResult result (λ script. Unit {0}) (λ e. is_by_bytes (status_of e) ≡ true → IsUnfit text.now (status_of e) × (at_of e ≡ about (status_of e) number)) }
+    ensures told { MatchResult result (λ script. Unit {0}) (λ e. status_of e ≢ 2) }
+    ensures within { MatchResult result (λ script. Unit {0}) (λ e. at_of e ≤ number) }
+{
+    if has_marks(text) {
+        return Err(Failure::Words);
+    }
+    match split(alloc, text) {
+        Ok(pieces) => {
+            let name = name.share()?;
+            Ok(Script {
+                name,
+                pieces: Sequence::from_vec(pieces),
+            })
+        }
+        Err(SplitError::TooMany) => Err(Failure::TooLong(number)),
+        Err(SplitError::Memory) => Err(Failure::Memory),
+    }
+}
