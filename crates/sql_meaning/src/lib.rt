@@ -2,7 +2,8 @@
 //!
 //! It stands on `sql_semantics`, whose definition of the answer it gives exactly: loops over choices of
 //! rows, groups and cells, without columns, hashes or plans. A choice holds rows that are lent, so no
-//! row is copied before it is shown.
+//! row is copied before it is shown. The values of expressions and the truth of a condition over such a
+//! choice (`cell_over`, `overflows_over`, `is_kept`) serve the crate of changes too.
 #![tactic(auto)]
 
 mod aggregates;
@@ -18,3 +19,6 @@ mod tables;
 mod value;
 
 pub use answer::slow_answer;
+pub use kept::{cond_overflows, is_kept};
+pub use row::Row;
+pub use value::{cell_over, constant_overflows, overflows_over};

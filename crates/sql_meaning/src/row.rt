@@ -5,7 +5,7 @@ use std::marker::Model;
 
 /// A row of a table, lent. Contracts see its cells.
 #[derive(Drop)]
-pub(crate) struct Row<'a> {
+pub struct Row<'a> {
     cells: &'a Sequence<Cell>,
 }
 
@@ -19,20 +19,22 @@ impl<'a> Model for Row<'a> {
 }
 
 impl<'a> Row<'a> {
-    pub(crate) fn new(cells: &'a Sequence<Cell>) -> Row<'a>
+    /// A row with these cells.
+    pub fn new(cells: &'a Sequence<Cell>) -> Row<'a>
         ensures { result ≡ cells.now }
     {
         Row { cells }
     }
 
-    pub(crate) fn cells(&self) -> &'a [Cell]
+    /// Its cells.
+    pub fn cells(&self) -> &'a [Cell]
         ensures { result.now ≡ self.now }
     {
         self.cells.as_slice()
     }
 
     /// The same row, lent once more.
-    pub(crate) fn again(&self) -> Row<'a>
+    pub fn again(&self) -> Row<'a>
         ensures { result ≡ self.now }
     {
         Row { cells: self.cells }

@@ -1,5 +1,5 @@
 //! The values of expressions over a choice of rows.
-ghost use Rattle.std.specs.Prelude.{◌≡◌, IfOk};
+ghost use Rattle.std.specs.Prelude.{◌≡◌, is_none, IfOk};
 ghost use Rattle.std.specs.Option.{option_copied};
 ghost use Rattle.sql_tree.specs.Tree.{expr_tree};
 ghost use Rattle.sql_semantics.specs.References.{is_constant as is_constant_of};
@@ -66,17 +66,24 @@ pub(crate) fn value(
 }
 
 /// The cell of an expression over a choice, which is Nil where it has no value.
-pub(crate) fn cell_over(
-    sources: &[Called<'_>],
-    choice: &[Row<'_>],
-    expr: &Expr,
-) -> Result<Cell, Memory>
+pub fn cell_over(sources: &[Called<'_>], choice: &[Row<'_>], expr: &Expr) -> Result<Cell, Memory>
     ensures { IfOk result (λ cell. cell ≡ cell_over_of sources.now choice.now (expr_tree expr.now)) }
 {
     match value(sources, choice, expr)? {
         Some(cell) => Ok(cell),
         None => Ok(Cell::Nil),
     }
+}
+
+/// Whether an operator in an expression leaves the range over a choice.
+pub fn overflows_over(
+    sources: &[Called<'_>],
+    choice: &[Row<'_>],
+    expr: &Expr,
+) -> Result<bool, Memory>
+    ensures { IfOk result (λ overflows. overflows ≡ is_none (value_of sources.now choice.now (expr_tree expr.now))) }
+{
+    Ok(value(sources, choice, expr)?.is_none())
 }
 
 /// Whether no column stands in an expression.
@@ -93,7 +100,7 @@ fn is_constant(expr: &Expr) -> bool
 }
 
 /// Whether an operator without a column below it leaves the range somewhere in an expression.
-pub(crate) fn constant_overflows(expr: &Expr) -> Result<bool, Memory>
+pub fn constant_overflows(expr: &Expr) -> Result<bool, Memory>
     ensures { IfOk result (λ overflows. overflows ≡ constant_overflows_of (expr_tree expr.now)) }
 {
     match expr {

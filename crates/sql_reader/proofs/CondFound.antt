@@ -1,6 +1,5 @@
 -- What is read as an aggregate or a condition is what a derivation writes.
-use Rattle.std.proofs.Common.{◌≡◌, ℕ, zero, suc, List, [], ◌∷◌, length, map, Bool, true, false, Some, ℤ, refl, ap, sym, ◌∙◌, inl, inr, cond}
-use Rattle.cell_core.specs.declared.cell.Cell.{Cell}
+use Rattle.std.proofs.Common.{◌≡◌, ℕ, zero, suc, List, [], ◌∷◌, length, map, Bool, true, false, Some, refl, ap, sym, ◌∙◌, inl, inr, cond}
 use Rattle.sql_grammar.specs.Grammar.{sign, write_more, write_enclosed, write_expr, expr_of, aggregate_word, write_agg, agg_of, write_value, value_of, CmpRule, write_cmp, cmp_of, TestRule, write_test, write_cond, write_conjs, write_conj, write_units, write_unit, members_of, test_of, cond_of, conjs_of, conj_of, units_of, unit_of}
 use Rattle.sql_grammar.specs.Grammar.AggRule.{CountAll, AggregateOf}
 use Rattle.sql_grammar.specs.Grammar.ValueRule.{ExprValue, AggValue}
@@ -11,6 +10,7 @@ use Rattle.sql_grammar.specs.Grammar.ConjsRule.{NoConj, MoreConjs}
 use Rattle.sql_grammar.specs.Grammar.ConjRule.{Conjunction}
 use Rattle.sql_grammar.specs.Grammar.UnitsRule.{NoUnit, MoreUnits}
 use Rattle.sql_grammar.specs.Grammar.UnitRule.{NotUnit, CondUnit, TestUnit}
+use Rattle.sql_reader.specs.Bounded.{Builder}
 use Rattle.sql_reader.specs.Chain.{Parser, first_token, after_first, then_read, or_read, chain}
 use Rattle.sql_reader.specs.CondReader as reader
 use Rattle.sql_reader.specs.CondReader.{aggregate_in, comparison_in, or_in, and_in, is_all, or_member, both_of, either_of, denied, whole_expr, argument, value, within, members, listed, range_at, range, test_behind, test, conjunction, condition, enclosed, unit}
@@ -67,16 +67,16 @@ all_found f other h = cc
 
 -- ## Expressions and aggregates
 
-module _ (number : ℤ → Cell) where
-  pub whole_found : IsSound write_expr (λ d. expr_with number (expr_of d)) (whole_expr number)
+module _ (build : Builder) where
+  pub whole_found : IsSound write_expr (λ d. expr_with build (expr_of d)) (whole_expr build)
   unfolding whole_expr
-  whole_found ts x rest h = expr_found number (factor number (length ts)) (factor_found number (length ts)) ts x rest h
+  whole_found ts x rest h = expr_found build (factor build (length ts)) (factor_found build (length ts)) ts x rest h
 
-  argument_found : (f : AggOp) (ts : List Token) (x : ExprTree) (rest : List Token) → argument number f ts ≡ Some (x, rest) → IsWritten write_agg (λ d. expr_with number (agg_of d)) (Key (aggregate_word f) ∷ sign symbol.Open ∷ ts) x rest
+  argument_found : (f : AggOp) (ts : List Token) (x : ExprTree) (rest : List Token) → argument build f ts ≡ Some (x, rest) → IsWritten write_agg (λ d. expr_with build (agg_of d)) (Key (aggregate_word f) ∷ sign symbol.Open ∷ ts) x rest
   unfolding argument
   argument_found f ts x rest h = at (is_all f (first_token ts)) refl h
     where
-      at : (b : Bool) → is_all f (first_token ts) ≡ b → cond b (closed (AggregateAll f, after_first ts)) (then_read (whole_expr number ts) (λ of. closed (Aggregate f of.0, of.1))) ≡ Some (x, rest) → IsWritten write_agg (λ d. expr_with number (agg_of d)) (Key (aggregate_word f) ∷ sign symbol.Open ∷ ts) x rest
+      at : (b : Bool) → is_all f (first_token ts) ≡ b → cond b (closed (AggregateAll f, after_first ts)) (then_read (whole_expr build ts) (λ of. closed (Aggregate f of.0, of.1))) ≡ Some (x, rest) → IsWritten write_agg (λ d. expr_with build (agg_of d)) (Key (aggregate_word f) ∷ sign symbol.Open ∷ ts) x rest
       at true e h =
           let all = all_found f ts e in
           let close = closed_found (AggregateAll f, after_first ts) x rest h in
@@ -95,7 +95,7 @@ module _ (number : ℤ → Cell) where
             means = ap (λ e. Aggregate f e) of.means ∙ close.0;
           }
 
-  pub value_sound : IsSound write_value (λ d. expr_with number (value_of d)) (value number)
+  pub value_sound : IsSound write_value (λ d. expr_with build (value_of d)) (value build)
   unfolding value
   value_sound ts x rest h =
       elim (given_found (aggregate_in (first_token ts)) _ _ (Some (x, rest)) h) [
@@ -117,7 +117,7 @@ data RangeRule (E : Type 0) : Type 0 where
   Bounds : E → E → RangeRule E
   Members : E × List E → RangeRule E
 
-module _ (number : ℤ → Cell) {E : Type 0} (write : E → List Token → List Token) (tree : E → ExprTree) (operand : Parser ExprTree) (sound : IsSound write (λ d. expr_with number (tree d)) operand) where
+module _ (build : Builder) {E : Type 0} (write : E → List Token → List Token) (tree : E → ExprTree) (operand : Parser ExprTree) (sound : IsSound write (λ d. expr_with build (tree d)) operand) where
   abbrev write_range : RangeRule E → List Token → List Token
   write_range (Bounds low high) rest = Key word.Between ∷ write low (Key word.And ∷ write high rest)
   write_range (Members ms) rest = Key word.In ∷ write_enclosed write ms rest
@@ -126,7 +126,7 @@ module _ (number : ℤ → Cell) {E : Type 0} (write : E → List Token → List
   range_of of (Bounds low high) = Within of (tree low) (tree high)
   range_of of (Members ms) = members_of (Compare compare.Eq of (tree ms.0)) of (map tree ms.1)
 
-  within_found : (of : ExprTree) (ts : List Token) (x : CondTree) (rest : List Token) → within operand (expr_with number of) ts ≡ Some (x, rest) → IsWritten write_range (λ r. cond_with number (range_of of r)) (Key word.Between ∷ ts) x rest
+  within_found : (of : ExprTree) (ts : List Token) (x : CondTree) (rest : List Token) → within build operand (expr_with build of) ts ≡ Some (x, rest) → IsWritten write_range (λ r. cond_with build (range_of of r)) (Key word.Between ∷ ts) x rest
   unfolding within
   within_found of ts x rest h =
       let f = then_found _ _ _ h in
@@ -138,20 +138,20 @@ module _ (number : ℤ → Cell) {E : Type 0} (write : E → List Token → List
       record {
         rule = Bounds low.rule high.rule;
         written = ap (λ r. Key word.Between ∷ write low.rule (Key word.And ∷ write high.rule r)) (sym parts.1) ∙ ap (λ r. Key word.Between ∷ write low.rule (Key word.And ∷ r)) high.written ∙ ap (λ r. Key word.Between ∷ write low.rule r) (key_found word.And f.0.1 g.0) ∙ ap (λ r. Key word.Between ∷ r) low.written;
-        means = ap (λ l. Within (expr_with number of) l (expr_with number (tree high.rule))) low.means ∙ ap (λ r. Within (expr_with number of) f.0.0 r) high.means ∙ parts.0;
+        means = ap (λ l. Within (expr_with build of) l (expr_with build (tree high.rule))) low.means ∙ ap (λ r. Within (expr_with build of) f.0.0 r) high.means ∙ parts.0;
       }
 
-  more_members_found : (of : ExprTree) (n : ℕ) (so_far : CondTree) (ts : List Token) (x : CondTree) (rest : List Token) → chain comma_in (or_member (expr_with number of)) operand n (cond_with number so_far) ts ≡ Some (x, rest) → IsWritten (write_more write) (λ ms. cond_with number (members_of so_far of (map tree ms))) ts x rest
+  more_members_found : (of : ExprTree) (n : ℕ) (so_far : CondTree) (ts : List Token) (x : CondTree) (rest : List Token) → chain comma_in (or_member build (expr_with build of)) operand n (cond_with build so_far) ts ≡ Some (x, rest) → IsWritten (write_more write) (λ ms. cond_with build (members_of so_far of (map tree ms))) ts x rest
   more_members_found of zero so_far ts x rest h =
-      let e = no_steps_found comma_in (or_member (expr_with number of)) operand _ ts x rest h in
+      let e = no_steps_found comma_in (or_member build (expr_with build of)) operand _ ts x rest h in
       record { rule = []; written = sym e.1; means = e.0 }
   more_members_found of (suc n) so_far ts x rest h =
-      elim (chain_found comma_in (or_member (expr_with number of)) operand n (cond_with number so_far) ts x rest h) [
+      elim (chain_found comma_in (or_member build (expr_with build of)) operand n (cond_with build so_far) ts x rest h) [
         | inl e ↦ record { rule = []; written = sym e.1; means = e.0 }
         | inr s ↦
             let next = sound (after_first ts) s.right s.behind s.right_is in
             let more = more_members_found of n (Either so_far (Compare compare.Eq of (tree next.rule))) s.behind x rest
-            (ap (λ r. chain comma_in (or_member (expr_with number of)) operand n (Either (cond_with number so_far) (Compare compare.Eq (expr_with number of) r)) s.behind) next.means ∙ s.more) in
+            (ap (λ r. chain comma_in (or_member build (expr_with build of)) operand n (build.either (cond_with build so_far) (Compare compare.Eq (expr_with build of) r)) s.behind) next.means ∙ s.more) in
             record {
               rule = next.rule ∷ more.rule;
               written = ap (λ r. sign symbol.Comma ∷ write next.rule r) more.written ∙ ap (λ r. sign symbol.Comma ∷ r) next.written ∙ comma_found ts s.operator s.operator_is;
@@ -159,7 +159,7 @@ module _ (number : ℤ → Cell) {E : Type 0} (write : E → List Token → List
             }
       ]
 
-  listed_found : (of : ExprTree) (ts : List Token) (x : CondTree) (rest : List Token) → listed operand (expr_with number of) ts ≡ Some (x, rest) → IsWritten write_range (λ r. cond_with number (range_of of r)) (Key word.In ∷ ts) x rest
+  listed_found : (of : ExprTree) (ts : List Token) (x : CondTree) (rest : List Token) → listed build operand (expr_with build of) ts ≡ Some (x, rest) → IsWritten write_range (λ r. cond_with build (range_of of r)) (Key word.In ∷ ts) x rest
   unfolding listed members
   listed_found of ts x rest h =
       let open_ = guard_found _ _ _ h in
@@ -168,14 +168,14 @@ module _ (number : ℤ → Cell) {E : Type 0} (write : E → List Token → List
       let f = then_found _ _ _ all.1 in
       let first = sound (after_first ts) f.0.0 f.0.1 f.1 in
       let more = more_members_found of (length f.0.1) (Compare compare.Eq of (tree first.rule)) f.0.1 all.0.0 all.0.1
-      (ap (λ r. chain comma_in (or_member (expr_with number of)) operand (length f.0.1) (Compare compare.Eq (expr_with number of) r) f.0.1) first.means ∙ f.2) in
+      (ap (λ r. chain comma_in (or_member build (expr_with build of)) operand (length f.0.1) (Compare compare.Eq (expr_with build of) r) f.0.1) first.means ∙ f.2) in
       record {
         rule = Members (first.rule, more.rule);
         written = ap (λ r. Key word.In ∷ sign symbol.Open ∷ write first.rule (write_more write more.rule r)) close.1 ∙ ap (λ r. Key word.In ∷ sign symbol.Open ∷ write first.rule r) more.written ∙ ap (λ r. Key word.In ∷ sign symbol.Open ∷ r) first.written ∙ ap (λ r. Key word.In ∷ r) (symbol_found symbol.Open ts open_.0);
         means = more.means ∙ close.0;
       }
 
-  range_at_found : (of : ExprTree) (ts : List Token) (x : CondTree) (rest : List Token) → range_at operand (expr_with number of) (first_token ts) (after_first ts) ≡ Some (x, rest) → IsWritten write_range (λ r. cond_with number (range_of of r)) ts x rest
+  range_at_found : (of : ExprTree) (ts : List Token) (x : CondTree) (rest : List Token) → range_at build operand (expr_with build of) (first_token ts) (after_first ts) ≡ Some (x, rest) → IsWritten write_range (λ r. cond_with build (range_of of r)) ts x rest
   range_at_found of (Key word.Between ∷ ts) x rest h = within_found of ts x rest h
   range_at_found of (Key word.In ∷ ts) x rest h = listed_found of ts x rest h
   range_at_found of other x rest h = cc
@@ -201,11 +201,11 @@ module _ (number : ℤ → Cell) {E : Type 0} (write : E → List Token → List
   denied_means of (Bounds low high) = refl
   denied_means of (Members ms) = refl
 
-  range_found : (of : E) (ts : List Token) (x : CondTree) (rest : List Token) → range operand (expr_with number (tree of)) ts ≡ Some (x, rest) → IsWritten (write_test write) (λ d. cond_with number (test_of tree d)) (write of ts) x rest
+  range_found : (of : E) (ts : List Token) (x : CondTree) (rest : List Token) → range build operand (expr_with build (tree of)) ts ≡ Some (x, rest) → IsWritten (write_test write) (λ d. cond_with build (test_of tree d)) (write of ts) x rest
   unfolding range
   range_found of ts x rest h = at (is_key word.Not (first_token ts)) refl h
     where
-      at : (b : Bool) → is_key word.Not (first_token ts) ≡ b → cond b (then_read (range_at operand (expr_with number (tree of)) (first_token (after_first ts)) (after_first (after_first ts))) denied) (range_at operand (expr_with number (tree of)) (first_token ts) (after_first ts)) ≡ Some (x, rest) → IsWritten (write_test write) (λ d. cond_with number (test_of tree d)) (write of ts) x rest
+      at : (b : Bool) → is_key word.Not (first_token ts) ≡ b → cond b (then_read (range_at build operand (expr_with build (tree of)) (first_token (after_first ts)) (after_first (after_first ts))) denied) (range_at build operand (expr_with build (tree of)) (first_token ts) (after_first ts)) ≡ Some (x, rest) → IsWritten (write_test write) (λ d. cond_with build (test_of tree d)) (write of ts) x rest
       at true e h =
           let f = then_found _ _ _ h in
           let parts = pair_found _ _ _ _ f.2 in
@@ -213,17 +213,17 @@ module _ (number : ℤ → Cell) {E : Type 0} (write : E → List Token → List
           record {
             rule = ranged of true r.rule;
             written = denied_written of r.rule rest ∙ ap (λ s. write of (Key word.Not ∷ write_range r.rule s)) (sym parts.1) ∙ ap (λ s. write of (Key word.Not ∷ s)) r.written ∙ ap (write of) (key_found word.Not ts e);
-            means = ap (cond_with number) (denied_means of r.rule) ∙ ap Negation r.means ∙ parts.0;
+            means = ap (cond_with build) (denied_means of r.rule) ∙ ap Negation r.means ∙ parts.0;
           }
       at false e h =
           let r = range_at_found (tree of) ts x rest h in
           record {
             rule = ranged of false r.rule;
             written = ranged_written of r.rule rest ∙ ap (write of) r.written;
-            means = ap (cond_with number) (ranged_means of r.rule) ∙ r.means;
+            means = ap (cond_with build) (ranged_means of r.rule) ∙ r.means;
           }
 
-  behind_found : (of : E) (ts : List Token) (x : CondTree) (rest : List Token) → test_behind operand (expr_with number (tree of)) ts ≡ Some (x, rest) → IsWritten (write_test write) (λ d. cond_with number (test_of tree d)) (write of ts) x rest
+  behind_found : (of : E) (ts : List Token) (x : CondTree) (rest : List Token) → test_behind build operand (expr_with build (tree of)) ts ≡ Some (x, rest) → IsWritten (write_test write) (λ d. cond_with build (test_of tree d)) (write of ts) x rest
   unfolding test_behind
   behind_found of ts x rest h =
       elim (given_found (comparison_in (first_token ts)) _ _ (Some (x, rest)) h) [
@@ -236,30 +236,30 @@ module _ (number : ℤ → Cell) {E : Type 0} (write : E → List Token → List
             record {
               rule = Comparison of op.0 right.rule;
               written = ap (λ r. write of (write_cmp op.0 ∷ write right.rule r)) (sym parts.1) ∙ ap (λ r. write of (write_cmp op.0 ∷ r)) right.written ∙ ap (write of) op.1;
-              means = ap (λ o. Compare o (expr_with number (tree of)) (expr_with number (tree right.rule))) op.2 ∙ ap (λ r. Compare s.0 (expr_with number (tree of)) r) right.means ∙ parts.0;
+              means = ap (λ o. Compare o (expr_with build (tree of)) (expr_with build (tree right.rule))) op.2 ∙ ap (λ r. Compare s.0 (expr_with build (tree of)) r) right.means ∙ parts.0;
             }
       ]
 
-  test_found : IsSound (write_test write) (λ d. cond_with number (test_of tree d)) (test operand)
+  test_found : IsSound (write_test write) (λ d. cond_with build (test_of tree d)) (test build operand)
   unfolding test
   test_found ts x rest h =
       let f = then_found _ _ _ h in
       let of = sound ts f.0.0 f.0.1 f.1 in
-      let w = behind_found of.rule f.0.1 x rest (ap (λ e. test_behind operand e f.0.1) of.means ∙ f.2) in
+      let w = behind_found of.rule f.0.1 x rest (ap (λ e. test_behind build operand e f.0.1) of.means ∙ f.2) in
       record { rule = w.rule; written = w.written ∙ of.written; means = w.means }
 
-  module _ (part : Parser CondTree) (part_sound : IsSound (write_unit write) (λ d. cond_with number (unit_of tree d)) part) where
-    units_found : (n : ℕ) (left : CondTree) (ts : List Token) (x : CondTree) (rest : List Token) → chain and_in both_of part n (cond_with number left) ts ≡ Some (x, rest) → IsWritten (write_units write) (λ d. cond_with number (units_of tree left d)) ts x rest
+  module _ (part : Parser CondTree) (part_sound : IsSound (write_unit write) (λ d. cond_with build (unit_of tree d)) part) where
+    units_found : (n : ℕ) (left : CondTree) (ts : List Token) (x : CondTree) (rest : List Token) → chain and_in (both_of build) part n (cond_with build left) ts ≡ Some (x, rest) → IsWritten (write_units write) (λ d. cond_with build (units_of tree left d)) ts x rest
     units_found zero left ts x rest h =
-        let e = no_steps_found and_in both_of part _ ts x rest h in
+        let e = no_steps_found and_in (both_of build) part _ ts x rest h in
         record { rule = NoUnit; written = sym e.1; means = e.0 }
     units_found (suc n) left ts x rest h =
-        elim (chain_found and_in both_of part n (cond_with number left) ts x rest h) [
+        elim (chain_found and_in (both_of build) part n (cond_with build left) ts x rest h) [
           | inl e ↦ record { rule = NoUnit; written = sym e.1; means = e.0 }
           | inr s ↦
               let next = part_sound (after_first ts) s.right s.behind s.right_is in
               let more = units_found n (Both left (unit_of tree next.rule)) s.behind x rest
-              (ap (λ r. chain and_in both_of part n (Both (cond_with number left) r) s.behind) next.means ∙ s.more) in
+              (ap (λ r. chain and_in (both_of build) part n (build.both (cond_with build left) r) s.behind) next.means ∙ s.more) in
               record {
                 rule = MoreUnits next.rule more.rule;
                 written = ap (λ r. Key word.And ∷ write_unit write next.rule r) more.written ∙ ap (λ r. Key word.And ∷ r) next.written ∙ and_word_found ts s.operator s.operator_is;
@@ -267,25 +267,25 @@ module _ (number : ℤ → Cell) {E : Type 0} (write : E → List Token → List
               }
         ]
 
-    conj_found : IsSound (write_conj write) (λ d. cond_with number (conj_of tree d)) (conjunction part)
+    conj_found : IsSound (write_conj write) (λ d. cond_with build (conj_of tree d)) (conjunction build part)
     unfolding conjunction
     conj_found ts x rest h =
         let f = then_found _ _ _ h in
         let first = part_sound ts f.0.0 f.0.1 f.1 in
-        let more = units_found (length f.0.1) (unit_of tree first.rule) f.0.1 x rest (ap (λ r. chain and_in both_of part (length f.0.1) r f.0.1) first.means ∙ f.2) in
+        let more = units_found (length f.0.1) (unit_of tree first.rule) f.0.1 x rest (ap (λ r. chain and_in (both_of build) part (length f.0.1) r f.0.1) first.means ∙ f.2) in
         record { rule = Conjunction first.rule more.rule; written = ap (write_unit write first.rule) more.written ∙ first.written; means = more.means }
 
-    conjs_found : (n : ℕ) (left : CondTree) (ts : List Token) (x : CondTree) (rest : List Token) → chain or_in either_of (conjunction part) n (cond_with number left) ts ≡ Some (x, rest) → IsWritten (write_conjs write) (λ d. cond_with number (conjs_of tree left d)) ts x rest
+    conjs_found : (n : ℕ) (left : CondTree) (ts : List Token) (x : CondTree) (rest : List Token) → chain or_in (either_of build) (conjunction build part) n (cond_with build left) ts ≡ Some (x, rest) → IsWritten (write_conjs write) (λ d. cond_with build (conjs_of tree left d)) ts x rest
     conjs_found zero left ts x rest h =
-        let e = no_steps_found or_in either_of (conjunction part) _ ts x rest h in
+        let e = no_steps_found or_in (either_of build) (conjunction build part) _ ts x rest h in
         record { rule = NoConj; written = sym e.1; means = e.0 }
     conjs_found (suc n) left ts x rest h =
-        elim (chain_found or_in either_of (conjunction part) n (cond_with number left) ts x rest h) [
+        elim (chain_found or_in (either_of build) (conjunction build part) n (cond_with build left) ts x rest h) [
           | inl e ↦ record { rule = NoConj; written = sym e.1; means = e.0 }
           | inr s ↦
               let next = conj_found (after_first ts) s.right s.behind s.right_is in
               let more = conjs_found n (Either left (conj_of tree next.rule)) s.behind x rest
-              (ap (λ r. chain or_in either_of (conjunction part) n (Either (cond_with number left) r) s.behind) next.means ∙ s.more) in
+              (ap (λ r. chain or_in (either_of build) (conjunction build part) n (build.either (cond_with build left) r) s.behind) next.means ∙ s.more) in
               record {
                 rule = MoreConjs next.rule more.rule;
                 written = ap (λ r. Key word.Or ∷ write_conj write next.rule r) more.written ∙ ap (λ r. Key word.Or ∷ r) next.written ∙ or_word_found ts s.operator s.operator_is;
@@ -293,15 +293,15 @@ module _ (number : ℤ → Cell) {E : Type 0} (write : E → List Token → List
               }
         ]
 
-    pub cond_found_by : IsSound (write_cond write) (λ d. cond_with number (cond_of tree d)) (condition part)
+    pub cond_found_by : IsSound (write_cond write) (λ d. cond_with build (cond_of tree d)) (condition build part)
     unfolding condition
     cond_found_by ts x rest h =
         let f = then_found _ _ _ h in
         let first = conj_found ts f.0.0 f.0.1 f.1 in
-        let more = conjs_found (length f.0.1) (conj_of tree first.rule) f.0.1 x rest (ap (λ r. chain or_in either_of (conjunction part) (length f.0.1) r f.0.1) first.means ∙ f.2) in
+        let more = conjs_found (length f.0.1) (conj_of tree first.rule) f.0.1 x rest (ap (λ r. chain or_in (either_of build) (conjunction build part) (length f.0.1) r f.0.1) first.means ∙ f.2) in
         record { rule = Disjunction first.rule more.rule; written = ap (write_conj write first.rule) more.written ∙ first.written; means = more.means }
 
-    enclosed_found : (ts : List Token) (x : CondTree) (rest : List Token) → enclosed part ts ≡ Some (x, rest) → IsWritten (write_unit write) (λ d. cond_with number (unit_of tree d)) ts x rest
+    enclosed_found : (ts : List Token) (x : CondTree) (rest : List Token) → enclosed build part ts ≡ Some (x, rest) → IsWritten (write_unit write) (λ d. cond_with build (unit_of tree d)) ts x rest
     unfolding enclosed
     enclosed_found ts x rest h =
         let open_ = guard_found _ _ _ h in
@@ -314,10 +314,10 @@ module _ (number : ℤ → Cell) {E : Type 0} (write : E → List Token → List
           means = c.means ∙ close.0;
         }
 
-    unit_of_found : (ts : List Token) (x : CondTree) (rest : List Token) → reader.unit_of operand part ts ≡ Some (x, rest) → IsWritten (write_unit write) (λ d. cond_with number (unit_of tree d)) ts x rest
+    unit_of_found : (ts : List Token) (x : CondTree) (rest : List Token) → reader.unit_of build operand part ts ≡ Some (x, rest) → IsWritten (write_unit write) (λ d. cond_with build (unit_of tree d)) ts x rest
     unit_of_found ts x rest h = at (is_key word.Not (first_token ts)) refl h
       where
-        at : (b : Bool) → is_key word.Not (first_token ts) ≡ b → cond b (then_read (part (after_first ts)) denied) (or_read (test operand ts) (enclosed part ts)) ≡ Some (x, rest) → IsWritten (write_unit write) (λ d. cond_with number (unit_of tree d)) ts x rest
+        at : (b : Bool) → is_key word.Not (first_token ts) ≡ b → cond b (then_read (part (after_first ts)) denied) (or_read (test build operand ts) (enclosed build part ts)) ≡ Some (x, rest) → IsWritten (write_unit write) (λ d. cond_with build (unit_of tree d)) ts x rest
         at true e h =
             let f = then_found _ _ _ h in
             let parts = pair_found _ _ _ _ f.2 in
@@ -328,12 +328,12 @@ module _ (number : ℤ → Cell) {E : Type 0} (write : E → List Token → List
               means = ap Negation u.means ∙ parts.0;
             }
         at false e h =
-            elim (or_found (test operand ts) (enclosed part ts) (x, rest) h) [
+            elim (or_found (test build operand ts) (enclosed build part ts) (x, rest) h) [
               | inl t ↦ let w = test_found ts x rest t in record { rule = TestUnit w.rule; written = w.written; means = w.means }
               | inr c ↦ enclosed_found ts x rest c
             ]
 
-  pub unit_found : (n : ℕ) → IsSound (write_unit write) (λ d. cond_with number (unit_of tree d)) (unit operand n)
+  pub unit_found : (n : ℕ) → IsSound (write_unit write) (λ d. cond_with build (unit_of tree d)) (unit build operand n)
   unfolding unit
   unit_found zero ts x rest h = cc
-  unit_found (suc n) ts x rest h = unit_of_found (unit operand n) (unit_found n) ts x rest h
+  unit_found (suc n) ts x rest h = unit_of_found (unit build operand n) (unit_found n) ts x rest h

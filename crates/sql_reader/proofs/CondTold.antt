@@ -1,6 +1,5 @@
 -- What a derivation of a condition writes is read as what it stands for.
-use Rattle.std.proofs.Common.{◌≡◌, ℕ, zero, suc, ◌<◌, ◌≤◌, List, [], ◌∷◌, length, map, true, false, Some, None, ℤ, refl, ◌∙◌, arith}
-use Rattle.cell_core.specs.declared.cell.Cell.{Cell}
+use Rattle.std.proofs.Common.{◌≡◌, ℕ, zero, suc, ◌<◌, ◌≤◌, List, [], ◌∷◌, length, map, true, false, Some, None, refl, ◌∙◌, arith}
 use Rattle.sql_grammar.specs.Grammar.{sign, write_more, write_enclosed, CmpRule, write_cmp, cmp_of, TestRule, CondRule, ConjsRule, ConjRule, UnitsRule, UnitRule, write_test, write_cond, write_conjs, write_conj, write_units, write_unit, members_of, test_of, cond_of, conjs_of, conj_of, units_of, unit_of}
 use Rattle.sql_grammar.specs.Grammar.CmpRule.{EqualSign, NotEqualSign, BangEqualSign, LessSign, LessEqualSign, GreaterSign, GreaterEqualSign}
 use Rattle.sql_grammar.specs.Grammar.TestRule.{Comparison, BetweenTest, InTest}
@@ -9,6 +8,7 @@ use Rattle.sql_grammar.specs.Grammar.ConjsRule.{NoConj, MoreConjs}
 use Rattle.sql_grammar.specs.Grammar.ConjRule.{Conjunction}
 use Rattle.sql_grammar.specs.Grammar.UnitsRule.{NoUnit, MoreUnits}
 use Rattle.sql_grammar.specs.Grammar.UnitRule.{NotUnit, CondUnit, TestUnit}
+use Rattle.sql_reader.specs.Bounded.{Builder}
 use Rattle.sql_reader.specs.Chain.{Parser, first_token, then_read, chain}
 use Rattle.sql_reader.specs.CondReader.{comparison_in, or_in, and_in, or_member, both_of, either_of, denied, within, members, listed, range, test_behind, test, conjunction, condition, enclosed, unit}
 use Rattle.sql_reader.specs.Derived.{expr_with, cond_with}
@@ -83,7 +83,7 @@ comparison_told GreaterEqualSign = refl
 pub close_ends_cond : (rest : List Token) → EndsCond (sign symbol.Close ∷ rest)
 close_ends_cond rest = record { conj_ends = record { expr_ends = close_ends rest; no_and = refl }; no_or = refl }
 
-module _ (number : ℤ → Cell) {E : Type 0} (write : E → List Token → List Token) (tree : E → ExprTree) (operand : Parser ExprTree) (is : IsOperand number write tree operand) where
+module _ (build : Builder) {E : Type 0} (write : E → List Token → List Token) (tree : E → ExprTree) (operand : Parser ExprTree) (is : IsOperand build write tree operand) where
   units_end : (units : UnitsRule E) (rest : List Token) → EndsConj rest → EndsExpr (write_units write units rest)
   units_end NoUnit rest ends = ends.expr_ends
   units_end (MoreUnits unit units) rest ends = and_ends _
@@ -165,19 +165,19 @@ module _ (number : ℤ → Cell) {E : Type 0} (write : E → List Token → List
 
   -- ## Tests
 
-  within_told : (of : ExprTree) (low high : E) (rest : List Token) → EndsExpr rest → within operand (expr_with number of) (write low (Key word.And ∷ write high rest)) ≡ Some (cond_with number (Within of (tree low) (tree high)), rest)
+  within_told : (of : ExprTree) (low high : E) (rest : List Token) → EndsExpr rest → within build operand (expr_with build of) (write low (Key word.And ∷ write high rest)) ≡ Some (cond_with build (Within of (tree low) (tree high)), rest)
   unfolding within is_key
   within_told of low high rest ends = then_told _ _ _ _ (is.told low _ (and_ends _)) (then_told _ _ _ _ (is.told high rest ends) refl)
 
-  more_members_told : (ms : List E) (n : ℕ) (of : ExprTree) (so_far : CondTree) (rest : List Token) → length (write_more write ms rest) ≤ n → EndsExpr rest → comma_in (first_token rest) ≡ None → chain comma_in (or_member (expr_with number of)) operand n (cond_with number so_far) (write_more write ms rest) ≡ Some (cond_with number (members_of so_far of (map tree ms)), rest)
-  more_members_told [] n of so_far rest h ends none = chain_ends comma_in _ operand n (cond_with number so_far) rest none
+  more_members_told : (ms : List E) (n : ℕ) (of : ExprTree) (so_far : CondTree) (rest : List Token) → length (write_more write ms rest) ≤ n → EndsExpr rest → comma_in (first_token rest) ≡ None → chain comma_in (or_member build (expr_with build of)) operand n (cond_with build so_far) (write_more write ms rest) ≡ Some (cond_with build (members_of so_far of (map tree ms)), rest)
+  more_members_told [] n of so_far rest h ends none = chain_ends comma_in _ operand n (cond_with build so_far) rest none
   more_members_told (m ∷ ms) zero of so_far rest h ends none = absurd (omega arith)
   more_members_told (m ∷ ms) (suc n) of so_far rest h ends none =
       let longer = is.longer m (write_more write ms rest) in
-      chain_goes_on comma_in (or_member (expr_with number of)) operand n (cond_with number so_far) _ symbol.Comma (expr_with number (tree m)) (write_more write ms rest) refl (is.told m (write_more write ms rest) (more_end ms rest ends))
+      chain_goes_on comma_in (or_member build (expr_with build of)) operand n (cond_with build so_far) _ symbol.Comma (expr_with build (tree m)) (write_more write ms rest) refl (is.told m (write_more write ms rest) (more_end ms rest ends))
       ∙ more_members_told ms n of (Either so_far (Compare compare.Eq of (tree m))) rest (omega (arith, longer)) ends none
 
-  listed_told : (of : ExprTree) (ms : E × List E) (rest : List Token) → listed operand (expr_with number of) (write_enclosed write ms rest) ≡ Some (cond_with number (members_of (Compare compare.Eq of (tree ms.0)) of (map tree ms.1)), rest)
+  listed_told : (of : ExprTree) (ms : E × List E) (rest : List Token) → listed build operand (expr_with build of) (write_enclosed write ms rest) ≡ Some (cond_with build (members_of (Compare compare.Eq of (tree ms.0)) of (map tree ms.1)), rest)
   unfolding listed members is_symbol
   listed_told of ms rest =
       let behind = write_more write ms.1 (sign symbol.Close ∷ rest) in
@@ -186,7 +186,7 @@ module _ (number : ℤ → Cell) {E : Type 0} (write : E → List Token → List
       (more_members_told ms.1 (length behind) of (Compare compare.Eq of (tree ms.0)) (sign symbol.Close ∷ rest) (omega arith) (close_ends rest) refl))
       refl
 
-  test_told : (d : TestRule E) (rest : List Token) → EndsExpr rest → test operand (write_test write d rest) ≡ Some (cond_with number (test_of tree d), rest)
+  test_told : (d : TestRule E) (rest : List Token) → EndsExpr rest → test build operand (write_test write d rest) ≡ Some (cond_with build (test_of tree d), rest)
   unfolding test test_behind range is_key
   test_told (Comparison left c right) rest ends =
       then_told _ _ _ _ (is.told left _ (cmp_ends c _))
@@ -203,30 +203,30 @@ module _ (number : ℤ → Cell) {E : Type 0} (write : E → List Token → List
 
   -- ## A condition is no expression before a `)`
 
-  test_early : (d : TestRule E) (n : ℕ) (rest : List Token) → length (write_test write d rest) ≤ n → then_read (expr (factor number n) (write_test write d rest)) closed ≡ None
+  test_early : (d : TestRule E) (n : ℕ) (rest : List Token) → length (write_test write d rest) ≤ n → then_read (expr build (factor build n) (write_test write d rest)) closed ≡ None
   test_early (Comparison left c right) n rest h = is.early left n _ h (cmp_ends c _) (cmp_no_close c)
   test_early (BetweenTest of true low high) n rest h = is.early of n _ h (not_ends _) refl
   test_early (BetweenTest of false low high) n rest h = is.early of n _ h (between_ends _) refl
   test_early (InTest of true ms) n rest h = is.early of n _ h (not_ends _) refl
   test_early (InTest of false ms) n rest h = is.early of n _ h (in_ends _) refl
 
-  not_none : (n : ℕ) (ts : List Token) → factor number n (Key word.Not ∷ ts) ≡ None
+  not_none : (n : ℕ) (ts : List Token) → factor build n (Key word.Not ∷ ts) ≡ None
   unfolding factor
   not_none zero ts = refl
   not_none (suc n) ts = refl
 
-  open_none : (n : ℕ) (ts : List Token) → then_read (expr (factor number n) ts) closed ≡ None → factor number (suc n) (sign symbol.Open ∷ ts) ≡ None
+  open_none : (n : ℕ) (ts : List Token) → then_read (expr build (factor build n) ts) closed ≡ None → factor build (suc n) (sign symbol.Open ∷ ts) ≡ None
   unfolding factor
   open_none n ts h = h
 
   mutual
-    cond_early : (d : CondRule E) (n : ℕ) (rest : List Token) → length (write_cond write d rest) ≤ n → then_read (expr (factor number n) (write_cond write d rest)) closed ≡ None
+    cond_early : (d : CondRule E) (n : ℕ) (rest : List Token) → length (write_cond write d rest) ≤ n → then_read (expr build (factor build n) (write_cond write d rest)) closed ≡ None
     cond_early (Disjunction (Conjunction unit units) conjs) n rest h = unit_early unit n _ h
 
-    unit_early : (d : UnitRule E) (n : ℕ) (rest : List Token) → length (write_unit write d rest) ≤ n → then_read (expr (factor number n) (write_unit write d rest)) closed ≡ None
-    unit_early (NotUnit unit) n rest h = expr_none number n _ (not_none n _)
+    unit_early : (d : UnitRule E) (n : ℕ) (rest : List Token) → length (write_unit write d rest) ≤ n → then_read (expr build (factor build n) (write_unit write d rest)) closed ≡ None
+    unit_early (NotUnit unit) n rest h = expr_none build n _ (not_none n _)
     unit_early (CondUnit c) zero rest h = absurd (omega arith)
-    unit_early (CondUnit c) (suc n) rest h = expr_none number (suc n) _ (open_none n _ (cond_early c n (sign symbol.Close ∷ rest) (omega arith)))
+    unit_early (CondUnit c) (suc n) rest h = expr_none build (suc n) _ (open_none n _ (cond_early c n (sign symbol.Close ∷ rest) (omega arith)))
     unit_early (TestUnit test) n rest h = test_early test n rest h
 
   -- ## Conditions
@@ -234,37 +234,37 @@ module _ (number : ℤ → Cell) {E : Type 0} (write : E → List Token → List
   mutual
     unfolding condition conjunction unit enclosed is_key is_symbol test
 
-    pub cond_told : (d : CondRule E) (n : ℕ) (rest : List Token) → length (write_cond write d rest) ≤ n → EndsCond rest → condition (unit operand n) (write_cond write d rest) ≡ Some (cond_with number (cond_of tree d), rest)
+    pub cond_told : (d : CondRule E) (n : ℕ) (rest : List Token) → length (write_cond write d rest) ≤ n → EndsCond rest → condition build (unit build operand n) (write_cond write d rest) ≡ Some (cond_with build (cond_of tree d), rest)
     cond_told (Disjunction first conjs) n rest h ends =
         let longer = conj_longer first (write_conjs write conjs rest) in
         then_told _ _ _ _ (conj_told first n (write_conjs write conjs rest) h (conjs_end conjs rest ends))
         (conjs_told conjs n (length (write_conjs write conjs rest)) (conj_of tree first) rest (omega arith) (omega (arith, longer)) ends)
 
-    conjs_told : (d : ConjsRule E) (n k : ℕ) (left : CondTree) (rest : List Token) → length (write_conjs write d rest) ≤ k → length (write_conjs write d rest) ≤ n → EndsCond rest → chain or_in either_of (conjunction (unit operand n)) k (cond_with number left) (write_conjs write d rest) ≡ Some (cond_with number (conjs_of tree left d), rest)
-    conjs_told NoConj n k left rest steps h ends = chain_ends or_in either_of _ k (cond_with number left) rest ends.no_or
+    conjs_told : (d : ConjsRule E) (n k : ℕ) (left : CondTree) (rest : List Token) → length (write_conjs write d rest) ≤ k → length (write_conjs write d rest) ≤ n → EndsCond rest → chain or_in (either_of build) (conjunction build (unit build operand n)) k (cond_with build left) (write_conjs write d rest) ≡ Some (cond_with build (conjs_of tree left d), rest)
+    conjs_told NoConj n k left rest steps h ends = chain_ends or_in (either_of build) _ k (cond_with build left) rest ends.no_or
     conjs_told (MoreConjs next conjs) n zero left rest steps h ends = absurd (omega arith)
     conjs_told (MoreConjs next conjs) n (suc k) left rest steps h ends =
         let longer = conj_longer next (write_conjs write conjs rest) in
-        chain_goes_on or_in either_of _ k (cond_with number left) _ word.Or (cond_with number (conj_of tree next)) (write_conjs write conjs rest) refl
+        chain_goes_on or_in (either_of build) _ k (cond_with build left) _ word.Or (cond_with build (conj_of tree next)) (write_conjs write conjs rest) refl
         (conj_told next n (write_conjs write conjs rest) (omega arith) (conjs_end conjs rest ends))
         ∙ conjs_told conjs n k (Either left (conj_of tree next)) rest (omega (arith, longer)) (omega (arith, longer)) ends
 
-    conj_told : (d : ConjRule E) (n : ℕ) (rest : List Token) → length (write_conj write d rest) ≤ n → EndsConj rest → conjunction (unit operand n) (write_conj write d rest) ≡ Some (cond_with number (conj_of tree d), rest)
+    conj_told : (d : ConjRule E) (n : ℕ) (rest : List Token) → length (write_conj write d rest) ≤ n → EndsConj rest → conjunction build (unit build operand n) (write_conj write d rest) ≡ Some (cond_with build (conj_of tree d), rest)
     conj_told (Conjunction first units) n rest h ends =
         let longer = unit_longer first (write_units write units rest) in
         then_told _ _ _ _ (unit_told first n (write_units write units rest) h (units_end units rest ends))
         (units_told units n (length (write_units write units rest)) (unit_of tree first) rest (omega arith) (omega (arith, longer)) ends)
 
-    units_told : (d : UnitsRule E) (n k : ℕ) (left : CondTree) (rest : List Token) → length (write_units write d rest) ≤ k → length (write_units write d rest) ≤ n → EndsConj rest → chain and_in both_of (unit operand n) k (cond_with number left) (write_units write d rest) ≡ Some (cond_with number (units_of tree left d), rest)
-    units_told NoUnit n k left rest steps h ends = chain_ends and_in both_of _ k (cond_with number left) rest ends.no_and
+    units_told : (d : UnitsRule E) (n k : ℕ) (left : CondTree) (rest : List Token) → length (write_units write d rest) ≤ k → length (write_units write d rest) ≤ n → EndsConj rest → chain and_in (both_of build) (unit build operand n) k (cond_with build left) (write_units write d rest) ≡ Some (cond_with build (units_of tree left d), rest)
+    units_told NoUnit n k left rest steps h ends = chain_ends and_in (both_of build) _ k (cond_with build left) rest ends.no_and
     units_told (MoreUnits next units) n zero left rest steps h ends = absurd (omega arith)
     units_told (MoreUnits next units) n (suc k) left rest steps h ends =
         let longer = unit_longer next (write_units write units rest) in
-        chain_goes_on and_in both_of _ k (cond_with number left) _ word.And (cond_with number (unit_of tree next)) (write_units write units rest) refl
+        chain_goes_on and_in (both_of build) _ k (cond_with build left) _ word.And (cond_with build (unit_of tree next)) (write_units write units rest) refl
         (unit_told next n (write_units write units rest) (omega arith) (units_end units rest ends))
         ∙ units_told units n k (Both left (unit_of tree next)) rest (omega (arith, longer)) (omega (arith, longer)) ends
 
-    unit_told : (d : UnitRule E) (n : ℕ) (rest : List Token) → length (write_unit write d rest) ≤ n → EndsExpr rest → unit operand n (write_unit write d rest) ≡ Some (cond_with number (unit_of tree d), rest)
+    unit_told : (d : UnitRule E) (n : ℕ) (rest : List Token) → length (write_unit write d rest) ≤ n → EndsExpr rest → unit build operand n (write_unit write d rest) ≡ Some (cond_with build (unit_of tree d), rest)
     unit_told d zero rest h ends = let longer = unit_longer d rest in absurd (omega (arith, longer))
     unit_told (NotUnit of) (suc n) rest h ends = then_told _ _ denied _ (unit_told of n rest (omega arith) ends) refl
     unit_told (CondUnit c) (suc n) rest h ends =

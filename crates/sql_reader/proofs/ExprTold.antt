@@ -1,6 +1,5 @@
 -- What a derivation of an expression writes is read as what it stands for.
-use Rattle.std.proofs.Common.{◌≡◌, ℕ, zero, suc, ◌<◌, ◌≤◌, List, ◌∷◌, length, Bool, false, cond, Some, None, ℤ, pos, refl, ap, ◌∙◌, arith}
-use Rattle.cell_core.specs.declared.cell.Cell.{Cell}
+use Rattle.std.proofs.Common.{◌≡◌, ℕ, zero, suc, ◌<◌, ◌≤◌, List, ◌∷◌, length, Bool, false, cond, Some, None, pos, refl, ap, ◌∙◌, arith}
 use Rattle.cell_core.specs.declared.cell.Cell.TheVariants as cell
 use Rattle.sql_grammar.specs.Grammar.{sign, sign_op, NameRule, write_name, ColumnRule, write_column, column_of, ExprRule, TermsRule, TermRule, FactorsRule, FactorRule, OperandRule, write_expr, write_terms, write_term, write_factors, write_factor, write_operand, expr_of, terms_of, term_of, factors_of, factor_of, operand_of, negative_of}
 use Rattle.sql_grammar.specs.Grammar.NameRule.{BareName, QuotedName}
@@ -12,6 +11,7 @@ use Rattle.sql_grammar.specs.Grammar.TermRule.{Product}
 use Rattle.sql_grammar.specs.Grammar.FactorsRule.{NoFactor, MoreFactors}
 use Rattle.sql_grammar.specs.Grammar.FactorRule.{Number, Operand}
 use Rattle.sql_grammar.specs.Grammar.OperandRule.{NegativeNumber, StringOperand, DateOperand, ColumnOperand, Negated, Parenthesised}
+use Rattle.sql_reader.specs.Bounded.{Builder}
 use Rattle.sql_reader.specs.Chain.{Found, first_token, after_first, then_read, given, chain}
 use Rattle.sql_reader.specs.Derived.{expr_with}
 use Rattle.sql_reader.specs.Reader.{sign_in, star_in, is_dot, digits_in, name_in, column, date, term, expr, negative, factor, closed}
@@ -122,8 +122,8 @@ pub plain_told : (name : List ℕ) (rest : List Token) → EndsFactor rest → c
 unfolding column
 plain_told name rest ends = ap (column_at name rest) ends.no_dot
 
-module _ (number : ℤ → Cell) where
-  column_told : (n : ℕ) (d : ColumnRule) (rest : List Token) → EndsFactor rest → factor number (suc n) (write_column d rest) ≡ Some (ColumnOf (column_of d), rest)
+module _ (build : Builder) where
+  column_told : (n : ℕ) (d : ColumnRule) (rest : List Token) → EndsFactor rest → factor build (suc n) (write_column d rest) ≡ Some (ColumnOf (column_of d), rest)
   unfolding factor column
   column_told n (PlainColumn (BareName name)) rest ends = then_told _ _ _ _ (plain_told name rest ends) refl
   column_told n (PlainColumn (QuotedName name)) rest ends = then_told _ _ _ _ (plain_told name rest ends) refl
@@ -135,49 +135,49 @@ module _ (number : ℤ → Cell) where
   mutual
     unfolding expr term factor negative date
 
-    pub expr_told : (d : ExprRule) (n : ℕ) (rest : List Token) → length (write_expr d rest) ≤ n → EndsExpr rest → expr (factor number n) (write_expr d rest) ≡ Some (expr_with number (expr_of d), rest)
+    pub expr_told : (d : ExprRule) (n : ℕ) (rest : List Token) → length (write_expr d rest) ≤ n → EndsExpr rest → expr build (factor build n) (write_expr d rest) ≡ Some (expr_with build (expr_of d), rest)
     expr_told (Sum first terms) n rest h ends =
         let longer = term_longer first (write_terms terms rest) in
         then_told _ _ _ _ (term_told first n (write_terms terms rest) h (terms_end terms rest ends))
         (terms_told terms n (length (write_terms terms rest)) (term_of first) rest (omega arith) (omega (arith, longer)) ends)
 
-    terms_told : (d : TermsRule) (n k : ℕ) (left : ExprTree) (rest : List Token) → length (write_terms d rest) ≤ k → length (write_terms d rest) ≤ n → EndsExpr rest → chain sign_in Operator (term (factor number n)) k (expr_with number left) (write_terms d rest) ≡ Some (expr_with number (terms_of left d), rest)
-    terms_told NoTerm n k left rest steps h ends = chain_ends sign_in Operator _ k (expr_with number left) rest ends.no_sign
+    terms_told : (d : TermsRule) (n k : ℕ) (left : ExprTree) (rest : List Token) → length (write_terms d rest) ≤ k → length (write_terms d rest) ≤ n → EndsExpr rest → chain sign_in build.operator (term build (factor build n)) k (expr_with build left) (write_terms d rest) ≡ Some (expr_with build (terms_of left d), rest)
+    terms_told NoTerm n k left rest steps h ends = chain_ends sign_in build.operator _ k (expr_with build left) rest ends.no_sign
     terms_told (MoreTerms s next terms) n zero left rest steps h ends = absurd (omega arith)
     terms_told (MoreTerms s next terms) n (suc k) left rest steps h ends =
         let longer = term_longer next (write_terms terms rest) in
-        chain_goes_on sign_in Operator _ k (expr_with number left) _ (sign_op s) (expr_with number (term_of next)) (write_terms terms rest) (sign_told s)
+        chain_goes_on sign_in build.operator _ k (expr_with build left) _ (sign_op s) (expr_with build (term_of next)) (write_terms terms rest) (sign_told s)
         (term_told next n (write_terms terms rest) (omega arith) (terms_end terms rest ends))
         ∙ terms_told terms n k (Operator (sign_op s) left (term_of next)) rest (omega (arith, longer)) (omega (arith, longer)) ends
 
-    term_told : (d : TermRule) (n : ℕ) (rest : List Token) → length (write_term d rest) ≤ n → EndsTerm rest → term (factor number n) (write_term d rest) ≡ Some (expr_with number (term_of d), rest)
+    term_told : (d : TermRule) (n : ℕ) (rest : List Token) → length (write_term d rest) ≤ n → EndsTerm rest → term build (factor build n) (write_term d rest) ≡ Some (expr_with build (term_of d), rest)
     term_told (Product first factors) n rest h ends =
         let longer = factor_longer first (write_factors factors rest) in
         then_told _ _ _ _ (factor_told first n (write_factors factors rest) h (factors_end factors rest ends))
         (factors_told factors n (length (write_factors factors rest)) (factor_of first) rest (omega arith) (omega (arith, longer)) ends)
 
-    factors_told : (d : FactorsRule) (n k : ℕ) (left : ExprTree) (rest : List Token) → length (write_factors d rest) ≤ k → length (write_factors d rest) ≤ n → EndsTerm rest → chain star_in Operator (factor number n) k (expr_with number left) (write_factors d rest) ≡ Some (expr_with number (factors_of left d), rest)
-    factors_told NoFactor n k left rest steps h ends = chain_ends star_in Operator _ k (expr_with number left) rest ends.no_star
+    factors_told : (d : FactorsRule) (n k : ℕ) (left : ExprTree) (rest : List Token) → length (write_factors d rest) ≤ k → length (write_factors d rest) ≤ n → EndsTerm rest → chain star_in build.operator (factor build n) k (expr_with build left) (write_factors d rest) ≡ Some (expr_with build (factors_of left d), rest)
+    factors_told NoFactor n k left rest steps h ends = chain_ends star_in build.operator _ k (expr_with build left) rest ends.no_star
     factors_told (MoreFactors next factors) n zero left rest steps h ends = absurd (omega arith)
     factors_told (MoreFactors next factors) n (suc k) left rest steps h ends =
         let longer = factor_longer next (write_factors factors rest) in
-        chain_goes_on star_in Operator _ k (expr_with number left) _ arithmetic.Times (expr_with number (factor_of next)) (write_factors factors rest) refl
+        chain_goes_on star_in build.operator _ k (expr_with build left) _ arithmetic.Times (expr_with build (factor_of next)) (write_factors factors rest) refl
         (factor_told next n (write_factors factors rest) (omega arith) (factors_end factors rest ends))
         ∙ factors_told factors n k (Operator arithmetic.Times left (factor_of next)) rest (omega (arith, longer)) (omega (arith, longer)) ends
 
-    factor_told : (d : FactorRule) (n : ℕ) (rest : List Token) → length (write_factor d rest) ≤ n → EndsFactor rest → factor number n (write_factor d rest) ≡ Some (expr_with number (factor_of d), rest)
+    factor_told : (d : FactorRule) (n : ℕ) (rest : List Token) → length (write_factor d rest) ≤ n → EndsFactor rest → factor build n (write_factor d rest) ≡ Some (expr_with build (factor_of d), rest)
     factor_told d zero rest h ends = let longer = factor_longer d rest in absurd (omega (arith, longer))
     factor_told (Number digits) (suc n) rest h ends = refl
     factor_told (Operand operand) (suc n) rest h ends = operand_told operand n rest h ends
 
-    operand_told : (d : OperandRule) (n : ℕ) (rest : List Token) → length (write_operand d rest) ≤ suc n → EndsFactor rest → factor number (suc n) (write_operand d rest) ≡ Some (expr_with number (operand_of d), rest)
+    operand_told : (d : OperandRule) (n : ℕ) (rest : List Token) → length (write_operand d rest) ≤ suc n → EndsFactor rest → factor build (suc n) (write_operand d rest) ≡ Some (expr_with build (operand_of d), rest)
     operand_told (NegativeNumber digits) n rest h ends = refl
     operand_told (StringOperand text) n rest h ends = refl
     operand_told (DateOperand text is) n rest h ends = ap (λ d. then_read d (λ day. Some (Literal (cell.Day day), rest))) (day_told text is)
     operand_told (ColumnOperand column) n rest h ends = column_told n column rest ends
     operand_told (Negated operand) zero rest h ends = let longer = operand_longer operand rest in absurd (omega (arith, longer))
     operand_told (Negated operand) (suc n) rest h ends =
-        ap (λ o. given o (then_read (factor number (suc n) (write_operand operand rest)) (λ operand. Some (Operator arithmetic.Minus (Literal (number (pos 0))) operand.0, operand.1))) (λ digits. Some (Literal (number (negative_of digits)), after_first (write_operand operand rest)))) (operand_first operand rest)
+        ap (λ o. given o (then_read (factor build (suc n) (write_operand operand rest)) (λ operand. Some (build.operator arithmetic.Minus (Literal (build.number (pos 0))) operand.0, operand.1))) (λ digits. Some (Literal (build.number (negative_of digits)), after_first (write_operand operand rest)))) (operand_first operand rest)
         ∙ then_told _ _ _ _ (operand_told operand n rest (omega arith) ends) refl
     operand_told (Parenthesised e) n rest h ends =
         then_told _ _ closed _ (expr_told e n (sign symbol.Close ∷ rest) (omega arith) (record { term_ends = record { factor_ends = record { no_dot = refl }; no_star = refl }; no_sign = refl })) refl

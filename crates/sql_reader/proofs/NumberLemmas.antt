@@ -4,7 +4,7 @@ use Rattle.std.specs.Char.{digit_value}
 use Rattle.std.specs.Str.Parse.{digits_value_after}
 use Rattle.std.proofs.lemmas.Bool.Decides.{nat_tests}
 use Rattle.cell_core.specs.declared.cell.Cell.TheVariants as cell
-use Rattle.sql_reader.specs.Derived.{number_cell}
+use Rattle.sql_reader.specs.Bounded.{number_cell}
 use Rattle.sql_reader.specs.Reader.{signed_cell}
 
 -- digits behind a number make it no smaller

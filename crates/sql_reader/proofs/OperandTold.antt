@@ -1,7 +1,6 @@
 -- What a derivation of an expression or an aggregate writes is read as what it stands for, and how it
 -- begins.
-use Rattle.std.proofs.Common.{◌≡◌, ℕ, zero, suc, ◌<◌, ◌≤◌, List, ◌∷◌, length, Bool, true, false, Option, Some, None, ℤ, refl, arith}
-use Rattle.cell_core.specs.declared.cell.Cell.{Cell}
+use Rattle.std.proofs.Common.{◌≡◌, ℕ, zero, suc, ◌<◌, ◌≤◌, List, ◌∷◌, length, Bool, true, false, Option, Some, None, refl, arith}
 use Rattle.sql_grammar.specs.Grammar.{sign, ExprRule, OperandRule, write_expr, write_operand, expr_of, aggregate_word, ValueRule, write_value, value_of}
 use Rattle.sql_grammar.specs.Grammar.NameRule.{BareName, QuotedName}
 use Rattle.sql_grammar.specs.Grammar.ColumnRule.{PlainColumn, TableColumn}
@@ -11,6 +10,7 @@ use Rattle.sql_grammar.specs.Grammar.FactorRule.{Number, Operand}
 use Rattle.sql_grammar.specs.Grammar.OperandRule.{NegativeNumber, StringOperand, DateOperand, ColumnOperand, Negated, Parenthesised}
 use Rattle.sql_grammar.specs.Grammar.AggRule.{CountAll, AggregateOf}
 use Rattle.sql_grammar.specs.Grammar.ValueRule.{ExprValue, AggValue}
+use Rattle.sql_reader.specs.Bounded.{Builder}
 use Rattle.sql_reader.specs.Chain.{Parser, first_token, then_read}
 use Rattle.sql_reader.specs.CondReader.{aggregate_in, is_all, whole_expr, argument, value}
 use Rattle.sql_reader.specs.Derived.{expr_with}
@@ -90,31 +90,31 @@ pub close_ends : (rest : List Token) → EndsExpr (sign symbol.Close ∷ rest)
 close_ends rest = record { term_ends = record { factor_ends = record { no_dot = refl }; no_star = refl }; no_sign = refl }
 
 -- a reader of operands tells what is derived; behind a `(` that ends no expression it tells nothing
-pub record IsOperand (number : ℤ → Cell) {E : Type 0} (write : E → List Token → List Token) (tree : E → ExprTree) (operand : Parser ExprTree) : Type 0 where
-  pub told : (d : E) (rest : List Token) → EndsExpr rest → operand (write d rest) ≡ Some (expr_with number (tree d), rest)
+pub record IsOperand (build : Builder) {E : Type 0} (write : E → List Token → List Token) (tree : E → ExprTree) (operand : Parser ExprTree) : Type 0 where
+  pub told : (d : E) (rest : List Token) → EndsExpr rest → operand (write d rest) ≡ Some (expr_with build (tree d), rest)
   pub longer : (d : E) (rest : List Token) → length rest < length (write d rest)
   pub no_not : (d : E) (rest : List Token) → is_key word.Not (first_token (write d rest)) ≡ false
-  pub early : (d : E) (n : ℕ) (rest : List Token) → length (write d rest) ≤ n → EndsExpr rest → is_close (first_token rest) ≡ false → then_read (expr (factor number n) (write d rest)) closed ≡ None
-  pub opens : (ts : List Token) → then_read (expr (factor number (length ts)) ts) closed ≡ None → operand (sign symbol.Open ∷ ts) ≡ None
+  pub early : (d : E) (n : ℕ) (rest : List Token) → length (write d rest) ≤ n → EndsExpr rest → is_close (first_token rest) ≡ false → then_read (expr build (factor build n) (write d rest)) closed ≡ None
+  pub opens : (ts : List Token) → then_read (expr build (factor build (length ts)) ts) closed ≡ None → operand (sign symbol.Open ∷ ts) ≡ None
 
-module _ (number : ℤ → Cell) where
+module _ (build : Builder) where
   -- where no factor stands, no expression does
-  pub expr_none : (n : ℕ) (ts : List Token) → factor number n ts ≡ None → then_read (expr (factor number n) ts) closed ≡ None
+  pub expr_none : (n : ℕ) (ts : List Token) → factor build n ts ≡ None → then_read (expr build (factor build n) ts) closed ≡ None
   unfolding expr term
   expr_none n ts h = then_none _ closed (then_none _ _ (then_none _ _ h))
 
-  pub whole_told : (d : ExprRule) (rest : List Token) → EndsExpr rest → whole_expr number (write_expr d rest) ≡ Some (expr_with number (expr_of d), rest)
+  pub whole_told : (d : ExprRule) (rest : List Token) → EndsExpr rest → whole_expr build (write_expr d rest) ≡ Some (expr_with build (expr_of d), rest)
   unfolding whole_expr
-  whole_told d rest ends = expr_told number d (length (write_expr d rest)) rest (omega arith) ends
+  whole_told d rest ends = expr_told build d (length (write_expr d rest)) rest (omega arith) ends
 
-  expr_early : (d : ExprRule) (n : ℕ) (rest : List Token) → length (write_expr d rest) ≤ n → EndsExpr rest → is_close (first_token rest) ≡ false → then_read (expr (factor number n) (write_expr d rest)) closed ≡ None
-  expr_early d n rest h ends open_ = then_told _ _ closed _ (expr_told number d n rest h ends) (branch_false _ _ _ _ open_ refl)
+  expr_early : (d : ExprRule) (n : ℕ) (rest : List Token) → length (write_expr d rest) ≤ n → EndsExpr rest → is_close (first_token rest) ≡ false → then_read (expr build (factor build n) (write_expr d rest)) closed ≡ None
+  expr_early d n rest h ends open_ = then_told _ _ closed _ (expr_told build d n rest h ends) (branch_false _ _ _ _ open_ refl)
 
-  expr_opens : (ts : List Token) → then_read (expr (factor number (length ts)) ts) closed ≡ None → whole_expr number (sign symbol.Open ∷ ts) ≡ None
+  expr_opens : (ts : List Token) → then_read (expr build (factor build (length ts)) ts) closed ≡ None → whole_expr build (sign symbol.Open ∷ ts) ≡ None
   unfolding whole_expr expr term factor
   expr_opens ts h = then_none _ _ (then_none _ _ h)
 
-  pub expr_operand : IsOperand number write_expr expr_of (whole_expr number)
+  pub expr_operand : IsOperand build write_expr expr_of (whole_expr build)
   expr_operand = record {
     told = whole_told;
     longer = expr_longer;
@@ -134,17 +134,17 @@ module _ (number : ℤ → Cell) where
   value_no_not (AggValue CountAll) rest = refl
   value_no_not (AggValue (AggregateOf f e)) rest = aggregate_no_not f
 
-  argument_told : (f : AggOp) (e : ExprRule) (rest : List Token) → argument number f (write_expr e (sign symbol.Close ∷ rest)) ≡ Some (expr_with number (value_of (AggValue (AggregateOf f e))), rest)
+  argument_told : (f : AggOp) (e : ExprRule) (rest : List Token) → argument build f (write_expr e (sign symbol.Close ∷ rest)) ≡ Some (expr_with build (value_of (AggValue (AggregateOf f e))), rest)
   unfolding argument
   argument_told f e rest = branch_false _ _ _ _ (begins_no_all f _ (expr_begins e (sign symbol.Close ∷ rest))) (then_told _ _ _ _ (whole_told e (sign symbol.Close ∷ rest) (close_ends rest)) refl)
 
-  pub value_told : (d : ValueRule) (rest : List Token) → EndsExpr rest → value number (write_value d rest) ≡ Some (expr_with number (value_of d), rest)
+  pub value_told : (d : ValueRule) (rest : List Token) → EndsExpr rest → value build (write_value d rest) ≡ Some (expr_with build (value_of d), rest)
   unfolding value argument is_symbol
   value_told (ExprValue e) rest ends = given_none _ _ _ _ (begins_no_aggregate _ (expr_begins e rest)) (whole_told e rest ends)
   value_told (AggValue CountAll) rest ends = refl
   value_told (AggValue (AggregateOf f e)) rest ends = given_told _ f _ _ _ (aggregate_told f) (argument_told f e rest)
 
-  aggregate_none : (f : AggOp) (n : ℕ) (ts : List Token) → factor number n (Key (aggregate_word f) ∷ ts) ≡ None
+  aggregate_none : (f : AggOp) (n : ℕ) (ts : List Token) → factor build n (Key (aggregate_word f) ∷ ts) ≡ None
   unfolding factor
   aggregate_none f zero ts = refl
   aggregate_none aggregate.Count (suc n) ts = refl
@@ -152,16 +152,16 @@ module _ (number : ℤ → Cell) where
   aggregate_none aggregate.Min (suc n) ts = refl
   aggregate_none aggregate.Max (suc n) ts = refl
 
-  value_early : (d : ValueRule) (n : ℕ) (rest : List Token) → length (write_value d rest) ≤ n → EndsExpr rest → is_close (first_token rest) ≡ false → then_read (expr (factor number n) (write_value d rest)) closed ≡ None
+  value_early : (d : ValueRule) (n : ℕ) (rest : List Token) → length (write_value d rest) ≤ n → EndsExpr rest → is_close (first_token rest) ≡ false → then_read (expr build (factor build n) (write_value d rest)) closed ≡ None
   value_early (ExprValue e) n rest h ends open_ = expr_early e n rest h ends open_
   value_early (AggValue CountAll) n rest h ends open_ = expr_none n _ (aggregate_none aggregate.Count n _)
   value_early (AggValue (AggregateOf f e)) n rest h ends open_ = expr_none n _ (aggregate_none f n _)
 
-  value_opens : (ts : List Token) → then_read (expr (factor number (length ts)) ts) closed ≡ None → value number (sign symbol.Open ∷ ts) ≡ None
+  value_opens : (ts : List Token) → then_read (expr build (factor build (length ts)) ts) closed ≡ None → value build (sign symbol.Open ∷ ts) ≡ None
   unfolding value
   value_opens ts h = expr_opens ts h
 
-  pub value_operand : IsOperand number write_value value_of (value number)
+  pub value_operand : IsOperand build write_value value_of (value build)
   value_operand = record {
     told = value_told;
     longer = value_longer;

@@ -1,13 +1,13 @@
 -- What the functions that read aggregates and conditions compute, on plain lists of tokens: a definition
 -- for each. The public clauses don't speak of these.
-use Rattle.std.specs.Prelude.{ℕ, zero, suc, List, length, Bool, true, false, if◌then◌else◌, Option, Some, None, ℤ}
-use Rattle.cell_core.specs.declared.cell.Cell.{Cell}
+use Rattle.std.specs.Prelude.{ℕ, zero, suc, List, length, Bool, true, false, if◌then◌else◌, Option, Some, None}
+use Rattle.sql_reader.specs.Bounded.{Builder}
 use Rattle.sql_reader.specs.Chain.{Found, Parser, first_token, after_first, then_read, or_read, given, chain}
 use Rattle.sql_reader.specs.Parts.{is_key, behind_key, behind_symbol, comma_in}
 use Rattle.sql_reader.specs.Reader.{expr, factor, closed}
 use Rattle.sql_tree.specs.Tree.{ExprTree, CondTree}
 use Rattle.sql_tree.specs.Tree.ExprTree.{AggregateAll, Aggregate}
-use Rattle.sql_tree.specs.Tree.CondTree.{Compare, Within, Negation, Both, Either}
+use Rattle.sql_tree.specs.Tree.CondTree.{Compare, Within, Negation}
 use Rattle.sql_tree.specs.declared.token.Keyword.{Keyword}
 use Rattle.sql_tree.specs.declared.token.Keyword.TheVariants as word
 use Rattle.sql_tree.specs.declared.token.Symbol.{Symbol}
@@ -58,10 +58,10 @@ is_all f other = false
 
 -- ## Expressions and aggregates
 
-module _ (number : ℤ → Cell) where
+module _ (build : Builder) where
   -- an expression, with as many levels as there are tokens
   unfoldable pub whole_expr : Parser ExprTree
-  whole_expr tokens = expr (factor number (length tokens)) tokens
+  whole_expr tokens = expr build (factor build (length tokens)) tokens
 
   -- what follows an aggregate's word
   unfoldable pub argument : AggOp → Parser ExprTree
@@ -81,21 +81,21 @@ module _ (number : ℤ → Cell) where
 -- ## Conditions over operands
 
 -- a condition behind AND or OR
-abbrev pub both_of : Keyword → CondTree → CondTree → CondTree
-both_of and left right = Both left right
+abbrev pub both_of : Builder → Keyword → CondTree → CondTree → CondTree
+both_of build and left right = build.both left right
 
-abbrev pub either_of : Keyword → CondTree → CondTree → CondTree
-either_of or left right = Either left right
+abbrev pub either_of : Builder → Keyword → CondTree → CondTree → CondTree
+either_of build or left right = build.either left right
 
 -- a member of an IN list behind those before it
-abbrev pub or_member : ExprTree → Symbol → CondTree → ExprTree → CondTree
-or_member of s so_far member = Either so_far (Compare compare.Eq of member)
+abbrev pub or_member : Builder → ExprTree → Symbol → CondTree → ExprTree → CondTree
+or_member build of s so_far member = build.either so_far (Compare compare.Eq of member)
 
 -- the denial of a condition that is found
 abbrev pub denied : CondTree × List Token → Found CondTree
 denied found = Some (Negation found.0, found.1)
 
-module _ (operand : Parser ExprTree) where
+module _ (build : Builder) (operand : Parser ExprTree) where
   -- what follows `e BETWEEN`
   unfoldable pub within : ExprTree → Parser CondTree
   within of tokens =
@@ -104,7 +104,7 @@ module _ (operand : Parser ExprTree) where
 
   -- the members of an IN list
   unfoldable pub members : ExprTree → Parser CondTree
-  members of tokens = then_read (operand tokens) (λ first. chain comma_in (or_member of) operand (length first.1) (Compare compare.Eq of first.0) first.1)
+  members of tokens = then_read (operand tokens) (λ first. chain comma_in (or_member build of) operand (length first.1) (Compare compare.Eq of first.0) first.1)
 
   -- what follows `e IN`
   unfoldable pub listed : ExprTree → Parser CondTree
@@ -131,30 +131,31 @@ module _ (operand : Parser ExprTree) where
   unfoldable pub test : Parser CondTree
   test tokens = then_read (operand tokens) (λ of. test_behind of.0 of.1)
 
--- conj = unit {AND unit}
-unfoldable pub conjunction : Parser CondTree → Parser CondTree
-conjunction unit tokens = then_read (unit tokens) (λ first. chain and_in both_of unit (length first.1) first.0 first.1)
+module _ (build : Builder) where
+  -- conj = unit {AND unit}
+  unfoldable pub conjunction : Parser CondTree → Parser CondTree
+  conjunction unit tokens = then_read (unit tokens) (λ first. chain and_in (both_of build) unit (length first.1) first.0 first.1)
 
--- cond = conj {OR conj}
-unfoldable pub condition : Parser CondTree → Parser CondTree
-condition unit tokens = then_read (conjunction unit tokens) (λ first. chain or_in either_of (conjunction unit) (length first.1) first.0 first.1)
+  -- cond = conj {OR conj}
+  unfoldable pub condition : Parser CondTree → Parser CondTree
+  condition unit tokens = then_read (conjunction unit tokens) (λ first. chain or_in (either_of build) (conjunction unit) (length first.1) first.0 first.1)
 
--- "(" cond ")"
-unfoldable pub enclosed : Parser CondTree → Parser CondTree
-enclosed unit = behind_symbol symbol.Open (λ tokens. then_read (condition unit tokens) closed)
+  -- "(" cond ")"
+  unfoldable pub enclosed : Parser CondTree → Parser CondTree
+  enclosed unit = behind_symbol symbol.Open (λ tokens. then_read (condition unit tokens) closed)
 
-module _ (operand : Parser ExprTree) where
-  -- unit = NOT unit | test | "(" cond ")": what is no test may be a condition in parentheses
-  abbrev pub unit_of : Parser CondTree → Parser CondTree
-  unit_of inner tokens =
-      if is_key word.Not (first_token tokens) then then_read (inner (after_first tokens)) denied
-      else or_read (test operand tokens) (enclosed inner tokens)
+  module _ (operand : Parser ExprTree) where
+    -- unit = NOT unit | test | "(" cond ")": what is no test may be a condition in parentheses
+    abbrev pub unit_of : Parser CondTree → Parser CondTree
+    unit_of inner tokens =
+        if is_key word.Not (first_token tokens) then then_read (inner (after_first tokens)) denied
+        else or_read (test build operand tokens) (enclosed inner tokens)
 
-  -- a unit of so many levels at most
-  unfoldable pub unit : ℕ → Parser CondTree
-  unit zero tokens = None
-  unit (suc n) tokens = unit_of (unit n) tokens
+    -- a unit of so many levels at most
+    unfoldable pub unit : ℕ → Parser CondTree
+    unit zero tokens = None
+    unit (suc n) tokens = unit_of (unit n) tokens
 
-  -- a condition, with as many levels as there are tokens
-  unfoldable pub whole_cond : Parser CondTree
-  whole_cond tokens = condition (unit (length tokens)) tokens
+    -- a condition, with as many levels as there are tokens
+    unfoldable pub whole_cond : Parser CondTree
+    whole_cond tokens = condition (unit (length tokens)) tokens

@@ -1,9 +1,9 @@
--- What tokens derive: an expression, a condition.
-use Rattle.std.specs.Prelude.{◌≡◌, List, [], ℤ, if◌then◌else◌}
+-- What tokens derive: an expression, a condition. How it is kept stands in `Bounded`.
+use Rattle.std.specs.Prelude.{◌≡◌, List, [], ℤ}
 use Rattle.cell_core.specs.declared.cell.Cell.{Cell}
 use Rattle.cell_core.specs.declared.cell.Cell.TheVariants as cell
 use Rattle.sql_grammar.specs.Grammar.{ExprRule, write_expr, expr_of, write_value, value_of, CondRule, write_cond, cond_of}
-use Rattle.sql_grammar.specs.Refused.{is_out_of_range}
+use Rattle.sql_reader.specs.Bounded.{Builder, bounded}
 use Rattle.sql_tree.specs.Tree.{ExprTree, CondTree}
 use Rattle.sql_tree.specs.Tree.ExprTree.{Literal, ColumnOf, Operator, AggregateAll, Aggregate}
 use Rattle.sql_tree.specs.Tree.CondTree.{Compare, Within, Negation, Both, Either}
@@ -20,23 +20,19 @@ abbrev pub cell_with : (ℤ → Cell) → Cell → Cell
 cell_with number (cell.Int n) = number n
 cell_with number other = other
 
--- the expression with its numbers as other cells
-abbrev pub expr_with : (ℤ → Cell) → ExprTree → ExprTree
-expr_with number (Literal literal) = Literal (cell_with number literal)
-expr_with number (ColumnOf column) = ColumnOf column
-expr_with number (Operator op left right) = Operator op (expr_with number left) (expr_with number right)
-expr_with number (AggregateAll f) = AggregateAll f
-expr_with number (Aggregate f of) = Aggregate f (expr_with number of)
+-- the expression as a builder keeps it
+abbrev pub expr_with : Builder → ExprTree → ExprTree
+expr_with build (Literal literal) = Literal (cell_with build.number literal)
+expr_with build (ColumnOf column) = ColumnOf column
+expr_with build (Operator op left right) = build.operator op (expr_with build left) (expr_with build right)
+expr_with build (AggregateAll f) = AggregateAll f
+expr_with build (Aggregate f of) = Aggregate f (expr_with build of)
 
--- a number of 64 bits as it is, and Nil, which no literal gives, for any other
-abbrev pub number_cell : ℤ → Cell
-number_cell n = if is_out_of_range n then cell.Nil else cell.Int n
-
--- the tokens derive an expression that is the tree, but for its numbers of more than 64 bits
+-- the tokens derive an expression that is kept as the tree
 pub record IsReadExpr (tokens : List Token) (tree : ExprTree) : Type 0 where
   pub expr : ExprTree
   pub derived : IsExpr tokens expr
-  pub tree_is : expr_with number_cell expr ≡ tree
+  pub tree_is : expr_with bounded expr ≡ tree
 
 -- no tokens derive two expressions
 abbrev pub EachIsOneExpr : Type 0
@@ -56,19 +52,19 @@ IsCond = IsCondOver write_expr expr_of
 abbrev pub IsHaving : List Token → CondTree → Type 0
 IsHaving = IsCondOver write_value value_of
 
--- the condition with its numbers as other cells
-abbrev pub cond_with : (ℤ → Cell) → CondTree → CondTree
-cond_with number (Compare op left right) = Compare op (expr_with number left) (expr_with number right)
-cond_with number (Within of low high) = Within (expr_with number of) (expr_with number low) (expr_with number high)
-cond_with number (Negation of) = Negation (cond_with number of)
-cond_with number (Both left right) = Both (cond_with number left) (cond_with number right)
-cond_with number (Either left right) = Either (cond_with number left) (cond_with number right)
+-- the condition as a builder keeps it
+abbrev pub cond_with : Builder → CondTree → CondTree
+cond_with build (Compare op left right) = Compare op (expr_with build left) (expr_with build right)
+cond_with build (Within of low high) = Within (expr_with build of) (expr_with build low) (expr_with build high)
+cond_with build (Negation of) = Negation (cond_with build of)
+cond_with build (Both left right) = build.both (cond_with build left) (cond_with build right)
+cond_with build (Either left right) = build.either (cond_with build left) (cond_with build right)
 
--- the tree is a condition that is derived, but for its numbers of more than 64 bits
+-- a condition that is derived is kept as the tree
 pub record IsReadCond (IsDerived : CondTree → Type 0) (tree : CondTree) : Type 0 where
   pub cond : CondTree
   pub derived : IsDerived cond
-  pub tree_is : cond_with number_cell cond ≡ tree
+  pub tree_is : cond_with bounded cond ≡ tree
 
 -- no tokens derive two conditions, nor two conditions of HAVING
 abbrev pub EachIsOneCond : Type 0

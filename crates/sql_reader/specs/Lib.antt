@@ -1,3 +1,4 @@
+pub mod Bounded
 pub mod Derived
 pub mod Chain
 pub mod Parts

@@ -6,9 +6,10 @@ use Rattle.cell_core.specs.Day.{year_in, month_in, day_of_month_in, day_in}
 use Rattle.cell_core.specs.declared.cell.Cell.{Cell}
 use Rattle.cell_core.specs.declared.cell.Cell.TheVariants as cell
 use Rattle.sql_grammar.specs.Grammar.{number_of, negative_of}
+use Rattle.sql_reader.specs.Bounded.{Builder}
 use Rattle.sql_reader.specs.Chain.{Found, Parser, first_token, after_first, then_read, given, chain}
 use Rattle.sql_tree.specs.Tree.{ExprTree}
-use Rattle.sql_tree.specs.Tree.ExprTree.{Literal, ColumnOf, Operator}
+use Rattle.sql_tree.specs.Tree.ExprTree.{Literal, ColumnOf}
 use Rattle.sql_tree.specs.declared.token.Keyword.TheVariants as word
 use Rattle.sql_tree.specs.declared.token.Symbol.TheVariants as symbol
 use Rattle.sql_tree.specs.declared.token.Token.{Token}
@@ -92,7 +93,7 @@ is_day_text text = are_day_marks text && (are_day_digits text && is_calendar_day
 abbrev pub day_named : List ℕ → Option ℤ
 day_named text = if is_day_text text then Some (day_in text) else None
 
--- ## Expressions, whose numbers become cells by a function
+-- ## Expressions, as a builder keeps them
 
 -- a column that begins with the name
 unfoldable pub column : List ℕ → Parser ColRef
@@ -104,25 +105,25 @@ column name tokens =
 unfoldable pub date : Parser ExprTree
 date tokens = then_read (text_in (first_token tokens)) (λ text. then_read (day_named text) (λ day. Some (Literal (cell.Day day), after_first tokens)))
 
--- term = factor {"*" factor}
-unfoldable pub term : Parser ExprTree → Parser ExprTree
-term factor tokens = then_read (factor tokens) (λ first. chain star_in Operator factor (length first.1) first.0 first.1)
+module _ (build : Builder) where
+  -- term = factor {"*" factor}
+  unfoldable pub term : Parser ExprTree → Parser ExprTree
+  term factor tokens = then_read (factor tokens) (λ first. chain star_in build.operator factor (length first.1) first.0 first.1)
 
--- expr = term {("+" | "-") term}
-unfoldable pub expr : Parser ExprTree → Parser ExprTree
-expr factor tokens = then_read (term factor tokens) (λ first. chain sign_in Operator (term factor) (length first.1) first.0 first.1)
+  -- expr = term {("+" | "-") term}
+  unfoldable pub expr : Parser ExprTree → Parser ExprTree
+  expr factor tokens = then_read (term factor tokens) (λ first. chain sign_in build.operator (term factor) (length first.1) first.0 first.1)
 
-module _ (number : ℤ → Cell) where
   -- what follows `-`
   unfoldable pub negative : Parser ExprTree → Parser ExprTree
   negative factor tokens =
       given (digits_in (first_token tokens))
-      (then_read (factor tokens) (λ operand. Some (Operator arith.Minus (Literal (number (pos 0))) operand.0, operand.1)))
-      (λ digits. Some (Literal (number (negative_of digits)), after_first tokens))
+      (then_read (factor tokens) (λ operand. Some (build.operator arith.Minus (Literal (build.number (pos 0))) operand.0, operand.1)))
+      (λ digits. Some (Literal (build.number (negative_of digits)), after_first tokens))
 
   -- the factor that begins with the token
   abbrev pub factor_at : Parser ExprTree → Option Token → Parser ExprTree
-  factor_at inner (Some (Digits digits)) rest = Some (Literal (number (pos (number_of digits))), rest)
+  factor_at inner (Some (Digits digits)) rest = Some (Literal (build.number (pos (number_of digits))), rest)
   factor_at inner (Some (Text text)) rest = Some (Literal (cell.Text text), rest)
   factor_at inner (Some (Key word.Date)) rest = date rest
   factor_at inner (Some (Name name)) rest = then_read (column name rest) (λ column. Some (ColumnOf column.0, column.1))

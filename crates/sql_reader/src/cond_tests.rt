@@ -1,27 +1,30 @@
 ghost use Rattle.std.specs.Prelude.{◌≡◌, Some, None, true, false, option_copied, IfOk, IsErrOf};
 ghost use Rattle.sql_grammar.specs.Reads.{tokens_in};
+ghost use Rattle.sql_grammar.specs.Refused.{has_column_arithmetic};
 ghost use Rattle.sql_tree.specs.Tree.{cond_tree, expr_tree};
-ghost use Rattle.sql_tree.specs.Tree.CondTree.{Compare};
+ghost use Rattle.sql_tree.specs.Tree.CondTree.{Compare, Either};
 ghost use Rattle.sql_tree.specs.declared.tree.CmpOp.TheVariants as compare;
 ghost use Rattle.sql_reader.specs.Chain.{first_token, after_first};
-ghost use Rattle.sql_reader.specs.Derived.{number_cell};
+ghost use Rattle.sql_reader.specs.Bounded.{bounded, bounded_join, cond_has_unread};
 ghost use Rattle.sql_reader.specs.CondReader as reader;
 
 use crate::conditions::{either, negation};
 use crate::cursor::{Cursor, aggregate_word, comma, comparison, is_all, is_key};
 use crate::expressions::expr;
 use crate::reading::ReadError;
+use crate::signs::{with_arithmetic, with_unread_test};
 use cell_core::Memory;
+use sql_refusals::{has_unread, is_column_arithmetic, is_large_cond};
 use sql_tree::{AggOp, CmpOp, Cond, Expr, Keyword, Symbol, Token};
 use std::alloc::Global;
 
 /// An expression, with as many levels as there are tokens.
 #[tactic(auto, unfolding(crate::specs::CondReader::whole_expr))]
 pub fn whole_expr(alloc: Global, tokens: &mut Cursor<'_>) -> Result<Expr, ReadError>
-    ensures found { IfOk result (λ e. reader.whole_expr number_cell
+    ensures found { IfOk result (λ e. reader.whole_expr bounded
         (tokens_in tokens.old.rest.now) ≡ Some (expr_tree e, tokens_in tokens.new.rest.now)) }
     ensures none { IsErrOf result ReadError.Syntax →
-        reader.whole_expr number_cell (tokens_in tokens.old.rest.now) ≡ None }
+        reader.whole_expr bounded (tokens_in tokens.old.rest.now) ≡ None }
 {
     let levels = tokens.len();
     expr(alloc, tokens, levels)
@@ -30,10 +33,10 @@ pub fn whole_expr(alloc: Global, tokens: &mut Cursor<'_>) -> Result<Expr, ReadEr
 /// An expression or an aggregate.
 #[tactic(auto, unfolding(crate::specs::CondReader::value))]
 pub fn value(alloc: Global, tokens: &mut Cursor<'_>) -> Result<Expr, ReadError>
-    ensures found { IfOk result (λ e. reader.value number_cell
+    ensures found { IfOk result (λ e. reader.value bounded
         (tokens_in tokens.old.rest.now) ≡ Some (expr_tree e, tokens_in tokens.new.rest.now)) }
     ensures none { IsErrOf result ReadError.Syntax →
-        reader.value number_cell (tokens_in tokens.old.rest.now) ≡ None }
+        reader.value bounded (tokens_in tokens.old.rest.now) ≡ None }
 {
     let Some(f) = aggregate_word(tokens.peek()) else {
         return whole_expr(alloc, tokens);
@@ -46,10 +49,10 @@ pub fn value(alloc: Global, tokens: &mut Cursor<'_>) -> Result<Expr, ReadError>
 /// The argument of an aggregate, up to its `)`.
 #[tactic(auto, unfolding(crate::specs::CondReader::argument))]
 fn argument(alloc: Global, tokens: &mut Cursor<'_>, f: AggOp) -> Result<Expr, ReadError>
-    ensures found { IfOk result (λ e. reader.argument number_cell f
+    ensures found { IfOk result (λ e. reader.argument bounded f
         (tokens_in tokens.old.rest.now) ≡ Some (expr_tree e, tokens_in tokens.new.rest.now)) }
     ensures none { IsErrOf result ReadError.Syntax →
-        reader.argument number_cell f (tokens_in tokens.old.rest.now) ≡ None }
+        reader.argument bounded f (tokens_in tokens.old.rest.now) ≡ None }
 {
     if is_all(f, tokens.peek()) {
         tokens.advance();
@@ -66,10 +69,10 @@ fn argument(alloc: Global, tokens: &mut Cursor<'_>, f: AggOp) -> Result<Expr, Re
 
 /// An operand of a test: an expression, or an aggregate too.
 fn operand(alloc: Global, tokens: &mut Cursor<'_>, aggregates: bool) -> Result<Expr, ReadError>
-    ensures found { IfOk result (λ e. reader.operand number_cell aggregates
+    ensures found { IfOk result (λ e. reader.operand bounded aggregates
         (tokens_in tokens.old.rest.now) ≡ Some (expr_tree e, tokens_in tokens.new.rest.now)) }
     ensures none { IsErrOf result ReadError.Syntax →
-        reader.operand number_cell aggregates (tokens_in tokens.old.rest.now) ≡ None }
+        reader.operand bounded aggregates (tokens_in tokens.old.rest.now) ≡ None }
 {
     if aggregates {
         value(alloc, tokens)
@@ -85,10 +88,10 @@ pub(crate) fn test(
     tokens: &mut Cursor<'_>,
     aggregates: bool,
 ) -> Result<Cond, ReadError>
-    ensures found { IfOk result (λ c. reader.test (reader.operand number_cell aggregates)
+    ensures found { IfOk result (λ c. reader.test bounded (reader.operand bounded aggregates)
         (tokens_in tokens.old.rest.now) ≡ Some (cond_tree c, tokens_in tokens.new.rest.now)) }
     ensures none { IsErrOf result ReadError.Syntax →
-        reader.test (reader.operand number_cell aggregates) (tokens_in tokens.old.rest.now) ≡ None }
+        reader.test bounded (reader.operand bounded aggregates) (tokens_in tokens.old.rest.now) ≡ None }
 {
     let of = operand(alloc, tokens, aggregates)?;
     test_behind(alloc, tokens, aggregates, of)
@@ -103,10 +106,10 @@ fn test_behind(
     of: Expr,
 ) -> Result<Cond, ReadError>
     ensures found { IfOk result (λ c.
-        reader.test_behind (reader.operand number_cell aggregates) (expr_tree of)
+        reader.test_behind bounded (reader.operand bounded aggregates) (expr_tree of)
         (tokens_in tokens.old.rest.now) ≡ Some (cond_tree c, tokens_in tokens.new.rest.now)) }
     ensures none { IsErrOf result ReadError.Syntax →
-        reader.test_behind (reader.operand number_cell aggregates) (expr_tree of)
+        reader.test_behind bounded (reader.operand bounded aggregates) (expr_tree of)
         (tokens_in tokens.old.rest.now) ≡ None }
 {
     let Some(op) = comparison(tokens.peek()) else {
@@ -130,10 +133,10 @@ fn range(
     of: Expr,
 ) -> Result<Cond, ReadError>
     ensures found { IfOk result (λ c.
-        reader.range (reader.operand number_cell aggregates) (expr_tree of)
+        reader.range bounded (reader.operand bounded aggregates) (expr_tree of)
         (tokens_in tokens.old.rest.now) ≡ Some (cond_tree c, tokens_in tokens.new.rest.now)) }
     ensures none { IsErrOf result ReadError.Syntax →
-        reader.range (reader.operand number_cell aggregates) (expr_tree of)
+        reader.range bounded (reader.operand bounded aggregates) (expr_tree of)
         (tokens_in tokens.old.rest.now) ≡ None }
 {
     if is_key(tokens.peek(), Keyword::Not) {
@@ -152,11 +155,11 @@ fn plain_range(
     of: Expr,
 ) -> Result<Cond, ReadError>
     ensures found { IfOk result (λ c.
-        reader.range_at (reader.operand number_cell aggregates) (expr_tree of)
+        reader.range_at bounded (reader.operand bounded aggregates) (expr_tree of)
         (first_token (tokens_in tokens.old.rest.now)) (after_first (tokens_in tokens.old.rest.now))
         ≡ Some (cond_tree c, tokens_in tokens.new.rest.now)) }
     ensures none { IsErrOf result ReadError.Syntax →
-        reader.range_at (reader.operand number_cell aggregates) (expr_tree of)
+        reader.range_at bounded (reader.operand bounded aggregates) (expr_tree of)
         (first_token (tokens_in tokens.old.rest.now)) (after_first (tokens_in tokens.old.rest.now))
         ≡ None }
 {
@@ -176,10 +179,10 @@ fn within(
     of: Expr,
 ) -> Result<Cond, ReadError>
     ensures found { IfOk result (λ c.
-        reader.within (reader.operand number_cell aggregates) (expr_tree of)
+        reader.within bounded (reader.operand bounded aggregates) (expr_tree of)
         (tokens_in tokens.old.rest.now) ≡ Some (cond_tree c, tokens_in tokens.new.rest.now)) }
     ensures none { IsErrOf result ReadError.Syntax →
-        reader.within (reader.operand number_cell aggregates) (expr_tree of)
+        reader.within bounded (reader.operand bounded aggregates) (expr_tree of)
         (tokens_in tokens.old.rest.now) ≡ None }
 {
     let low = operand(alloc, tokens, aggregates)?;
@@ -197,10 +200,10 @@ fn listed(
     of: Expr,
 ) -> Result<Cond, ReadError>
     ensures found { IfOk result (λ c.
-        reader.listed (reader.operand number_cell aggregates) (expr_tree of)
+        reader.listed bounded (reader.operand bounded aggregates) (expr_tree of)
         (tokens_in tokens.old.rest.now) ≡ Some (cond_tree c, tokens_in tokens.new.rest.now)) }
     ensures none { IsErrOf result ReadError.Syntax →
-        reader.listed (reader.operand number_cell aggregates) (expr_tree of)
+        reader.listed bounded (reader.operand bounded aggregates) (expr_tree of)
         (tokens_in tokens.old.rest.now) ≡ None }
 {
     tokens.symbol(Symbol::Open)?;
@@ -218,10 +221,10 @@ fn members(
     of: &Expr,
 ) -> Result<Cond, ReadError>
     ensures found { IfOk result (λ c.
-        reader.members (reader.operand number_cell aggregates) (expr_tree of.now)
+        reader.members bounded (reader.operand bounded aggregates) (expr_tree of.now)
         (tokens_in tokens.old.rest.now) ≡ Some (cond_tree c, tokens_in tokens.new.rest.now)) }
     ensures none { IsErrOf result ReadError.Syntax →
-        reader.members (reader.operand number_cell aggregates) (expr_tree of.now)
+        reader.members bounded (reader.operand bounded aggregates) (expr_tree of.now)
         (tokens_in tokens.old.rest.now) ≡ None }
 {
     let first = operand(alloc, tokens, aggregates)?;
@@ -232,10 +235,37 @@ fn members(
         };
         tokens.advance();
         let member = operand(alloc, tokens, aggregates)?;
-        let right = equality(alloc, of, member)?;
-        left = either(alloc, left, right)?;
+        left = or_member(alloc, of, left, member)?;
     }
     Ok(left)
+}
+
+/// The operand is a member of those so far, or it is the next. Where those so far are past the limit of a
+/// condition, the operand isn't copied.
+fn or_member(alloc: Global, of: &Expr, so_far: Cond, member: Expr) -> Result<Cond, Memory>
+    ensures { IfOk result (λ c. cond_tree c ≡ bounded_join Either (cond_tree so_far)
+        (Compare compare.Eq (expr_tree of.now) (expr_tree member))) }
+{
+    if is_large_cond(&so_far) {
+        let so_far = with_arithmetic(alloc, has_arithmetic(of, &member), so_far)?;
+        return with_unread_test(alloc, has_nil(of, &member), so_far);
+    }
+    let next = equality(alloc, of, member)?;
+    either(alloc, so_far, next)
+}
+
+/// Whether that the operand is the member would have arithmetic over columns.
+fn has_arithmetic(of: &Expr, member: &Expr) -> bool
+    ensures { result ≡ has_column_arithmetic (Compare compare.Eq (expr_tree of.now) (expr_tree member.now)) }
+{
+    is_column_arithmetic(of) || is_column_arithmetic(member)
+}
+
+/// Whether it would have a literal that could not be read.
+fn has_nil(of: &Expr, member: &Expr) -> bool
+    ensures { result ≡ cond_has_unread (Compare compare.Eq (expr_tree of.now) (expr_tree member.now)) }
+{
+    has_unread(of) || has_unread(member)
 }
 
 /// The operand is the member.

@@ -2,13 +2,15 @@ ghost use Rattle.std.specs.Prelude.{◌≡◌, Some, None, IfOk, IsErrOf};
 ghost use Rattle.sql_grammar.specs.Reads.{tokens_in};
 ghost use Rattle.sql_tree.specs.Tree.{cond_tree};
 ghost use Rattle.sql_tree.specs.Tree.CondTree.{Negation, Both, Either};
-ghost use Rattle.sql_reader.specs.Derived.{number_cell};
+ghost use Rattle.sql_reader.specs.Bounded.{bounded, bounded_join};
 ghost use Rattle.sql_reader.specs.CondReader as reader;
 
 use crate::cond_tests::test;
 use crate::cursor::{Cursor, and, is_key, or};
 use crate::reading::ReadError;
+use crate::signs::with_cond_signs;
 use cell_core::Memory;
+use sql_refusals::is_large_cond;
 use sql_tree::{Cond, Keyword, Symbol};
 use std::alloc::Global;
 
@@ -19,10 +21,10 @@ pub fn whole_cond(
     tokens: &mut Cursor<'_>,
     aggregates: bool,
 ) -> Result<Cond, ReadError>
-    ensures found { IfOk result (λ c. reader.whole_cond (reader.operand number_cell aggregates)
+    ensures found { IfOk result (λ c. reader.whole_cond bounded (reader.operand bounded aggregates)
         (tokens_in tokens.old.rest.now) ≡ Some (cond_tree c, tokens_in tokens.new.rest.now)) }
     ensures none { IsErrOf result ReadError.Syntax →
-        reader.whole_cond (reader.operand number_cell aggregates) (tokens_in tokens.old.rest.now)
+        reader.whole_cond bounded (reader.operand bounded aggregates) (tokens_in tokens.old.rest.now)
         ≡ None }
 {
     let levels = tokens.len();
@@ -40,10 +42,10 @@ pub(crate) fn cond(
     depth: usize,
 ) -> Result<Cond, ReadError>
     ensures found { IfOk result (λ c.
-        reader.condition (reader.unit (reader.operand number_cell aggregates) depth)
+        reader.condition bounded (reader.unit bounded (reader.operand bounded aggregates) depth)
         (tokens_in tokens.old.rest.now) ≡ Some (cond_tree c, tokens_in tokens.new.rest.now)) }
     ensures none { IsErrOf result ReadError.Syntax →
-        reader.condition (reader.unit (reader.operand number_cell aggregates) depth)
+        reader.condition bounded (reader.unit bounded (reader.operand bounded aggregates) depth)
         (tokens_in tokens.old.rest.now) ≡ None }
 {
     let mut left = conj(alloc, tokens, aggregates, depth)?;
@@ -68,10 +70,10 @@ fn conj(
     depth: usize,
 ) -> Result<Cond, ReadError>
     ensures found { IfOk result (λ c.
-        reader.conjunction (reader.unit (reader.operand number_cell aggregates) depth)
+        reader.conjunction bounded (reader.unit bounded (reader.operand bounded aggregates) depth)
         (tokens_in tokens.old.rest.now) ≡ Some (cond_tree c, tokens_in tokens.new.rest.now)) }
     ensures none { IsErrOf result ReadError.Syntax →
-        reader.conjunction (reader.unit (reader.operand number_cell aggregates) depth)
+        reader.conjunction bounded (reader.unit bounded (reader.operand bounded aggregates) depth)
         (tokens_in tokens.old.rest.now) ≡ None }
 {
     let mut left = unit(alloc, tokens, aggregates, depth)?;
@@ -96,10 +98,10 @@ fn unit(
     depth: usize,
 ) -> Result<Cond, ReadError>
     ensures found { IfOk result (λ c.
-        reader.unit (reader.operand number_cell aggregates) depth
+        reader.unit bounded (reader.operand bounded aggregates) depth
         (tokens_in tokens.old.rest.now) ≡ Some (cond_tree c, tokens_in tokens.new.rest.now)) }
     ensures none { IsErrOf result ReadError.Syntax →
-        reader.unit (reader.operand number_cell aggregates) depth
+        reader.unit bounded (reader.operand bounded aggregates) depth
         (tokens_in tokens.old.rest.now) ≡ None }
 {
     if depth == 0 {
@@ -118,12 +120,12 @@ fn inner_unit(
     depth: usize,
 ) -> Result<Cond, ReadError>
     ensures found { IfOk result (λ c.
-        reader.unit_of (reader.operand number_cell aggregates)
-        (reader.unit (reader.operand number_cell aggregates) depth)
+        reader.unit_of bounded (reader.operand bounded aggregates)
+        (reader.unit bounded (reader.operand bounded aggregates) depth)
         (tokens_in tokens.old.rest.now) ≡ Some (cond_tree c, tokens_in tokens.new.rest.now)) }
     ensures none { IsErrOf result ReadError.Syntax →
-        reader.unit_of (reader.operand number_cell aggregates)
-        (reader.unit (reader.operand number_cell aggregates) depth)
+        reader.unit_of bounded (reader.operand bounded aggregates)
+        (reader.unit bounded (reader.operand bounded aggregates) depth)
         (tokens_in tokens.old.rest.now) ≡ None }
 {
     if is_key(tokens.peek(), Keyword::Not) {
@@ -151,10 +153,10 @@ fn enclosed(
     depth: usize,
 ) -> Result<Cond, ReadError>
     ensures found { IfOk result (λ c.
-        reader.enclosed (reader.unit (reader.operand number_cell aggregates) depth)
+        reader.enclosed bounded (reader.unit bounded (reader.operand bounded aggregates) depth)
         (tokens_in tokens.old.rest.now) ≡ Some (cond_tree c, tokens_in tokens.new.rest.now)) }
     ensures none { IsErrOf result ReadError.Syntax →
-        reader.enclosed (reader.unit (reader.operand number_cell aggregates) depth)
+        reader.enclosed bounded (reader.unit bounded (reader.operand bounded aggregates) depth)
         (tokens_in tokens.old.rest.now) ≡ None }
 {
     tokens.symbol(Symbol::Open)?;
@@ -170,15 +172,29 @@ pub(crate) fn negation(alloc: Global, of: Cond) -> Result<Cond, Memory>
     Ok(Cond::Not(Box::new(alloc, of)?))
 }
 
-fn both(alloc: Global, left: Cond, right: Cond) -> Result<Cond, Memory>
-    ensures { IfOk result (λ c. cond_tree c ≡ Both (cond_tree left) (cond_tree right)) }
+/// Two conditions joined by AND. Where one of them has more than 128 nodes, that one stands for both, with
+/// signs of the other.
+pub fn both(alloc: Global, left: Cond, right: Cond) -> Result<Cond, Memory>
+    ensures { IfOk result (λ c. cond_tree c ≡ bounded_join Both (cond_tree left) (cond_tree right)) }
 {
+    if is_large_cond(&left) {
+        return with_cond_signs(alloc, &right, left);
+    }
+    if is_large_cond(&right) {
+        return with_cond_signs(alloc, &left, right);
+    }
     Ok(Cond::And(Box::new(alloc, left)?, Box::new(alloc, right)?))
 }
 
-/// One of two conditions.
+/// Two conditions joined by OR, as `both` joins them by AND.
 pub(crate) fn either(alloc: Global, left: Cond, right: Cond) -> Result<Cond, Memory>
-    ensures { IfOk result (λ c. cond_tree c ≡ Either (cond_tree left) (cond_tree right)) }
+    ensures { IfOk result (λ c. cond_tree c ≡ bounded_join Either (cond_tree left) (cond_tree right)) }
 {
+    if is_large_cond(&left) {
+        return with_cond_signs(alloc, &right, left);
+    }
+    if is_large_cond(&right) {
+        return with_cond_signs(alloc, &left, right);
+    }
     Ok(Cond::Or(Box::new(alloc, left)?, Box::new(alloc, right)?))
 }

@@ -1,15 +1,16 @@
 ghost use Rattle.std.specs.Prelude.{◌≡◌, Some, None, option_copied, IfOk, IsErrOf};
 ghost use Rattle.sql_grammar.specs.Reads.{tokens_in};
 ghost use Rattle.sql_tree.specs.Tree.{expr_tree};
-ghost use Rattle.sql_tree.specs.Tree.ExprTree.{Operator};
 ghost use Rattle.sql_reader.specs.Chain.{first_token, after_first};
-ghost use Rattle.sql_reader.specs.Derived.{number_cell};
+ghost use Rattle.sql_reader.specs.Bounded.{bounded, bounded_operator};
 ghost use Rattle.sql_reader.specs.Reader as reader;
 
 use crate::cursor::{Cursor, digits, is_dot, name, sign, star, text};
 use crate::number::{negative_number, plain_number};
 use crate::reading::ReadError;
+use crate::signs::with_signs;
 use cell_core::{Cell, Memory, Word, read_day};
+use sql_refusals::is_large_expr;
 use sql_tree::{ArithOp, ColRef, Expr, Keyword, Symbol, Token};
 use std::alloc::Global;
 
@@ -17,10 +18,10 @@ use std::alloc::Global;
 #[cycle(expr)]
 #[tactic(auto, unfolding(crate::specs::Reader::expr))]
 pub(crate) fn expr(alloc: Global, tokens: &mut Cursor<'_>, depth: usize) -> Result<Expr, ReadError>
-    ensures found { IfOk result (λ e. reader.expr (reader.factor number_cell depth)
+    ensures found { IfOk result (λ e. reader.expr bounded (reader.factor bounded depth)
         (tokens_in tokens.old.rest.now) ≡ Some (expr_tree e, tokens_in tokens.new.rest.now)) }
     ensures none { IsErrOf result ReadError.Syntax →
-        reader.expr (reader.factor number_cell depth) (tokens_in tokens.old.rest.now) ≡ None }
+        reader.expr bounded (reader.factor bounded depth) (tokens_in tokens.old.rest.now) ≡ None }
 {
     let mut left = term(alloc, tokens, depth)?;
     'terms: for turn in 0..tokens.len() {
@@ -38,10 +39,10 @@ pub(crate) fn expr(alloc: Global, tokens: &mut Cursor<'_>, depth: usize) -> Resu
 #[cycle(expr)]
 #[tactic(auto, unfolding(crate::specs::Reader::term))]
 fn term(alloc: Global, tokens: &mut Cursor<'_>, depth: usize) -> Result<Expr, ReadError>
-    ensures found { IfOk result (λ e. reader.term (reader.factor number_cell depth)
+    ensures found { IfOk result (λ e. reader.term bounded (reader.factor bounded depth)
         (tokens_in tokens.old.rest.now) ≡ Some (expr_tree e, tokens_in tokens.new.rest.now)) }
     ensures none { IsErrOf result ReadError.Syntax →
-        reader.term (reader.factor number_cell depth) (tokens_in tokens.old.rest.now) ≡ None }
+        reader.term bounded (reader.factor bounded depth) (tokens_in tokens.old.rest.now) ≡ None }
 {
     let mut left = factor(alloc, tokens, depth)?;
     'factors: for turn in 0..tokens.len() {
@@ -59,10 +60,10 @@ fn term(alloc: Global, tokens: &mut Cursor<'_>, depth: usize) -> Result<Expr, Re
 #[cycle(expr)]
 #[tactic(auto, using(crate::proofs::ExprLaws::factor_none, crate::proofs::ExprLaws::factor_inner))]
 fn factor(alloc: Global, tokens: &mut Cursor<'_>, depth: usize) -> Result<Expr, ReadError>
-    ensures found { IfOk result (λ e. reader.factor number_cell depth
+    ensures found { IfOk result (λ e. reader.factor bounded depth
         (tokens_in tokens.old.rest.now) ≡ Some (expr_tree e, tokens_in tokens.new.rest.now)) }
     ensures none { IsErrOf result ReadError.Syntax →
-        reader.factor number_cell depth (tokens_in tokens.old.rest.now) ≡ None }
+        reader.factor bounded depth (tokens_in tokens.old.rest.now) ≡ None }
 {
     if depth == 0 {
         return Err(ReadError::Syntax);
@@ -74,11 +75,11 @@ fn factor(alloc: Global, tokens: &mut Cursor<'_>, depth: usize) -> Result<Expr, 
 /// or an expression in parentheses.
 #[cycle(expr)]
 fn inner_factor(alloc: Global, tokens: &mut Cursor<'_>, depth: usize) -> Result<Expr, ReadError>
-    ensures found { IfOk result (λ e. reader.factor_at number_cell (reader.factor number_cell depth)
+    ensures found { IfOk result (λ e. reader.factor_at bounded (reader.factor bounded depth)
         (first_token (tokens_in tokens.old.rest.now)) (after_first (tokens_in tokens.old.rest.now))
         ≡ Some (expr_tree e, tokens_in tokens.new.rest.now)) }
     ensures none { IsErrOf result ReadError.Syntax →
-        reader.factor_at number_cell (reader.factor number_cell depth)
+        reader.factor_at bounded (reader.factor bounded depth)
         (first_token (tokens_in tokens.old.rest.now)) (after_first (tokens_in tokens.old.rest.now))
         ≡ None }
 {
@@ -102,10 +103,10 @@ fn inner_factor(alloc: Global, tokens: &mut Cursor<'_>, depth: usize) -> Result<
 #[cycle(expr)]
 #[tactic(auto, unfolding(crate::specs::Reader::negative))]
 fn negative(alloc: Global, tokens: &mut Cursor<'_>, depth: usize) -> Result<Expr, ReadError>
-    ensures found { IfOk result (λ e. reader.negative number_cell (reader.factor number_cell depth)
+    ensures found { IfOk result (λ e. reader.negative bounded (reader.factor bounded depth)
         (tokens_in tokens.old.rest.now) ≡ Some (expr_tree e, tokens_in tokens.new.rest.now)) }
     ensures none { IsErrOf result ReadError.Syntax →
-        reader.negative number_cell (reader.factor number_cell depth)
+        reader.negative bounded (reader.factor bounded depth)
         (tokens_in tokens.old.rest.now) ≡ None }
 {
     if let Some(digits) = digits(tokens.peek()) {
@@ -117,10 +118,17 @@ fn negative(alloc: Global, tokens: &mut Cursor<'_>, depth: usize) -> Result<Expr
     Ok(operator(alloc, ArithOp::Minus, Expr::Lit(Cell::Int(0)), operand)?)
 }
 
-/// An operator of two operands.
+/// An operator of two operands. Where one of them has more than 64 nodes, that one stands for both, with
+/// signs of the other.
 fn operator(alloc: Global, op: ArithOp, left: Expr, right: Expr) -> Result<Expr, Memory>
-    ensures { IfOk result (λ e. expr_tree e ≡ Operator op (expr_tree left) (expr_tree right)) }
+    ensures { IfOk result (λ e. expr_tree e ≡ bounded_operator op (expr_tree left) (expr_tree right)) }
 {
+    if is_large_expr(&left) {
+        return with_signs(alloc, &right, left);
+    }
+    if is_large_expr(&right) {
+        return with_signs(alloc, &left, right);
+    }
     Ok(Expr::Arith {
         op,
         left: Box::new(alloc, left)?,

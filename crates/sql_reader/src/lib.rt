@@ -1,10 +1,17 @@
 //! The reader of SQL's expressions and conditions: which tree tokens derive.
 //!
-//! It stands on `sql_tree` and on the grammar of `sql_grammar`. The definitions in `specs/Derived` are
-//! what a reader has to believe: that tokens derive an expression or a condition is that the grammar's
-//! rules write them, and a number of more than 64 bits stands as Nil, which no literal gives. It
-//! promises that `read_expr`, `read_cond` and `read_having` give the tree of the tokens exactly where
-//! they derive one, and that no tokens derive two (`one_expr`, `one_cond`).
+//! It stands on `sql_tree`, on the grammar of `sql_grammar` and on the tests of `sql_refusals`. The
+//! definitions in `specs/Derived` are what a reader has to believe: that tokens derive an expression or a
+//! condition is that the grammar's rules write them. It promises that `read_expr`, `read_cond` and
+//! `read_having` give the tree of the tokens exactly where they derive one, as far as it is kept, and that
+//! no tokens derive two (`one_expr`, `one_cond`).
+//!
+//! What is kept stands in `specs/Bounded`. A number of more than 64 bits stands as Nil, which no literal
+//! gives. An expression of 64 nodes and a condition of 128 are kept as they are written. Past these limits
+//! the readers go on to recognise, but the tree grows no further than by a sign of each thing that is
+//! asked of a statement later, where what is left out has it and what is kept hasn't: a column, a Nil,
+//! arithmetic over columns. So a text of any length makes a small tree, which is still refused for the
+//! reasons that the whole would be.
 //!
 //! `Cursor` and the readers at a cursor serve the crate of statements: their contracts speak of the
 //! readers on plain lists in `specs/`.
@@ -17,11 +24,12 @@ mod expressions;
 mod laws;
 mod number;
 mod reading;
+mod signs;
 #[cfg(test)]
 mod tests;
 
 pub use cond_tests::{value, whole_expr};
-pub use conditions::whole_cond;
+pub use conditions::{both, whole_cond};
 pub use cursor::{Cursor, comma, digits, is_key, is_symbol, name, text};
 pub use expressions::{column, day};
 pub use laws::{one_cond, one_expr};

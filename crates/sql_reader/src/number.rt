@@ -1,7 +1,7 @@
 ghost use Rattle.std.specs.Prelude.{◌≡◌, ◌+◌, ◌*◌, ◌^◌, ◌<◌, ◌≤◌, pos, if◌then◌else◌, MatchOption, IfSome, IfNone};
 ghost use Rattle.std.specs.Char.{digit_value};
 ghost use Rattle.sql_grammar.specs.Grammar.{number_of, negative_of};
-ghost use Rattle.sql_reader.specs.Derived.{number_cell};
+ghost use Rattle.sql_reader.specs.Bounded.{number_cell};
 ghost use Rattle.sql_reader.specs.Reader.{signed_cell};
 
 use cell_core::Cell;

@@ -1,8 +1,9 @@
 ghost use Rattle.std.specs.Prelude.{◌≡◌, ℤ, [], Some, true, false, IfOk, IsErrOf};
 ghost use Rattle.sql_grammar.specs.Reads.{tokens_in};
 ghost use Rattle.sql_tree.specs.Tree.{ExprTree, CondTree, expr_tree, cond_tree};
+ghost use Rattle.sql_reader.specs.Bounded.{bounded};
 ghost use Rattle.sql_reader.specs.CondReader as reader;
-ghost use Rattle.sql_reader.specs.Derived.{IsExpr, IsReadExpr, IsCond, IsHaving, IsReadCond, number_cell};
+ghost use Rattle.sql_reader.specs.Derived.{IsExpr, IsReadExpr, IsCond, IsHaving, IsReadCond};
 
 use crate::conditions::whole_cond;
 use crate::cursor::Cursor;
@@ -42,8 +43,10 @@ impl<T: Drop> From<AllocFailed<T>> for ReadError {
 
 /// The expression that the tokens are, all of them.
 ///
-/// A number outside the signed 64-bit range stands as Nil, which no literal gives: the limit of
-/// literals is a step of its own.
+/// A number outside the signed 64-bit range stands as Nil, which no literal gives. An expression of up to
+/// 64 nodes stands as it is written; a larger one stands cut off a little past that limit, with a column
+/// and a Nil where what is left out has one and the rest hasn't. The limits of literals and expressions
+/// are steps of their own.
 pub fn read_expr(alloc: Global, tokens: &[Placed]) -> Result<Expr, ReadError>
     ensures expr { IfOk result (λ e. IsReadExpr (tokens_in tokens.now) (expr_tree e)) }
     ensures none { IsErrOf result ReadError.Syntax →
@@ -58,7 +61,9 @@ pub fn read_expr(alloc: Global, tokens: &[Placed]) -> Result<Expr, ReadError>
 
 /// The condition of WHERE or ON that the tokens are, all of them.
 ///
-/// Its numbers stand as those of `read_expr` do.
+/// Its expressions stand as those of `read_expr` do. A condition of up to 128 nodes stands as it is
+/// written; a larger one stands cut off a little past that limit, with arithmetic over columns and a Nil
+/// where what is left out has them and the rest hasn't. The limit of conditions is a step of its own.
 pub fn read_cond(alloc: Global, tokens: &[Placed]) -> Result<Cond, ReadError>
     ensures cond { IfOk result (λ c. IsReadCond (IsCond (tokens_in tokens.now)) (cond_tree c)) }
     ensures none { IsErrOf result ReadError.Syntax →
@@ -69,7 +74,7 @@ pub fn read_cond(alloc: Global, tokens: &[Placed]) -> Result<Cond, ReadError>
 
 /// The condition of HAVING that the tokens are, all of them: its operands may be aggregates.
 ///
-/// Its numbers stand as those of `read_expr` do.
+/// It is cut off as that of `read_cond` is.
 pub fn read_having(alloc: Global, tokens: &[Placed]) -> Result<Cond, ReadError>
     ensures cond { IfOk result (λ c. IsReadCond (IsHaving (tokens_in tokens.now)) (cond_tree c)) }
     ensures none { IsErrOf result ReadError.Syntax →
@@ -80,10 +85,10 @@ pub fn read_having(alloc: Global, tokens: &[Placed]) -> Result<Cond, ReadError>
 
 /// The condition that the tokens are, all of them.
 fn all_cond(alloc: Global, tokens: &[Placed], aggregates: bool) -> Result<Cond, ReadError>
-    ensures found { IfOk result (λ c. reader.whole_cond (reader.operand number_cell aggregates)
+    ensures found { IfOk result (λ c. reader.whole_cond bounded (reader.operand bounded aggregates)
         (tokens_in tokens.now) ≡ Some (cond_tree c, [])) }
     ensures none { IsErrOf result ReadError.Syntax →
-        (c : CondTree) → reader.whole_cond (reader.operand number_cell aggregates)
+        (c : CondTree) → reader.whole_cond bounded (reader.operand bounded aggregates)
         (tokens_in tokens.now) ≡ Some (c, []) → ⊥ }
 {
     let mut rest = Cursor::new(tokens);

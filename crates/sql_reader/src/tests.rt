@@ -1,5 +1,6 @@
 use crate::{ReadError, one_cond, one_expr, read_cond, read_expr, read_having};
 use cell_core::{Cell, Memory, word_of};
+use sql_refusals::{has_column, is_large_cond, is_large_expr};
 use sql_tree::{CmpOp, Cond, Expr, Keyword, Placed, Symbol, Token};
 use std::alloc::Global;
 use std::test::Fail;
@@ -123,4 +124,62 @@ fn aggregates_are_read_in_having_alone(rt: HostRuntime) -> Result<(), Fail> {
 #[test]
 fn conditions_are_one() {
     one_cond();
+}
+
+/// `1 + 1 + .. + a`, with so many ones.
+fn sum(alloc: Global, ones: usize) -> Result<Vec<Placed>, Memory> {
+    let mut tokens = Vec::new(alloc);
+    for _ in 0..ones {
+        push(&mut tokens, Token::Digits(word_of(alloc, "1")?))?;
+        push(&mut tokens, Token::Symbol(Symbol::Plus))?;
+    }
+    push(&mut tokens, Token::Name(word_of(alloc, "a")?))?;
+    Ok(tokens)
+}
+
+/// `a IN ( 1, 1, .., 1 )`, with so many ones and one more.
+fn listed(alloc: Global, ones: usize) -> Result<Vec<Placed>, Memory> {
+    let mut tokens = Vec::new(alloc);
+    push(&mut tokens, Token::Name(word_of(alloc, "a")?))?;
+    push(&mut tokens, Token::Key(Keyword::In))?;
+    push(&mut tokens, Token::Symbol(Symbol::Open))?;
+    for _ in 0..ones {
+        push(&mut tokens, Token::Digits(word_of(alloc, "1")?))?;
+        push(&mut tokens, Token::Symbol(Symbol::Comma))?;
+    }
+    push(&mut tokens, Token::Digits(word_of(alloc, "1")?))?;
+    push(&mut tokens, Token::Symbol(Symbol::Close))?;
+    Ok(tokens)
+}
+
+/// The literals, columns and operators of an expression.
+fn nodes(expr: &Expr) -> usize {
+    match expr {
+        Expr::Arith { left, right, .. } => {
+            nodes(left).wrapping_add(nodes(right)).wrapping_add(1)
+        }
+        _ => 1,
+    }
+}
+
+/// The tests of a condition.
+fn tests(cond: &Cond) -> usize {
+    match cond {
+        Cond::And(left, right) | Cond::Or(left, right) => tests(left).wrapping_add(tests(right)),
+        Cond::Not(of) => tests(of),
+        _ => 1,
+    }
+}
+
+#[test]
+fn long_texts_make_small_trees(rt: HostRuntime) -> Result<(), Fail> {
+    let alloc = rt.alloc();
+    let sum = read_expr(alloc, &sum(alloc, 5000)?)?;
+    assert!(rt; is_large_expr(&sum));
+    assert!(rt; nodes(&sum) < 200);
+    assert!(rt; has_column(&sum));
+    let listed = read_cond(alloc, &listed(alloc, 5000)?)?;
+    assert!(rt; is_large_cond(&listed));
+    assert!(rt; tests(&listed) < 200);
+    Ok(())
 }

@@ -4,6 +4,7 @@ ghost use Rattle.std.specs.List.{list_any};
 ghost use Rattle.std.specs.Option.{option_copied, option_map};
 ghost use Rattle.sql_grammar.specs.Refused.{cond_exprs, exprs_of_cond, stmt_exprs};
 ghost use Rattle.sql_refusals.specs.Searches.{is_sought};
+ghost use Rattle.sql_refusals.specs.Unread.{has_literal, is_unread_cell};
 ghost use Rattle.sql_tree.specs.Tree.{cond_tree, expr_tree, item_tree, query_tree, set_tree, stmt_tree};
 ghost use Rattle.sql_tree.specs.Tree.StmtTree.{Select};
 
@@ -76,6 +77,13 @@ fn any_of_cond(sought: Sought, cond: Option<&Cond>) -> bool
         None => false,
         Some(cond) => any_in_cond(sought, cond),
     }
+}
+
+/// Whether a literal of the condition could not be read: a Nil, as `has_unread` tells of an expression.
+pub fn cond_has_unread(cond: &Cond) -> bool
+    ensures { result ≡ list_any (has_literal is_unread_cell) (cond_exprs (cond_tree cond.now)) }
+{
+    any_in_cond(Sought::Unread, cond)
 }
 
 fn any_in_cond(sought: Sought, cond: &Cond) -> bool

@@ -6,6 +6,9 @@
 //! than 64 bits, which no literal gives, so Nil passes the limit of literals (`specs/Unread`);
 //! `limits_as_read` is the law that the limits of a statement are then those of what was read. Memory
 //! running out is the only answer that may come instead.
+//!
+//! The tests of one expression or condition (`is_large_expr`, `has_column` and those beside them) are
+//! public, since a reader asks them of what it builds.
 #![tactic(auto)]
 
 mod around;
@@ -19,7 +22,10 @@ mod rules;
 #[cfg(test)]
 mod tests;
 
+pub use exprs::cond_has_unread;
 pub use laws::limits_as_read;
 pub use limits::{first_limit, statement_bytes};
-pub use profile::left_out;
+pub use nodes::{is_large_cond, is_large_expr};
+pub use numbers::has_unread;
+pub use profile::{has_column, has_column_arithmetic, is_column_arithmetic, left_out};
 pub use rules::first_rule;

@@ -7,7 +7,7 @@ ghost use Rattle.sql_refusals.specs.Unread.{read_limits, passes_literal_as_read}
 ghost use Rattle.sql_tree.specs.Tree.{stmt_tree};
 
 use crate::exprs::{Sought, any_expr};
-use crate::nodes::is_large_cond;
+use crate::nodes::any_large_cond;
 use crate::numbers::{any_unread_row, has_wide};
 use cell_core::{Column, Memory, Word, word_of};
 use sql_tree::{Placed, Query, Stmt, Token};
@@ -216,9 +216,9 @@ fn has_large_cond(stmt: &Stmt) -> bool
 {
     match stmt {
         Stmt::Query(query) | Stmt::Explain(query) => {
-            is_large_cond(query.cond.as_ref()) || is_large_cond(query.having.as_ref())
+            any_large_cond(query.cond.as_ref()) || any_large_cond(query.having.as_ref())
         }
-        Stmt::Delete { cond, .. } | Stmt::Update { cond, .. } => is_large_cond(cond.as_ref()),
+        Stmt::Delete { cond, .. } | Stmt::Update { cond, .. } => any_large_cond(cond.as_ref()),
         _ => false,
     }
 }

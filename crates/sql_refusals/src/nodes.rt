@@ -13,7 +13,7 @@ const MOST_OF_EXPR: u32 = 64;
 const MOST_OF_COND: u32 = 128;
 
 /// Whether an expression has more than 64 nodes.
-pub(crate) fn is_large_expr(expr: &Expr) -> bool
+pub fn is_large_expr(expr: &Expr) -> bool
     ensures { result ≡ nat_lt 64 (expr_nodes (expr_tree expr.now)) }
 {
     match room_after_expr(expr, MOST_OF_EXPR) {
@@ -22,17 +22,18 @@ pub(crate) fn is_large_expr(expr: &Expr) -> bool
     }
 }
 
-/// Whether a condition has more than 128 nodes.
-pub(crate) fn is_large_cond(cond: Option<&Cond>) -> bool
+/// Whether there is a condition that has more than 128 nodes.
+pub(crate) fn any_large_cond(cond: Option<&Cond>) -> bool
     ensures { result ≡ nat_lt 128 (nodes_of_cond (option_map cond_tree (option_copied cond.entry))) }
 {
     match cond {
         None => false,
-        Some(cond) => is_large(cond),
+        Some(cond) => is_large_cond(cond),
     }
 }
 
-fn is_large(cond: &Cond) -> bool
+/// Whether a condition has more than 128 nodes.
+pub fn is_large_cond(cond: &Cond) -> bool
     ensures { result ≡ nat_lt 128 (cond_nodes (cond_tree cond.now)) }
 {
     match room_after_cond(cond, MOST_OF_COND) {

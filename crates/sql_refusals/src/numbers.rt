@@ -27,8 +27,9 @@ fn in_range(number: i64) -> bool
     true
 }
 
-/// Whether a literal of the expression could not be read.
-pub(crate) fn has_unread(expr: &Expr) -> bool
+/// Whether a literal of the expression could not be read: a Nil, which stands for a number of more than
+/// 64 bits.
+pub fn has_unread(expr: &Expr) -> bool
     ensures { result ≡ has_literal is_unread_cell (expr_tree expr.now) }
 {
     match expr {

@@ -50,7 +50,8 @@ fn cond_left_out(cond: Option<&Cond>) -> bool
     }
 }
 
-fn has_column_arithmetic(cond: &Cond) -> bool
+/// Whether a side of a test in the condition is arithmetic over columns.
+pub fn has_column_arithmetic(cond: &Cond) -> bool
     ensures { result ≡ refused.has_column_arithmetic (cond_tree cond.now) }
 {
     match cond {
@@ -67,7 +68,7 @@ fn has_column_arithmetic(cond: &Cond) -> bool
 }
 
 /// Whether it is an operator with a column below it, outside aggregates.
-fn is_column_arithmetic(expr: &Expr) -> bool
+pub fn is_column_arithmetic(expr: &Expr) -> bool
     ensures { result ≡ refused.is_column_arithmetic (expr_tree expr.now) }
 {
     match expr {
@@ -76,7 +77,8 @@ fn is_column_arithmetic(expr: &Expr) -> bool
     }
 }
 
-fn has_column(expr: &Expr) -> bool
+/// Whether the expression has a column, outside aggregates.
+pub fn has_column(expr: &Expr) -> bool
     ensures { result ≡ refused.has_column (expr_tree expr.now) }
 {
     match expr {

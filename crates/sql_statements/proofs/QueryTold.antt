@@ -1,7 +1,6 @@
 -- What a derivation of a query writes is read as what it stands for, and so for every statement.
-use Rattle.std.proofs.Common.{◌≡◌, ℕ, zero, suc, ◌<◌, ◌≤◌, List, [], ◌∷◌, ◌++◌, length, map, Bool, true, false, Option, Some, None, ℤ, refl, ap, sym, ◌∙◌, arith, append_assoc, append-nil}
+use Rattle.std.proofs.Common.{◌≡◌, ℕ, zero, suc, ◌<◌, ◌≤◌, List, [], ◌∷◌, ◌++◌, length, map, Bool, true, false, Option, Some, None, refl, ap, sym, ◌∙◌, arith, append_assoc, append-nil}
 use Rattle.std.specs.Option.{option_map}
-use Rattle.cell_core.specs.declared.cell.Cell.{Cell}
 use Rattle.sql_grammar.specs.Grammar.{write_some, write_behind, any_of, NameRule, number_of, ColumnRule, write_column, column_of, aggregate_word, ValueRule, write_value, value_of, write_cond, cond_of, WhereRule, write_where, where_of, HavingRule}
 use Rattle.sql_grammar.specs.Grammar.NameRule.{BareName, QuotedName}
 use Rattle.sql_grammar.specs.Grammar.ColumnRule.{PlainColumn, TableColumn}
@@ -13,6 +12,7 @@ use Rattle.sql_grammar.specs.Statements.JoinRule.{CommaSource, JoinOn}
 use Rattle.sql_grammar.specs.Statements.PlaceRule.{PositionKey, ColumnKey}
 use Rattle.sql_grammar.specs.Statements.OrderRule.{NoOrder, AscOrder, DescOrder}
 use Rattle.sql_grammar.specs.Statements.StmtRule.{CreateRule, DropRule, InsertRule, DeleteRule, UpdateRule, SelectRule, ExplainRule}
+use Rattle.sql_reader.specs.Bounded.{Builder, as_written}
 use Rattle.sql_reader.specs.Chain.{first_token, after_first}
 use Rattle.sql_reader.specs.CondReader.{value}
 use Rattle.sql_reader.specs.Derived.{cond_with}
@@ -109,55 +109,55 @@ joint_told (CommaSource s) rest = refl
 joint_told (JoinOn true s on) rest = refl
 joint_told (JoinOn false s on) rest = refl
 
-module _ (number : ℤ → Cell) where
+module _ (build : Builder) where
   join_longer : (d : JoinRule) (rest : List Token) → length rest < length (write_join d rest)
   join_longer (CommaSource s) rest = let a = source_longer s rest in omega (arith, a)
   join_longer (JoinOn true s on) rest =
-      let a = where_longer number on rest in
+      let a = where_longer build on rest in
       let b = source_longer s (Key word.On ∷ write_where on rest) in
       omega (arith, a, b)
   join_longer (JoinOn false s on) rest =
-      let a = where_longer number on rest in
+      let a = where_longer build on rest in
       let b = source_longer s (Key word.On ∷ write_where on rest) in
       omega (arith, a, b)
 
-  source_on_told : (s : NameRule × AliasRule) (on : WhereRule) (rest : List Token) → IsEnd rest → source_on number (write_source s (Key word.On ∷ write_where on rest)) ≡ Some ((source_of s, Some (cond_with number (where_of on))), rest)
+  source_on_told : (s : NameRule × AliasRule) (on : WhereRule) (rest : List Token) → IsEnd rest → source_on build (write_source s (Key word.On ∷ write_where on rest)) ≡ Some ((source_of s, Some (cond_with build (where_of on))), rest)
   unfolding source_on is_key
   source_on_told s on rest h =
       then_told _ _ _ _ (source_told s (Key word.On ∷ write_where on rest) refl)
-      (then_told _ _ _ _ (where_told number on rest h) refl)
+      (then_told _ _ _ _ (where_told build on rest h) refl)
 
-  joined_told : (d : JoinRule) (rest : List Token) → IsEnd rest → joined number (joint_of d) (after_first (write_join d rest)) ≡ Some ((joined_source d, option_map (cond_with number) (on_of d)), rest)
+  joined_told : (d : JoinRule) (rest : List Token) → IsEnd rest → joined build (joint_of d) (after_first (write_join d rest)) ≡ Some ((joined_source d, option_map (cond_with build) (on_of d)), rest)
   unfolding joined is_key
   joined_told (CommaSource s) rest h = then_told _ _ _ _ (source_told s rest h) refl
   joined_told (JoinOn true s on) rest h = source_on_told s on rest h
   joined_told (JoinOn false s on) rest h = source_on_told s on rest h
 
-  joins_told : (ds : List JoinRule) (n : ℕ) (froms : List FromItem) (on : Option CondTree) (rest : List Token) → length (write_joins ds rest) ≤ n → IsPast 0 rest → joins number n (froms, option_map (cond_with number) on) (write_joins ds rest) ≡ Some ((froms ++ map joined_source ds, option_map (cond_with number) (on_conds on ds)), rest)
+  joins_told : (ds : List JoinRule) (n : ℕ) (froms : List FromItem) (on : Option CondTree) (rest : List Token) → length (write_joins ds rest) ≤ n → IsPast 0 rest → joins build n (froms, option_map (cond_with build) on) (write_joins ds rest) ≡ Some ((froms ++ map joined_source ds, option_map (cond_with build) (on_conds on ds)), rest)
   joins_told [] n froms on rest h past =
-      joins_end number n (froms, option_map (cond_with number) on) rest (past_no_joint (first_token rest) past)
+      joins_end build n (froms, option_map (cond_with build) on) rest (past_no_joint (first_token rest) past)
       ∙ same_found _ _ rest (same_pair _ _ _ _ (sym (append-nil froms)) refl)
   joins_told (d ∷ ds) zero froms on rest h past = let a = join_longer d (write_joins ds rest) in absurd (omega (arith, a))
   joins_told (d ∷ ds) (suc n) froms on rest h past =
       let a = join_longer d (write_joins ds rest) in
-      let next : FromItem × Option CondTree = (joined_source d, option_map (cond_with number) (on_of d)) in
-      joins_go_on number n (froms, option_map (cond_with number) on) (write_join d (write_joins ds rest)) (joint_of d) next (write_joins ds rest) (joint_told d (write_joins ds rest)) (joined_told d (write_joins ds rest) (joins_end_there ds rest (past_end (first_token rest) past)))
-      ∙ ap (λ (c : Option CondTree). joins number n (froms ++ joined_source d ∷ [], c) (write_joins ds rest)) (also_with number on (on_of d))
-      ∙ joins_told ds n (froms ++ joined_source d ∷ []) (also on (on_of d)) rest (omega (arith, a)) past
-      ∙ same_found _ _ rest (same_pair _ _ _ _ (append_assoc froms (joined_source d ∷ []) (map joined_source ds)) (sym (ap (option_map (cond_with number)) (on_next on d ds))))
+      let next : FromItem × Option CondTree = (joined_source d, option_map (cond_with build) (on_of d)) in
+      joins_go_on build n (froms, option_map (cond_with build) on) (write_join d (write_joins ds rest)) (joint_of d) next (write_joins ds rest) (joint_told d (write_joins ds rest)) (joined_told d (write_joins ds rest) (joins_end_there ds rest (past_end (first_token rest) past)))
+      ∙ ap (λ (c : Option CondTree). joins build n (froms ++ joined_source d ∷ [], c) (write_joins ds rest)) (also_with build on (on_of d))
+      ∙ joins_told ds n (froms ++ joined_source d ∷ []) (also as_written on (on_of d)) rest (omega (arith, a)) past
+      ∙ same_found _ _ rest (same_pair _ _ _ _ (append_assoc froms (joined_source d ∷ []) (map joined_source ds)) (sym (ap (option_map (cond_with build)) (on_next on d ds))))
 
-  sources_told : (s : NameRule × AliasRule) (ds : List JoinRule) (rest : List Token) → IsPast 0 rest → sources number (write_source s (write_joins ds rest)) ≡ Some ((source_of s ∷ map joined_source ds, option_map (cond_with number) (on_conds None ds)), rest)
+  sources_told : (s : NameRule × AliasRule) (ds : List JoinRule) (rest : List Token) → IsPast 0 rest → sources build (write_source s (write_joins ds rest)) ≡ Some ((source_of s ∷ map joined_source ds, option_map (cond_with build) (on_conds None ds)), rest)
   unfolding sources
   sources_told s ds rest past =
       then_told _ _ _ _ (source_told s (write_joins ds rest) (joins_end_there ds rest (past_end (first_token rest) past)))
       (joins_told ds (length (write_joins ds rest)) (source_of s ∷ []) None rest (omega arith) past)
 
-  having_told : (d : HavingRule) (rest : List Token) → IsEnd rest → having_cond number (write_cond write_value d rest) ≡ Some (cond_with number (cond_of value_of d), rest)
+  having_told : (d : HavingRule) (rest : List Token) → IsEnd rest → having_cond build (write_cond write_value d rest) ≡ Some (cond_with build (cond_of value_of d), rest)
   unfolding having_cond
-  having_told d rest h = having_cond_told number d rest (end_ends rest h)
+  having_told d rest h = having_cond_told build d rest (end_ends rest h)
 
   having_longer : (d : HavingRule) (rest : List Token) → length rest < length (write_cond write_value d rest)
-  having_longer d rest = cond_longer number write_value value_of (value number) (value_operand number) d rest
+  having_longer d rest = cond_longer build write_value value_of (value build) (value_operand build) d rest
 
 -- ## Keys and counts
 
@@ -198,39 +198,39 @@ digits_longer d rest = omega arith
 
 -- ## Queries
 
-module _ (number : ℤ → Cell) (count : ℕ → ℕ) (long : ℕ → ℕ) where
-  counted_told : (d : List ℕ) (rest : List Token) → IsEnd rest → counted number count (write_digits d rest) ≡ Some (count (number_of d), rest)
+module _ (build : Builder) (count : ℕ → ℕ) (long : ℕ → ℕ) where
+  counted_told : (d : List ℕ) (rest : List Token) → IsEnd rest → counted build count (write_digits d rest) ≡ Some (count (number_of d), rest)
   unfolding counted
   counted_told d rest h = refl
 
-  place_told : (d : PlaceRule) (rest : List Token) → is_dot (first_token rest) ≡ false → place number count (write_place d rest) ≡ Some (place_with number count long (place_of d), rest)
+  place_told : (d : PlaceRule) (rest : List Token) → is_dot (first_token rest) ≡ false → place build count (write_place d rest) ≡ Some (place_with build count long (place_of d), rest)
   unfolding place
   place_told (PositionKey digits) rest h = refl
   place_told (ColumnKey c) rest h = given_none _ _ _ _ (column_no_digits c rest) (then_told _ _ _ _ (column_told c rest h) refl)
 
-  key_told : (d : PlaceRule × OrderRule) (rest : List Token) → IsEnd rest → key number count (write_key d rest) ≡ Some (key_with number count long (key_of d), rest)
+  key_told : (d : PlaceRule × OrderRule) (rest : List Token) → IsEnd rest → key build count (write_key d rest) ≡ Some (key_with build count long (key_of d), rest)
   unfolding key
   key_told d rest h =
       then_told _ _ _ _ (place_told d.0 (write_order d.1 rest) (order_no_dot d.1 rest h))
       (then_told _ _ _ _ (ascending_told d.1 rest h) refl)
 
-  item_told : (d : ValueRule × AliasRule) (rest : List Token) → IsEnd rest → item number (write_item d rest) ≡ Some (item_with number count long (item_of d), rest)
+  item_told : (d : ValueRule × AliasRule) (rest : List Token) → IsEnd rest → item build (write_item d rest) ≡ Some (item_with build count long (item_of d), rest)
   unfolding item
   item_told d rest h =
-      then_told _ _ _ _ (value_told number d.0 (write_alias d.1 rest) (alias_ends d.1 rest h))
+      then_told _ _ _ _ (value_told build d.0 (write_alias d.1 rest) (alias_ends d.1 rest h))
       (then_told _ _ _ _ (alias_told d.1 rest h) refl)
 
   item_longer : (d : ValueRule × AliasRule) (rest : List Token) → length rest < length (write_item d rest)
   item_longer d rest =
-      let is = value_operand number in
+      let is = value_operand build in
       let a = alias_longer d.1 rest in
       let b = is.longer d.0 (write_alias d.1 rest) in
       omega (arith, a, b)
 
-  items_told : (d : ItemsRule) (rest : List Token) → IsEnd rest → comma_in (first_token rest) ≡ None → items number (write_items d rest) ≡ Some (map (item_with number count long) (items_of d), rest)
+  items_told : (d : ItemsRule) (rest : List Token) → IsEnd rest → comma_in (first_token rest) ≡ None → items build (write_items d rest) ≡ Some (map (item_with build count long) (items_of d), rest)
   unfolding items is_symbol
   items_told AllColumns rest h none = refl
-  items_told (SomeItems ds) rest h none = branch_false _ _ _ _ (value_no_star ds.0.0 _) (listed_told write_item item_of (item_with number count long) (item number) item_told item_longer ds rest h none)
+  items_told (SomeItems ds) rest h none = branch_false _ _ _ _ (value_no_star ds.0.0 _) (listed_told write_item item_of (item_with build count long) (item build) item_told item_longer ds rest h none)
 
   groups_told : (o : Option (ColumnRule × List ColumnRule)) (rest : List Token) → IsPast 0 rest → IsPast 2 rest → listed_by word.Group column (write_behind (write_some write_column) (word.Group ∷ word.By ∷ []) o rest) ≡ Some (map column_of (any_of o), rest)
   groups_told o rest past later =
@@ -238,25 +238,25 @@ module _ (number : ℤ → Cell) (count : ℕ → ℕ) (long : ℕ → ℕ) wher
       ∙ same_found _ _ rest (same_all (map column_of (any_of o)))
 
   -- the condition of ON and WHERE together
-  same_cond : (d : FromRule) → also (option_map (cond_with number) (on_conds None d.joins)) (option_map (cond_with number) (option_map where_of d.cond)) ≡ option_map (cond_with number) (with_where (on_conds None d.joins) d.cond)
-  same_cond d = also_with number (on_conds None d.joins) (option_map where_of d.cond) ∙ sym (ap (option_map (cond_with number)) (with_where_is (on_conds None d.joins) d.cond))
+  same_cond : (d : FromRule) → also build (option_map (cond_with build) (on_conds None d.joins)) (option_map (cond_with build) (option_map where_of d.cond)) ≡ option_map (cond_with build) (with_where (on_conds None d.joins) d.cond)
+  same_cond d = also_with build (on_conds None d.joins) (option_map where_of d.cond) ∙ sym (ap (option_map (cond_with build)) (with_where_is (on_conds None d.joins) d.cond))
 
   abbrev from_tree : Bool → List ItemTree → FromRule → Option CondTree → QueryTree
   from_tree distinct list d on = record {
     distinct = distinct;
-    items = map (item_with number count long) list;
+    items = map (item_with build count long) list;
     froms = source_of d.source ∷ map joined_source d.joins;
     cond = on;
     groups = map column_of (any_of d.groups);
-    having = option_map (cond_with number) (option_map (cond_of value_of) d.having);
-    keys = map (key_with number count long) (map key_of (any_of d.keys));
+    having = option_map (cond_with build) (option_map (cond_of value_of) d.having);
+    keys = map (key_with build count long) (map key_of (any_of d.keys));
     limit = option_map count (option_map number_of d.limit);
   }
 
-  same_on : (distinct : Bool) (list : List ItemTree) (d : FromRule) → from_tree distinct list d (also (option_map (cond_with number) (on_conds None d.joins)) (option_map (cond_with number) (option_map where_of d.cond))) ≡ query_with number count long (query_from distinct list (Some d))
+  same_on : (distinct : Bool) (list : List ItemTree) (d : FromRule) → from_tree distinct list d (also build (option_map (cond_with build) (on_conds None d.joins)) (option_map (cond_with build) (option_map where_of d.cond))) ≡ query_with build count long (query_from distinct list (Some d))
   same_on distinct list d = ap (from_tree distinct list d) (same_cond d)
 
-  from_told : (distinct : Bool) (list : List ItemTree) (d : FromRule) (rest : List Token) → IsPast 5 rest → from number count distinct (map (item_with number count long) list) (after_first (write_from d rest)) ≡ Some (query_with number count long (query_from distinct list (Some d)), rest)
+  from_told : (distinct : Bool) (list : List ItemTree) (d : FromRule) (rest : List Token) → IsPast 5 rest → from build count distinct (map (item_with build count long) list) (after_first (write_from d rest)) ≡ Some (query_with build count long (query_from distinct list (Some d)), rest)
   unfolding from
   from_told distinct list d rest past =
       let t5 = write_behind write_digits (word.Limit ∷ []) d.limit rest in
@@ -269,15 +269,15 @@ module _ (number : ℤ → Cell) (count : ℕ → ℕ) (long : ℕ → ℕ) wher
       let p3 : IsPast 2 t3 = having_past (write_cond write_value) d.having t4 p4 in
       let p2 : IsPast 1 t2 = group_past (write_some write_column) d.groups t3 p3 in
       let p1 : IsPast 0 t1 = where_past write_where d.cond t2 p2 in
-      then_told _ _ _ _ (sources_told number d.source d.joins t1 p1)
-      (then_told _ _ _ _ (optional_told write_where where_of (cond_with number) (where_cond number) (where_told number) (where_longer number) word.Where d.cond t2 (past_end (first_token t2) (omega arith)) (past_no_where (first_token t2) p2))
+      then_told _ _ _ _ (sources_told build d.source d.joins t1 p1)
+      (then_told _ _ _ _ (optional_told write_where where_of (cond_with build) (where_cond build) (where_told build) (where_longer build) word.Where d.cond t2 (past_end (first_token t2) (omega arith)) (past_no_where (first_token t2) p2))
       (then_told _ _ _ _ (groups_told d.groups t3 (omega arith) p3)
-      (then_told _ _ _ _ (optional_told (write_cond write_value) (cond_of value_of) (cond_with number) (having_cond number) (having_told number) (having_longer number) word.Having d.having t4 (past_end (first_token t4) (omega arith)) (past_no_having (first_token t4) p4))
-      (then_told _ _ _ _ (listed_by_told write_key key_of (key_with number count long) (key number count) key_told key_longer word.Order d.keys t5 (past_end (first_token t5) (omega arith)) (past_no_comma (first_token t5) (omega arith)) (past_no_order (first_token t5) p5))
-      (then_told _ _ _ _ (optional_told write_digits number_of count (counted number count) counted_told digits_longer word.Limit d.limit rest (past_end (first_token rest) (omega arith)) (past_no_limit (first_token rest) past))
+      (then_told _ _ _ _ (optional_told (write_cond write_value) (cond_of value_of) (cond_with build) (having_cond build) (having_told build) (having_longer build) word.Having d.having t4 (past_end (first_token t4) (omega arith)) (past_no_having (first_token t4) p4))
+      (then_told _ _ _ _ (listed_by_told write_key key_of (key_with build count long) (key build count) key_told key_longer word.Order d.keys t5 (past_end (first_token t5) (omega arith)) (past_no_comma (first_token t5) (omega arith)) (past_no_order (first_token t5) p5))
+      (then_told _ _ _ _ (optional_told write_digits number_of count (counted build count) counted_told digits_longer word.Limit d.limit rest (past_end (first_token rest) (omega arith)) (past_no_limit (first_token rest) past))
       (same_found _ _ rest (same_on distinct list d)))))))
 
-  optional_from_told : (distinct : Bool) (list : List ItemTree) (d : Option FromRule) → optional_from number count distinct (map (item_with number count long) list) (write_optional_from d []) ≡ Some (query_with number count long (query_from distinct list d), [])
+  optional_from_told : (distinct : Bool) (list : List ItemTree) (d : Option FromRule) → optional_from build count distinct (map (item_with build count long) list) (write_optional_from d []) ≡ Some (query_with build count long (query_from distinct list d), [])
   unfolding optional_from is_key
   optional_from_told distinct list None = refl
   optional_from_told distinct list (Some d) = from_told distinct list d [] (omega arith)
@@ -290,7 +290,7 @@ module _ (number : ℤ → Cell) (count : ℕ → ℕ) (long : ℕ → ℕ) wher
   from_no_comma None = refl
   from_no_comma (Some d) = refl
 
-  query_told : (d : QueryRule) → query number count (after_first (write_query d [])) ≡ Some (query_with number count long (query_of d), [])
+  query_told : (d : QueryRule) → query build count (after_first (write_query d [])) ≡ Some (query_with build count long (query_of d), [])
   unfolding query
   query_told d =
       let behind = write_optional_from d.from [] in
@@ -300,12 +300,12 @@ module _ (number : ℤ → Cell) (count : ℕ → ℕ) (long : ℕ → ℕ) wher
 
   -- ## Statements
 
-  pub stmt_told : (d : StmtRule) → stmt number count long (write_stmt d) ≡ Some (stmt_with number count long (stmt_of d), [])
+  pub stmt_told : (d : StmtRule) → stmt build count long (write_stmt d) ≡ Some (stmt_with build count long (stmt_of d), [])
   unfolding stmt explain is_key
-  stmt_told (CreateRule table columns) = create_told number count long table columns
-  stmt_told (DropRule table) = drop_told number count long table
-  stmt_told (InsertRule table columns rows) = insert_told number count long table columns rows
-  stmt_told (DeleteRule table cond) = delete_told number count long table cond
-  stmt_told (UpdateRule table sets cond) = update_told number count long table sets cond
+  stmt_told (CreateRule table columns) = create_told build count long table columns
+  stmt_told (DropRule table) = drop_told build count long table
+  stmt_told (InsertRule table columns rows) = insert_told build count long table columns rows
+  stmt_told (DeleteRule table cond) = delete_told build count long table cond
+  stmt_told (UpdateRule table sets cond) = update_told build count long table sets cond
   stmt_told (SelectRule d) = then_told _ _ _ _ (query_told d) refl
   stmt_told (ExplainRule d) = then_told _ _ _ _ (query_told d) refl

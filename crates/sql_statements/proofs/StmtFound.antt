@@ -1,5 +1,5 @@
 -- What is read as CREATE, DROP, INSERT, DELETE or UPDATE is what a derivation writes.
-use Rattle.std.proofs.Common.{◌≡◌, ℕ, List, [], ◌∷◌, map, Bool, true, false, cond, Some, None, ℤ, refl, ap, sym, ◌∙◌}
+use Rattle.std.proofs.Common.{◌≡◌, ℕ, List, [], ◌∷◌, map, Bool, true, false, cond, Some, None, refl, ap, sym, ◌∙◌}
 use Rattle.std.specs.Prelude.{codes}
 use Rattle.std.specs.Option.{option_map}
 use Rattle.std.proofs.lemmas.Slice.Eq.{bytes_eq-Decides}
@@ -12,6 +12,7 @@ use Rattle.sql_grammar.specs.Grammar.LiteralRule.{PlainDigits, MinusDigits, Stri
 use Rattle.sql_grammar.specs.Statements.{TypeRule, write_type, kind_of, width_of, null_word, write_not_null, write_coldef, coldef_of, write_set, set_of, write_column_list, write_row, row_of, StmtRule, write_stmt, stmt_of}
 use Rattle.sql_grammar.specs.Statements.TypeRule.{IntType, IntegerType, BigintType, TextType, DateType, VarcharType}
 use Rattle.sql_grammar.specs.Statements.StmtRule.{CreateRule, DropRule, InsertRule, DeleteRule, UpdateRule}
+use Rattle.sql_reader.specs.Bounded.{Builder}
 use Rattle.sql_reader.specs.Chain.{Found, first_token, after_first}
 use Rattle.sql_reader.specs.Derived.{cell_with, expr_with, cond_with}
 use Rattle.sql_reader.specs.Parts.{is_key}
@@ -83,51 +84,51 @@ module _ (long : ℕ → ℕ) where
 
 -- ## Literals
 
-day_literal_found : (number : ℤ → Cell) (ts : List Token) (x : Cell) (rest : List Token) → day_literal ts ≡ Some (x, rest) → IsWritten write_literal (λ l. cell_with number (literal_cell l)) (Key word.Date ∷ ts) x rest
+day_literal_found : (build : Builder) (ts : List Token) (x : Cell) (rest : List Token) → day_literal ts ≡ Some (x, rest) → IsWritten write_literal (λ l. cell_with build.number (literal_cell l)) (Key word.Date ∷ ts) x rest
 unfolding day_literal
-day_literal_found number ts x rest h =
+day_literal_found build ts x rest h =
     let f = then_found _ _ _ h in
     let g = then_found _ _ _ f.2 in
     let day = day_found f.0 g.0 g.1 in
     let parts = pair_found _ _ _ _ g.2 in
     record { rule = DateLiteral f.0 day.0; written = ap (λ r. Key word.Date ∷ Text f.0 ∷ r) (sym parts.1) ∙ ap (λ r. Key word.Date ∷ r) (text_found ts f.0 f.1); means = ap (λ d. cell.Day d) day.1 ∙ parts.0 }
 
-module _ (number : ℤ → Cell) where
-  negative_literal_found : (ts : List Token) (x : Cell) (rest : List Token) → negative_literal number ts ≡ Some (x, rest) → IsWritten write_literal (λ l. cell_with number (literal_cell l)) (sign symbol.Minus ∷ ts) x rest
+module _ (build : Builder) where
+  negative_literal_found : (ts : List Token) (x : Cell) (rest : List Token) → negative_literal build ts ≡ Some (x, rest) → IsWritten write_literal (λ l. cell_with build.number (literal_cell l)) (sign symbol.Minus ∷ ts) x rest
   unfolding negative_literal
   negative_literal_found ts x rest h =
       let f = then_found _ _ _ h in
       let parts = pair_found _ _ _ _ f.2 in
       record { rule = MinusDigits f.0; written = ap (λ r. sign symbol.Minus ∷ Digits f.0 ∷ r) (sym parts.1) ∙ ap (λ r. sign symbol.Minus ∷ r) (digits_found ts f.0 f.1); means = parts.0 }
 
-  literal_sound : IsSound write_literal (λ l. cell_with number (literal_cell l)) (literal number)
+  literal_sound : IsSound write_literal (λ l. cell_with build.number (literal_cell l)) (literal build)
   unfolding literal
   literal_sound (Digits digits ∷ ts) x rest h = let parts = pair_found _ _ _ _ h in record { rule = PlainDigits digits; written = ap (λ r. Digits digits ∷ r) (sym parts.1); means = parts.0 }
   literal_sound (Text text ∷ ts) x rest h = let parts = pair_found _ _ _ _ h in record { rule = StringLiteral text; written = ap (λ r. Text text ∷ r) (sym parts.1); means = parts.0 }
-  literal_sound (Key word.Date ∷ ts) x rest h = day_literal_found number ts x rest h
+  literal_sound (Key word.Date ∷ ts) x rest h = day_literal_found build ts x rest h
   literal_sound (token.Symbol symbol.Minus ∷ ts) x rest h = negative_literal_found ts x rest h
   literal_sound other x rest h = cc
 
-  row_sound : IsSound write_row (λ r. map (cell_with number) (row_of r)) (row number)
+  row_sound : IsSound write_row (λ r. map (cell_with build.number) (row_of r)) (row build)
   unfolding row
-  row_sound ts x rest h = enclosed_found write_literal literal_cell (cell_with number) (literal number) literal_sound ts x rest h
+  row_sound ts x rest h = enclosed_found write_literal literal_cell (cell_with build.number) (literal build) literal_sound ts x rest h
 
   -- ## Conditions
 
-  pub where_cond_sound : IsSound write_where (λ d. cond_with number (where_of d)) (where_cond number)
+  pub where_cond_sound : IsSound write_where (λ d. cond_with build (where_of d)) (where_cond build)
   unfolding where_cond
-  where_cond_sound ts x rest h = where_sound number ts x rest h
+  where_cond_sound ts x rest h = where_sound build ts x rest h
 
 -- ## Statements
 
-module _ (number : ℤ → Cell) (count : ℕ → ℕ) (long : ℕ → ℕ) where
+module _ (build : Builder) (count : ℕ → ℕ) (long : ℕ → ℕ) where
   -- a derivation of all tokens stands for the statement
   pub record IsForm (ts : List Token) (x : StmtTree) : Type 0 where
     pub rule : StmtRule
     pub written : write_stmt rule ≡ ts
-    pub means : stmt_with number count long (stmt_of rule) ≡ x
+    pub means : stmt_with build count long (stmt_of rule) ≡ x
 
-  coldef_sound : IsSound write_coldef (λ d. column_with number count long (coldef_of d)) (coldef long)
+  coldef_sound : IsSound write_coldef (λ d. column_with build count long (coldef_of d)) (coldef long)
   unfolding coldef
   coldef_sound ts x rest h =
       let f = then_found _ _ _ h in
@@ -151,11 +152,11 @@ module _ (number : ℤ → Cell) (count : ℕ → ℕ) (long : ℕ → ℕ) wher
       let c = then_found _ _ _ t.2 in
       let parts = pair_found _ _ _ _ c.2 in
       let table = name_sound (after_first ts) t.0.0 t.0.1 t.1 in
-      let columns = enclosed_found write_coldef coldef_of (column_with number count long) (coldef long) coldef_sound t.0.1 c.0.0 c.0.1 c.1 in
+      let columns = enclosed_found write_coldef coldef_of (column_with build count long) (coldef long) coldef_sound t.0.1 c.0.0 c.0.1 c.1 in
       record {
         rule = CreateRule table.rule columns.rule;
         written = ap (λ q. Key word.Create ∷ Key word.Table ∷ write_name table.rule (write_enclosed write_coldef columns.rule q)) (sym parts.1) ∙ ap (λ q. Key word.Create ∷ Key word.Table ∷ write_name table.rule q) columns.written ∙ ap (λ q. Key word.Create ∷ Key word.Table ∷ q) table.written ∙ ap (λ q. Key word.Create ∷ q) (key_found word.Table ts g.0);
-        means = ap (λ n. CreateTable n (map (column_with number count long) (map coldef_of (all_of columns.rule)))) table.means ∙ ap (CreateTable t.0.0) columns.means ∙ parts.0;
+        means = ap (λ n. CreateTable n (map (column_with build count long) (map coldef_of (all_of columns.rule)))) table.means ∙ ap (CreateTable t.0.0) columns.means ∙ parts.0;
       }
 
   pub drop_found : (ts : List Token) (x : StmtTree) → drop_table ts ≡ Some (x, []) → IsForm (Key word.Drop ∷ ts) x
@@ -171,7 +172,7 @@ module _ (number : ℤ → Cell) (count : ℕ → ℕ) (long : ℕ → ℕ) wher
         means = ap DropTable table.means ∙ parts.0;
       }
 
-  pub insert_found : (ts : List Token) (x : StmtTree) → insert number ts ≡ Some (x, []) → IsForm (Key word.Insert ∷ ts) x
+  pub insert_found : (ts : List Token) (x : StmtTree) → insert build ts ≡ Some (x, []) → IsForm (Key word.Insert ∷ ts) x
   unfolding insert
   insert_found ts x h =
       let g = guard_found _ _ _ h in
@@ -182,7 +183,7 @@ module _ (number : ℤ → Cell) (count : ℕ → ℕ) (long : ℕ → ℕ) wher
       let parts = pair_found _ _ _ _ r.2 in
       let table = name_sound (after_first ts) t.0.0 t.0.1 t.1 in
       let columns = names_sound t.0.1 c.0.0 c.0.1 c.1 in
-      let rows = listed_found write_row row_of (map (cell_with number)) (row number) (row_sound number) (after_first c.0.1) r.0.0 r.0.1 r.1 in
+      let rows = listed_found write_row row_of (map (cell_with build.number)) (row build) (row_sound build) (after_first c.0.1) r.0.0 r.0.1 r.1 in
       record {
         rule = InsertRule table.rule columns.rule rows.rule;
         written =
@@ -195,7 +196,7 @@ module _ (number : ℤ → Cell) (count : ℕ → ℕ) (long : ℕ → ℕ) wher
         means = ap_three InsertInto _ _ _ _ _ _ table.means columns.means rows.means ∙ parts.0;
       }
 
-  pub delete_found : (ts : List Token) (x : StmtTree) → delete number ts ≡ Some (x, []) → IsForm (Key word.Delete ∷ ts) x
+  pub delete_found : (ts : List Token) (x : StmtTree) → delete build ts ≡ Some (x, []) → IsForm (Key word.Delete ∷ ts) x
   unfolding delete
   delete_found ts x h =
       let g = guard_found _ _ _ h in
@@ -203,7 +204,7 @@ module _ (number : ℤ → Cell) (count : ℕ → ℕ) (long : ℕ → ℕ) wher
       let c = then_found _ _ _ t.2 in
       let parts = pair_found _ _ _ _ c.2 in
       let table = name_sound (after_first ts) t.0.0 t.0.1 t.1 in
-      let where_ = optional_found write_where where_of (cond_with number) (where_cond number) (where_cond_sound number) word.Where t.0.1 c.0.0 c.0.1 c.1 in
+      let where_ = optional_found write_where where_of (cond_with build) (where_cond build) (where_cond_sound build) word.Where t.0.1 c.0.0 c.0.1 c.1 in
       record {
         rule = DeleteRule table.rule where_.rule;
         written =
@@ -211,10 +212,10 @@ module _ (number : ℤ → Cell) (count : ℕ → ℕ) (long : ℕ → ℕ) wher
             ∙ ap (λ q. Key word.Delete ∷ Key word.From ∷ write_name table.rule q) where_.written
             ∙ ap (λ q. Key word.Delete ∷ Key word.From ∷ q) table.written
             ∙ ap (λ q. Key word.Delete ∷ q) (key_found word.From ts g.0);
-        means = ap (λ n. DeleteFrom n (option_map (cond_with number) (option_map where_of where_.rule))) table.means ∙ ap (DeleteFrom t.0.0) where_.means ∙ parts.0;
+        means = ap (λ n. DeleteFrom n (option_map (cond_with build) (option_map where_of where_.rule))) table.means ∙ ap (DeleteFrom t.0.0) where_.means ∙ parts.0;
       }
 
-  set_sound : IsSound write_set (λ s. set_with number count long (set_of s)) (set number)
+  set_sound : IsSound write_set (λ s. set_with build count long (set_of s)) (set build)
   unfolding set
   set_sound ts x rest h =
       let f = then_found _ _ _ h in
@@ -222,7 +223,7 @@ module _ (number : ℤ → Cell) (count : ℕ → ℕ) (long : ℕ → ℕ) wher
       let e = then_found _ _ _ g.1 in
       let parts = pair_found _ _ _ _ e.2 in
       let column = name_sound ts f.0.0 f.0.1 f.1 in
-      let value = whole_found number (after_first f.0.1) e.0.0 e.0.1 e.1 in
+      let value = whole_found build (after_first f.0.1) e.0.0 e.0.1 e.1 in
       record {
         rule = (column.rule, value.rule);
         written =
@@ -231,12 +232,12 @@ module _ (number : ℤ → Cell) (count : ℕ → ℕ) (long : ℕ → ℕ) wher
             ∙ ap (write_name column.rule) (symbol_found symbol.Equal f.0.1 g.0)
             ∙ column.written;
         means =
-            ap (λ (n : List ℕ). let set : List ℕ × ExprTree = (n, expr_with number (expr_of value.rule)) in set) column.means
+            ap (λ (n : List ℕ). let set : List ℕ × ExprTree = (n, expr_with build (expr_of value.rule)) in set) column.means
             ∙ ap (λ (v : ExprTree). let set : List ℕ × ExprTree = (f.0.0, v) in set) value.means
             ∙ parts.0;
       }
 
-  pub update_found : (ts : List Token) (x : StmtTree) → update number ts ≡ Some (x, []) → IsForm (Key word.Update ∷ ts) x
+  pub update_found : (ts : List Token) (x : StmtTree) → update build ts ≡ Some (x, []) → IsForm (Key word.Update ∷ ts) x
   unfolding update
   update_found ts x h =
       let t = then_found _ _ _ h in
@@ -245,8 +246,8 @@ module _ (number : ℤ → Cell) (count : ℕ → ℕ) (long : ℕ → ℕ) wher
       let c = then_found _ _ _ s.2 in
       let parts = pair_found _ _ _ _ c.2 in
       let table = name_sound ts t.0.0 t.0.1 t.1 in
-      let sets = listed_found write_set set_of (set_with number count long) (set number) set_sound (after_first t.0.1) s.0.0 s.0.1 s.1 in
-      let where_ = optional_found write_where where_of (cond_with number) (where_cond number) (where_cond_sound number) word.Where s.0.1 c.0.0 c.0.1 c.1 in
+      let sets = listed_found write_set set_of (set_with build count long) (set build) set_sound (after_first t.0.1) s.0.0 s.0.1 s.1 in
+      let where_ = optional_found write_where where_of (cond_with build) (where_cond build) (where_cond_sound build) word.Where s.0.1 c.0.0 c.0.1 c.1 in
       record {
         rule = UpdateRule table.rule sets.rule where_.rule;
         written =

@@ -1,11 +1,11 @@
 -- What a derivation of CREATE, DROP, INSERT, DELETE or UPDATE writes is read as what it stands for.
-use Rattle.std.proofs.Common.{◌≡◌, ℕ, ◌<◌, ◌≤◌, List, [], ◌∷◌, length, map, Bool, true, false, Option, Some, ℤ, refl, arith}
-use Rattle.cell_core.specs.declared.cell.Cell.{Cell}
+use Rattle.std.proofs.Common.{◌≡◌, ℕ, ◌<◌, ◌≤◌, List, [], ◌∷◌, length, map, Bool, true, false, Option, Some, refl, arith}
 use Rattle.sql_grammar.specs.Grammar.{sign, write_some, write_enclosed, write_behind, NameRule, LiteralRule, write_literal, literal_cell, ExprRule, write_expr, expr_of, WhereRule, write_where, where_of}
 use Rattle.sql_grammar.specs.Grammar.LiteralRule.{PlainDigits, MinusDigits, StringLiteral, DateLiteral}
 use Rattle.sql_grammar.specs.Statements.{TypeRule, write_type, kind_of, width_of, write_not_null, ColdefRule, write_coldef, coldef_of, write_set, set_of, write_column_list, write_row, row_of, write_stmt, stmt_of}
 use Rattle.sql_grammar.specs.Statements.TypeRule.{IntType, IntegerType, BigintType, TextType, DateType, VarcharType}
 use Rattle.sql_grammar.specs.Statements.StmtRule.{CreateRule, DropRule, InsertRule, DeleteRule, UpdateRule}
+use Rattle.sql_reader.specs.Bounded.{Builder}
 use Rattle.sql_reader.specs.Chain.{first_token, after_first}
 use Rattle.sql_reader.specs.CondReader.{whole_expr}
 use Rattle.sql_reader.specs.Derived.{cell_with, cond_with}
@@ -62,8 +62,8 @@ coldef_longer d rest =
 
 -- ## Literals and conditions
 
-module _ (number : ℤ → Cell) where
-  literal_told : (d : LiteralRule) (rest : List Token) → IsEnd rest → literal number (write_literal d rest) ≡ Some (cell_with number (literal_cell d), rest)
+module _ (build : Builder) where
+  literal_told : (d : LiteralRule) (rest : List Token) → IsEnd rest → literal build (write_literal d rest) ≡ Some (cell_with build.number (literal_cell d), rest)
   unfolding literal negative_literal day_literal
   literal_told (PlainDigits digits) rest h = refl
   literal_told (MinusDigits digits) rest h = refl
@@ -76,59 +76,59 @@ module _ (number : ℤ → Cell) where
   literal_longer (StringLiteral text) rest = omega arith
   literal_longer (DateLiteral text is) rest = omega arith
 
-  row_told : (d : LiteralRule × List LiteralRule) (rest : List Token) → IsEnd rest → row number (write_row d rest) ≡ Some (map (cell_with number) (row_of d), rest)
+  row_told : (d : LiteralRule × List LiteralRule) (rest : List Token) → IsEnd rest → row build (write_row d rest) ≡ Some (map (cell_with build.number) (row_of d), rest)
   unfolding row
-  row_told d rest h = enclosed_told write_literal literal_cell (cell_with number) (literal number) literal_told literal_longer d rest
+  row_told d rest h = enclosed_told write_literal literal_cell (cell_with build.number) (literal build) literal_told literal_longer d rest
 
   row_longer : (d : LiteralRule × List LiteralRule) (rest : List Token) → length rest < length (write_row d rest)
-  row_longer d rest = enclosed_longer write_literal literal_cell (cell_with number) (literal number) literal_told literal_longer d rest
+  row_longer d rest = enclosed_longer write_literal literal_cell (cell_with build.number) (literal build) literal_told literal_longer d rest
 
-  pub where_told : (d : WhereRule) (rest : List Token) → IsEnd rest → where_cond number (write_where d rest) ≡ Some (cond_with number (where_of d), rest)
+  pub where_told : (d : WhereRule) (rest : List Token) → IsEnd rest → where_cond build (write_where d rest) ≡ Some (cond_with build (where_of d), rest)
   unfolding where_cond
-  where_told d rest h = where_cond_told number d rest (end_ends rest h)
+  where_told d rest h = where_cond_told build d rest (end_ends rest h)
 
   pub where_longer : (d : WhereRule) (rest : List Token) → length rest < length (write_where d rest)
-  where_longer d rest = cond_longer number write_expr expr_of (whole_expr number) (expr_operand number) d rest
+  where_longer d rest = cond_longer build write_expr expr_of (whole_expr build) (expr_operand build) d rest
 
 -- ## Statements
 
-module _ (number : ℤ → Cell) (count : ℕ → ℕ) (long : ℕ → ℕ) where
-  coldef_told : (d : ColdefRule) (rest : List Token) → IsEnd rest → coldef long (write_coldef d rest) ≡ Some (column_with number count long (coldef_of d), rest)
+module _ (build : Builder) (count : ℕ → ℕ) (long : ℕ → ℕ) where
+  coldef_told : (d : ColdefRule) (rest : List Token) → IsEnd rest → coldef long (write_coldef d rest) ≡ Some (column_with build count long (coldef_of d), rest)
   unfolding coldef
   coldef_told d rest h =
       then_told _ _ _ _ (name_told d.name (write_type d.kind (write_not_null d.not_null rest)))
       (then_told _ _ _ _ (type_told long d.kind (write_not_null d.not_null rest))
       (then_told _ _ _ _ (not_null_told d.not_null rest h) refl))
 
-  pub create_told : (table : NameRule) (columns : ColdefRule × List ColdefRule) → stmt number count long (write_stmt (CreateRule table columns)) ≡ Some (stmt_with number count long (stmt_of (CreateRule table columns)), [])
+  pub create_told : (table : NameRule) (columns : ColdefRule × List ColdefRule) → stmt build count long (write_stmt (CreateRule table columns)) ≡ Some (stmt_with build count long (stmt_of (CreateRule table columns)), [])
   unfolding stmt create is_key
   create_told table columns =
       then_told _ _ _ _ (name_told table (write_enclosed write_coldef columns []))
-      (then_told _ _ _ _ (enclosed_told write_coldef coldef_of (column_with number count long) (coldef long) coldef_told coldef_longer columns []) refl)
+      (then_told _ _ _ _ (enclosed_told write_coldef coldef_of (column_with build count long) (coldef long) coldef_told coldef_longer columns []) refl)
 
-  pub drop_told : (table : NameRule) → stmt number count long (write_stmt (DropRule table)) ≡ Some (stmt_with number count long (stmt_of (DropRule table)), [])
+  pub drop_told : (table : NameRule) → stmt build count long (write_stmt (DropRule table)) ≡ Some (stmt_with build count long (stmt_of (DropRule table)), [])
   unfolding stmt drop_table is_key
   drop_told table = then_told _ _ _ _ (name_told table []) refl
 
-  pub insert_told : (table : NameRule) (columns : Option (NameRule × List NameRule)) (rows : (LiteralRule × List LiteralRule) × List (LiteralRule × List LiteralRule)) → stmt number count long (write_stmt (InsertRule table columns rows)) ≡ Some (stmt_with number count long (stmt_of (InsertRule table columns rows)), [])
+  pub insert_told : (table : NameRule) (columns : Option (NameRule × List NameRule)) (rows : (LiteralRule × List LiteralRule) × List (LiteralRule × List LiteralRule)) → stmt build count long (write_stmt (InsertRule table columns rows)) ≡ Some (stmt_with build count long (stmt_of (InsertRule table columns rows)), [])
   unfolding stmt insert is_key is_symbol
   insert_told table columns rows =
       let values = Key word.Values ∷ write_some write_row rows [] in
       then_told _ _ _ _ (name_told table (write_column_list columns values))
       (then_told _ _ _ _ (names_told columns values refl)
-      (then_told _ _ _ _ (listed_told write_row row_of (map (cell_with number)) (row number) (row_told number) (row_longer number) rows [] refl refl) refl))
+      (then_told _ _ _ _ (listed_told write_row row_of (map (cell_with build.number)) (row build) (row_told build) (row_longer build) rows [] refl refl) refl))
 
-  pub delete_told : (table : NameRule) (cond : Option WhereRule) → stmt number count long (write_stmt (DeleteRule table cond)) ≡ Some (stmt_with number count long (stmt_of (DeleteRule table cond)), [])
+  pub delete_told : (table : NameRule) (cond : Option WhereRule) → stmt build count long (write_stmt (DeleteRule table cond)) ≡ Some (stmt_with build count long (stmt_of (DeleteRule table cond)), [])
   unfolding stmt delete is_key
   delete_told table cond =
       then_told _ _ _ _ (name_told table (write_behind write_where (word.Where ∷ []) cond []))
-      (then_told _ _ _ _ (optional_told write_where where_of (cond_with number) (where_cond number) (where_told number) (where_longer number) word.Where cond [] refl refl) refl)
+      (then_told _ _ _ _ (optional_told write_where where_of (cond_with build) (where_cond build) (where_told build) (where_longer build) word.Where cond [] refl refl) refl)
 
-  set_told : (d : NameRule × ExprRule) (rest : List Token) → IsEnd rest → set number (write_set d rest) ≡ Some (set_with number count long (set_of d), rest)
+  set_told : (d : NameRule × ExprRule) (rest : List Token) → IsEnd rest → set build (write_set d rest) ≡ Some (set_with build count long (set_of d), rest)
   unfolding set is_symbol
   set_told d rest h =
       then_told _ _ _ _ (name_told d.0 (sign symbol.Equal ∷ write_expr d.1 rest))
-      (then_told _ _ _ _ (whole_told number d.1 rest (end_expr rest h)) refl)
+      (then_told _ _ _ _ (whole_told build d.1 rest (end_expr rest h)) refl)
 
   set_longer : (d : NameRule × ExprRule) (rest : List Token) → length rest < length (write_set d rest)
   set_longer d rest =
@@ -136,11 +136,11 @@ module _ (number : ℤ → Cell) (count : ℕ → ℕ) (long : ℕ → ℕ) wher
       let b = name_longer d.0 (sign symbol.Equal ∷ write_expr d.1 rest) in
       omega (arith, a, b)
 
-  pub update_told : (table : NameRule) (sets : (NameRule × ExprRule) × List (NameRule × ExprRule)) (cond : Option WhereRule) → stmt number count long (write_stmt (UpdateRule table sets cond)) ≡ Some (stmt_with number count long (stmt_of (UpdateRule table sets cond)), [])
+  pub update_told : (table : NameRule) (sets : (NameRule × ExprRule) × List (NameRule × ExprRule)) (cond : Option WhereRule) → stmt build count long (write_stmt (UpdateRule table sets cond)) ≡ Some (stmt_with build count long (stmt_of (UpdateRule table sets cond)), [])
   unfolding stmt update is_key
   update_told table sets cond =
       let behind = write_behind write_where (word.Where ∷ []) cond [] in
       let past : IsPast 0 behind = where_past write_where cond [] (omega arith) in
       then_told _ _ _ _ (name_told table (Key word.Set ∷ write_some write_set sets behind))
-      (then_told _ _ _ _ (listed_told write_set set_of (set_with number count long) (set number) set_told set_longer sets behind (past_end (first_token behind) past) (past_no_comma (first_token behind) past))
-      (then_told _ _ _ _ (optional_told write_where where_of (cond_with number) (where_cond number) (where_told number) (where_longer number) word.Where cond [] refl refl) refl))
+      (then_told _ _ _ _ (listed_told write_set set_of (set_with build count long) (set build) set_told set_longer sets behind (past_end (first_token behind) past) (past_no_comma (first_token behind) past))
+      (then_told _ _ _ _ (optional_told write_where where_of (cond_with build) (where_cond build) (where_told build) (where_longer build) word.Where cond [] refl refl) refl))

@@ -1,13 +1,14 @@
 -- What the functions that read statements compute, on plain lists of tokens: a definition for each. The
 -- public clauses don't speak of these.
-use Rattle.std.specs.Prelude.{ℕ, zero, suc, List, [], ◌∷◌, ◌++◌, length, Bool, true, false, bytes_eq, codes, if◌then◌else◌, Option, Some, None, ℤ, pos}
+use Rattle.std.specs.Prelude.{ℕ, zero, suc, List, [], ◌∷◌, ◌++◌, length, Bool, true, false, bytes_eq, codes, if◌then◌else◌, Option, Some, None, pos}
 use Rattle.cell_core.specs.declared.cell.Cell.{Cell}
 use Rattle.cell_core.specs.declared.cell.Cell.TheVariants as cell
 use Rattle.cell_core.specs.declared.cell.Kind.{Kind}
 use Rattle.cell_core.specs.declared.cell.Kind.TheVariants as kind
 use Rattle.cell_core.specs.declared.table.Column.{Column}
 use Rattle.sql_grammar.specs.Grammar.{number_of, negative_of}
-use Rattle.sql_grammar.specs.Statements.{and_also, length_of}
+use Rattle.sql_grammar.specs.Statements.{length_of}
+use Rattle.sql_reader.specs.Bounded.{Builder}
 use Rattle.sql_reader.specs.Chain.{Found, Parser, first_token, after_first, then_read, given, chain}
 use Rattle.sql_reader.specs.CondReader.{whole_expr, value, whole_cond}
 use Rattle.sql_reader.specs.Parts.{is_key, is_symbol, behind_key, behind_symbol, comma_in}
@@ -122,14 +123,14 @@ day_literal tokens = then_read (text_in (first_token tokens)) (λ text. then_rea
 unfoldable pub names : Parser (List (List ℕ))
 names tokens = if is_symbol symbol.Open (first_token tokens) then enclosed name tokens else Some ([], tokens)
 
-module _ (number : ℤ → Cell) where
+module _ (build : Builder) where
   -- the digits behind a `-`
   unfoldable pub negative_literal : Parser Cell
-  negative_literal tokens = then_read (digits_in (first_token tokens)) (λ digits. Some (number (negative_of digits), after_first tokens))
+  negative_literal tokens = then_read (digits_in (first_token tokens)) (λ digits. Some (build.number (negative_of digits), after_first tokens))
 
   -- the literal that begins with the token
   abbrev pub literal_at : Option Token → Parser Cell
-  literal_at (Some (Digits digits)) rest = Some (number (pos (number_of digits)), rest)
+  literal_at (Some (Digits digits)) rest = Some (build.number (pos (number_of digits)), rest)
   literal_at (Some (Text text)) rest = Some (cell.Text text, rest)
   literal_at (Some (Key word.Date)) rest = day_literal rest
   literal_at (Some (token.Symbol symbol.Minus)) rest = negative_literal rest
@@ -154,7 +155,7 @@ module _ (number : ℤ → Cell) where
 
   -- a condition over expressions
   unfoldable pub where_cond : Parser CondTree
-  where_cond = whole_cond (whole_expr number)
+  where_cond = whole_cond build (whole_expr build)
 
   -- what follows DELETE
   unfoldable pub delete : Parser StmtTree
@@ -168,7 +169,7 @@ module _ (number : ℤ → Cell) where
   unfoldable pub set : Parser (List ℕ × ExprTree)
   set tokens =
       then_read (name tokens) (λ column.
-      behind_symbol symbol.Equal (λ tokens. then_read (whole_expr number tokens) (λ e. Some ((column.0, e.0), e.1))) column.1)
+      behind_symbol symbol.Equal (λ tokens. then_read (whole_expr build tokens) (λ e. Some ((column.0, e.0), e.1))) column.1)
 
   -- what follows UPDATE
   unfoldable pub update : Parser StmtTree
@@ -195,9 +196,10 @@ source tokens = then_read (name tokens) (λ table. then_read (alias table.1) (λ
 abbrev pub Sources : Type 0
 Sources = List FromItem × Option CondTree
 
-abbrev pub also : Option CondTree → Option CondTree → Option CondTree
-also so_far None = so_far
-also so_far (Some cond) = and_also so_far cond
+abbrev pub also : Builder → Option CondTree → Option CondTree → Option CondTree
+also build so_far None = so_far
+also build None (Some cond) = Some cond
+also build (Some so_far) (Some cond) = Some (build.both so_far cond)
 
 -- what joins a source to those before it
 abbrev pub joint_in : Option Token → Option Joint
@@ -206,8 +208,8 @@ joint_in (Some (Key word.Inner)) = Some joint.Inner
 joint_in (Some (Key word.Join)) = Some joint.Join
 joint_in other = None
 
-abbrev pub with_source : Sources → FromItem × Option CondTree → Sources
-with_source so_far next = (so_far.0 ++ next.0 ∷ [], also so_far.1 next.1)
+abbrev pub with_source : Builder → Sources → FromItem × Option CondTree → Sources
+with_source build so_far next = (so_far.0 ++ next.0 ∷ [], also build so_far.1 next.1)
 
 -- [ASC | DESC], and whether low values come first
 unfoldable pub ascending : Parser Bool
@@ -215,12 +217,12 @@ ascending tokens =
     if is_key word.Desc (first_token tokens) then Some (false, after_first tokens)
     else (if is_key word.Asc (first_token tokens) then Some (true, after_first tokens) else Some (true, tokens))
 
-module _ (number : ℤ → Cell) where
+module _ (build : Builder) where
   -- source ON cond
   unfoldable pub source_on : Parser (FromItem × Option CondTree)
   source_on tokens =
       then_read (source tokens) (λ source.
-      behind_key word.On (λ tokens. then_read (where_cond number tokens) (λ cond. Some ((source.0, Some cond.0), cond.1))) source.1)
+      behind_key word.On (λ tokens. then_read (where_cond build tokens) (λ cond. Some ((source.0, Some cond.0), cond.1))) source.1)
 
   -- what follows "," or [INNER] JOIN
   unfoldable pub joined : Joint → Parser (FromItem × Option CondTree)
@@ -232,7 +234,7 @@ module _ (number : ℤ → Cell) where
   unfoldable pub joins : ℕ → Sources → Parser Sources
   joins zero so_far tokens = Some (so_far, tokens)
   joins (suc n) so_far tokens =
-      given (joint_in (first_token tokens)) (Some (so_far, tokens)) (λ j. then_read (joined j (after_first tokens)) (λ next. joins n (with_source so_far next.0) next.1))
+      given (joint_in (first_token tokens)) (Some (so_far, tokens)) (λ j. then_read (joined j (after_first tokens)) (λ next. joins n (with_source build so_far next.0) next.1))
 
   -- source {"," source | [INNER] JOIN source ON cond}
   unfoldable pub sources : Parser Sources
@@ -240,7 +242,7 @@ module _ (number : ℤ → Cell) where
 
   -- item = (expr | agg) [[AS] name]
   unfoldable pub item : Parser ItemTree
-  item tokens = then_read (value number tokens) (λ e. then_read (alias e.1) (λ alias. Some (record { expr = e.0; alias = alias.0 }, alias.1)))
+  item tokens = then_read (value build tokens) (λ e. then_read (alias e.1) (λ alias. Some (record { expr = e.0; alias = alias.0 }, alias.1)))
 
   -- "*" | item {"," item}
   unfoldable pub items : Parser (List ItemTree)
@@ -248,7 +250,7 @@ module _ (number : ℤ → Cell) where
 
   -- a condition of HAVING
   unfoldable pub having_cond : Parser CondTree
-  having_cond = whole_cond (value number)
+  having_cond = whole_cond build (value build)
 
   module _ (count : ℕ → ℕ) where
     -- digits, as a count
@@ -267,7 +269,7 @@ module _ (number : ℤ → Cell) where
     unfoldable pub from : Bool → List ItemTree → Parser QueryTree
     from distinct items tokens =
         then_read (sources tokens) (λ sources.
-        then_read (optional word.Where (where_cond number) sources.1) (λ cond.
+        then_read (optional word.Where (where_cond build) sources.1) (λ cond.
         then_read (listed_by word.Group column cond.1) (λ groups.
         then_read (optional word.Having having_cond groups.1) (λ having.
         then_read (listed_by word.Order key having.1) (λ keys.
@@ -277,7 +279,7 @@ module _ (number : ℤ → Cell) where
             distinct = distinct;
             items = items;
             froms = sources.0.0;
-            cond = also sources.0.1 cond.0;
+            cond = also build sources.0.1 cond.0;
             groups = groups.0;
             having = having.0;
             keys = keys.0;
@@ -305,9 +307,9 @@ module _ (number : ℤ → Cell) where
       abbrev pub stmt_at : Option Token → Parser StmtTree
       stmt_at (Some (Key word.Create)) rest = create long rest
       stmt_at (Some (Key word.Drop)) rest = drop_table rest
-      stmt_at (Some (Key word.Insert)) rest = insert number rest
-      stmt_at (Some (Key word.Delete)) rest = delete number rest
-      stmt_at (Some (Key word.Update)) rest = update number rest
+      stmt_at (Some (Key word.Insert)) rest = insert build rest
+      stmt_at (Some (Key word.Delete)) rest = delete build rest
+      stmt_at (Some (Key word.Update)) rest = update build rest
       stmt_at (Some (Key word.Select)) rest = then_read (query rest) (λ query. Some (Select query.0, query.1))
       stmt_at (Some (Key word.Explain)) rest = explain rest
       stmt_at other rest = None

@@ -3,7 +3,7 @@ ghost use Rattle.std.specs.Option.{option_map};
 ghost use Rattle.sql_grammar.specs.Reads.{tokens_in};
 ghost use Rattle.sql_tree.specs.Tree.{cond_tree, set_tree, stmt_tree};
 ghost use Rattle.sql_tree.specs.declared.token.Keyword.TheVariants as word;
-ghost use Rattle.sql_reader.specs.Derived.{number_cell};
+ghost use Rattle.sql_reader.specs.Bounded.{bounded};
 ghost use Rattle.sql_statements.specs.Reader as reader;
 
 use crate::part::name;
@@ -15,10 +15,10 @@ use std::alloc::Global;
 /// What follows DELETE: FROM, a table and a condition or none.
 #[tactic(auto, unfolding(crate::specs::Reader::delete))]
 pub(crate) fn delete(alloc: Global, tokens: &mut Cursor<'_>) -> Result<Stmt, ReadError>
-    ensures found { IfOk result (λ statement. reader.delete number_cell
+    ensures found { IfOk result (λ statement. reader.delete bounded
         (tokens_in tokens.old.rest.now) ≡ Some (stmt_tree statement, tokens_in tokens.new.rest.now)) }
     ensures none { IsErrOf result ReadError.Syntax →
-        reader.delete number_cell (tokens_in tokens.old.rest.now) ≡ None }
+        reader.delete bounded (tokens_in tokens.old.rest.now) ≡ None }
 {
     tokens.key(Keyword::From)?;
     let table = name(tokens)?;
@@ -29,10 +29,10 @@ pub(crate) fn delete(alloc: Global, tokens: &mut Cursor<'_>) -> Result<Stmt, Rea
 /// What follows UPDATE: a table, SET, what is set, and a condition or none.
 #[tactic(auto, unfolding(crate::specs::Reader::update))]
 pub(crate) fn update(alloc: Global, tokens: &mut Cursor<'_>) -> Result<Stmt, ReadError>
-    ensures found { IfOk result (λ statement. reader.update number_cell
+    ensures found { IfOk result (λ statement. reader.update bounded
         (tokens_in tokens.old.rest.now) ≡ Some (stmt_tree statement, tokens_in tokens.new.rest.now)) }
     ensures none { IsErrOf result ReadError.Syntax →
-        reader.update number_cell (tokens_in tokens.old.rest.now) ≡ None }
+        reader.update bounded (tokens_in tokens.old.rest.now) ≡ None }
 {
     let table = name(tokens)?;
     tokens.key(Keyword::Set)?;
@@ -44,10 +44,10 @@ pub(crate) fn update(alloc: Global, tokens: &mut Cursor<'_>) -> Result<Stmt, Rea
 /// One set or more, with commas between them.
 #[tactic(auto, unfolding(crate::specs::Reader::listed), using(crate::proofs::ListLemmas::map_one))]
 fn sets(alloc: Global, tokens: &mut Cursor<'_>) -> Result<Sequence<(Word, Expr)>, ReadError>
-    ensures found { IfOk result (λ sets. reader.listed (reader.set number_cell)
+    ensures found { IfOk result (λ sets. reader.listed (reader.set bounded)
         (tokens_in tokens.old.rest.now) ≡ Some (map set_tree sets, tokens_in tokens.new.rest.now)) }
     ensures none { IsErrOf result ReadError.Syntax →
-        reader.listed (reader.set number_cell) (tokens_in tokens.old.rest.now) ≡ None }
+        reader.listed (reader.set bounded) (tokens_in tokens.old.rest.now) ≡ None }
 {
     let first = set(alloc, tokens)?;
     let mut sets = Sequence::new(alloc);
@@ -66,10 +66,10 @@ fn sets(alloc: Global, tokens: &mut Cursor<'_>) -> Result<Sequence<(Word, Expr)>
 /// A column, `=` and its value.
 #[tactic(auto, unfolding(crate::specs::Reader::set))]
 fn set(alloc: Global, tokens: &mut Cursor<'_>) -> Result<(Word, Expr), ReadError>
-    ensures found { IfOk result (λ set. reader.set number_cell (tokens_in tokens.old.rest.now)
+    ensures found { IfOk result (λ set. reader.set bounded (tokens_in tokens.old.rest.now)
         ≡ Some (set_tree set, tokens_in tokens.new.rest.now)) }
     ensures none { IsErrOf result ReadError.Syntax →
-        reader.set number_cell (tokens_in tokens.old.rest.now) ≡ None }
+        reader.set bounded (tokens_in tokens.old.rest.now) ≡ None }
 {
     let column = name(tokens)?;
     tokens.symbol(Symbol::Equal)?;
@@ -80,11 +80,11 @@ fn set(alloc: Global, tokens: &mut Cursor<'_>) -> Result<(Word, Expr), ReadError
 /// The condition behind WHERE, or none.
 #[tactic(auto, unfolding(crate::specs::Reader::where_cond))]
 pub(crate) fn where_cond(alloc: Global, tokens: &mut Cursor<'_>) -> Result<Option<Cond>, ReadError>
-    ensures found { IfOk result (λ cond. reader.optional word.Where (reader.where_cond number_cell)
+    ensures found { IfOk result (λ cond. reader.optional word.Where (reader.where_cond bounded)
         (tokens_in tokens.old.rest.now)
         ≡ Some (option_map cond_tree cond, tokens_in tokens.new.rest.now)) }
     ensures none { IsErrOf result ReadError.Syntax →
-        reader.optional word.Where (reader.where_cond number_cell)
+        reader.optional word.Where (reader.where_cond bounded)
         (tokens_in tokens.old.rest.now) ≡ None }
 {
     if !is_key(tokens.peek(), Keyword::Where) {

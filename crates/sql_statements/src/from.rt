@@ -2,12 +2,12 @@ ghost use Rattle.std.specs.Prelude.{◌≡◌, ◌∷◌, [], List, Some, None, 
 ghost use Rattle.std.specs.Option.{option_map};
 ghost use Rattle.sql_grammar.specs.Reads.{tokens_in};
 ghost use Rattle.sql_tree.specs.Tree.{cond_tree};
-ghost use Rattle.sql_reader.specs.Derived.{number_cell};
+ghost use Rattle.sql_reader.specs.Bounded.{bounded};
 ghost use Rattle.sql_statements.specs.Reader as reader;
 
 use crate::part::name;
 use cell_core::{Memory, Sequence, Word};
-use sql_reader::{Cursor, ReadError, is_key, whole_cond};
+use sql_reader::{Cursor, ReadError, both, is_key, whole_cond};
 use sql_tree::{Cond, FromItem, Keyword, Symbol, Token};
 use std::alloc::Global;
 
@@ -28,11 +28,11 @@ pub(crate) fn sources(
     alloc: Global,
     tokens: &mut Cursor<'_>,
 ) -> Result<(Sequence<FromItem>, Option<Cond>), ReadError>
-    ensures found { IfOk result (λ sources. reader.sources number_cell
+    ensures found { IfOk result (λ sources. reader.sources bounded
         (tokens_in tokens.old.rest.now)
         ≡ Some ((sources.0, option_map cond_tree sources.1), tokens_in tokens.new.rest.now)) }
     ensures none { IsErrOf result ReadError.Syntax →
-        reader.sources number_cell (tokens_in tokens.old.rest.now) ≡ None }
+        reader.sources bounded (tokens_in tokens.old.rest.now) ≡ None }
 {
     let first = source(tokens)?;
     let mut froms = Sequence::new(alloc);
@@ -69,11 +69,11 @@ fn joined(
     tokens: &mut Cursor<'_>,
     joint: Joint,
 ) -> Result<(FromItem, Option<Cond>), ReadError>
-    ensures found { IfOk result (λ next. reader.joined number_cell joint
+    ensures found { IfOk result (λ next. reader.joined bounded joint
         (tokens_in tokens.old.rest.now)
         ≡ Some ((next.0, option_map cond_tree next.1), tokens_in tokens.new.rest.now)) }
     ensures none { IsErrOf result ReadError.Syntax →
-        reader.joined number_cell joint (tokens_in tokens.old.rest.now) ≡ None }
+        reader.joined bounded joint (tokens_in tokens.old.rest.now) ≡ None }
 {
     match joint {
         Joint::Comma => {
@@ -91,11 +91,11 @@ fn joined(
 /// A source, ON and its condition.
 #[tactic(auto, unfolding(crate::specs::Reader::source_on, crate::specs::Reader::where_cond))]
 fn source_on(alloc: Global, tokens: &mut Cursor<'_>) -> Result<(FromItem, Option<Cond>), ReadError>
-    ensures found { IfOk result (λ next. reader.source_on number_cell
+    ensures found { IfOk result (λ next. reader.source_on bounded
         (tokens_in tokens.old.rest.now)
         ≡ Some ((next.0, option_map cond_tree next.1), tokens_in tokens.new.rest.now)) }
     ensures none { IsErrOf result ReadError.Syntax →
-        reader.source_on number_cell (tokens_in tokens.old.rest.now) ≡ None }
+        reader.source_on bounded (tokens_in tokens.old.rest.now) ≡ None }
 {
     let source = source(tokens)?;
     tokens.key(Keyword::On)?;
@@ -142,14 +142,11 @@ pub(crate) fn also(
     next: Option<Cond>,
 ) -> Result<Option<Cond>, Memory>
     ensures { IfOk result (λ all. option_map cond_tree all
-        ≡ reader.also (option_map cond_tree so_far) (option_map cond_tree next)) }
+        ≡ reader.also bounded (option_map cond_tree so_far) (option_map cond_tree next)) }
 {
     match (so_far, next) {
         (so_far, None) => Ok(so_far),
         (None, Some(next)) => Ok(Some(next)),
-        (Some(left), Some(right)) => Ok(Some(Cond::And(
-            Box::new(alloc, left)?,
-            Box::new(alloc, right)?,
-        ))),
+        (Some(left), Some(right)) => Ok(Some(both(alloc, left, right)?)),
     }
 }

@@ -2,9 +2,14 @@
 //!
 //! It stands on `sql_reader`, which reads expressions and conditions, and on the grammar of
 //! `sql_grammar`. The definitions in `specs/Derived` are what a reader has to believe: a statement that is
-//! read is one that the grammar's rules write with these tokens, but for numbers that don't fit their
-//! type. It promises that `read_stmt` gives the statement of the tokens exactly where they derive one,
-//! and that no tokens derive two (`one_stmt`).
+//! read is one that the grammar's rules write with these tokens, as far as it is kept. It promises that
+//! `read_stmt` gives the statement of the tokens exactly where they derive one, and that no tokens derive
+//! two (`one_stmt`).
+//!
+//! Expressions and conditions are kept as `sql_reader` keeps them: those of more than 64 and of more than
+//! 128 nodes are cut off a little past these limits, so a text of any length makes small trees. The
+//! conditions of ON and WHERE are joined under the same limit. Numbers that don't fit their type stand as
+//! Nil or as the most of the type.
 #![tactic(auto)]
 
 mod change;

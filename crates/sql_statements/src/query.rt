@@ -4,7 +4,7 @@ ghost use Rattle.sql_grammar.specs.Grammar.{number_of};
 ghost use Rattle.sql_grammar.specs.Reads.{tokens_in};
 ghost use Rattle.sql_tree.specs.Tree.{cond_tree, item_tree, query_tree};
 ghost use Rattle.sql_tree.specs.declared.token.Keyword.TheVariants as word;
-ghost use Rattle.sql_reader.specs.Derived.{number_cell};
+ghost use Rattle.sql_reader.specs.Bounded.{bounded};
 ghost use Rattle.sql_statements.specs.Derived.{count_64};
 ghost use Rattle.sql_statements.specs.Reader as reader;
 
@@ -21,10 +21,10 @@ use std::alloc::Global;
 /// What follows SELECT.
 #[tactic(auto, unfolding(crate::specs::Reader::query))]
 pub(crate) fn query(alloc: Global, tokens: &mut Cursor<'_>) -> Result<Query, ReadError>
-    ensures found { IfOk result (λ query. reader.query number_cell count_64
+    ensures found { IfOk result (λ query. reader.query bounded count_64
         (tokens_in tokens.old.rest.now) ≡ Some (query_tree query, tokens_in tokens.new.rest.now)) }
     ensures none { IsErrOf result ReadError.Syntax →
-        reader.query number_cell count_64 (tokens_in tokens.old.rest.now) ≡ None }
+        reader.query bounded count_64 (tokens_in tokens.old.rest.now) ≡ None }
 {
     let distinct = takes(tokens, Keyword::Distinct);
     let items = items(alloc, tokens)?;
@@ -40,10 +40,10 @@ fn optional_from(
     items: Sequence<Item>,
 ) -> Result<Query, ReadError>
     ensures found { IfOk result (λ query.
-        reader.optional_from number_cell count_64 distinct (map item_tree items)
+        reader.optional_from bounded count_64 distinct (map item_tree items)
         (tokens_in tokens.old.rest.now) ≡ Some (query_tree query, tokens_in tokens.new.rest.now)) }
     ensures none { IsErrOf result ReadError.Syntax →
-        reader.optional_from number_cell count_64 distinct (map item_tree items)
+        reader.optional_from bounded count_64 distinct (map item_tree items)
         (tokens_in tokens.old.rest.now) ≡ None }
 {
     if takes(tokens, Keyword::From) {
@@ -70,10 +70,10 @@ fn from(
     items: Sequence<Item>,
 ) -> Result<Query, ReadError>
     ensures found { IfOk result (λ query.
-        reader.from number_cell count_64 distinct (map item_tree items)
+        reader.from bounded count_64 distinct (map item_tree items)
         (tokens_in tokens.old.rest.now) ≡ Some (query_tree query, tokens_in tokens.new.rest.now)) }
     ensures none { IsErrOf result ReadError.Syntax →
-        reader.from number_cell count_64 distinct (map item_tree items)
+        reader.from bounded count_64 distinct (map item_tree items)
         (tokens_in tokens.old.rest.now) ≡ None }
 {
     let (froms, on) = sources(alloc, tokens)?;
@@ -111,10 +111,10 @@ fn takes(tokens: &mut Cursor<'_>, word: Keyword) -> bool
 /// The items, none for `*`.
 #[tactic(auto, unfolding(crate::specs::Reader::items))]
 fn items(alloc: Global, tokens: &mut Cursor<'_>) -> Result<Sequence<Item>, ReadError>
-    ensures found { IfOk result (λ items. reader.items number_cell (tokens_in tokens.old.rest.now)
+    ensures found { IfOk result (λ items. reader.items bounded (tokens_in tokens.old.rest.now)
         ≡ Some (map item_tree items, tokens_in tokens.new.rest.now)) }
     ensures none { IsErrOf result ReadError.Syntax →
-        reader.items number_cell (tokens_in tokens.old.rest.now) ≡ None }
+        reader.items bounded (tokens_in tokens.old.rest.now) ≡ None }
 {
     if is_symbol(tokens.peek(), Symbol::Star) {
         tokens.advance();
@@ -126,11 +126,11 @@ fn items(alloc: Global, tokens: &mut Cursor<'_>) -> Result<Sequence<Item>, ReadE
 /// One item or more, with commas between them.
 #[tactic(auto, unfolding(crate::specs::Reader::listed), using(crate::proofs::ListLemmas::map_one))]
 fn some_items(alloc: Global, tokens: &mut Cursor<'_>) -> Result<Sequence<Item>, ReadError>
-    ensures found { IfOk result (λ items. reader.listed (reader.item number_cell)
+    ensures found { IfOk result (λ items. reader.listed (reader.item bounded)
         (tokens_in tokens.old.rest.now)
         ≡ Some (map item_tree items, tokens_in tokens.new.rest.now)) }
     ensures none { IsErrOf result ReadError.Syntax →
-        reader.listed (reader.item number_cell) (tokens_in tokens.old.rest.now) ≡ None }
+        reader.listed (reader.item bounded) (tokens_in tokens.old.rest.now) ≡ None }
 {
     let first = item(alloc, tokens)?;
     let mut items = Sequence::new(alloc);
@@ -149,10 +149,10 @@ fn some_items(alloc: Global, tokens: &mut Cursor<'_>) -> Result<Sequence<Item>, 
 /// An item, with a name or without.
 #[tactic(auto, unfolding(crate::specs::Reader::item))]
 fn item(alloc: Global, tokens: &mut Cursor<'_>) -> Result<Item, ReadError>
-    ensures found { IfOk result (λ item. reader.item number_cell (tokens_in tokens.old.rest.now)
+    ensures found { IfOk result (λ item. reader.item bounded (tokens_in tokens.old.rest.now)
         ≡ Some (item_tree item, tokens_in tokens.new.rest.now)) }
     ensures none { IsErrOf result ReadError.Syntax →
-        reader.item number_cell (tokens_in tokens.old.rest.now) ≡ None }
+        reader.item bounded (tokens_in tokens.old.rest.now) ≡ None }
 {
     let expr = value(alloc, tokens)?;
     let alias = alias(tokens)?;
@@ -163,10 +163,10 @@ fn item(alloc: Global, tokens: &mut Cursor<'_>) -> Result<Item, ReadError>
 #[tactic(auto, unfolding(crate::specs::Reader::having_cond))]
 fn having(alloc: Global, tokens: &mut Cursor<'_>) -> Result<Option<Cond>, ReadError>
     ensures found { IfOk result (λ cond.
-        reader.optional word.Having (reader.having_cond number_cell) (tokens_in tokens.old.rest.now)
+        reader.optional word.Having (reader.having_cond bounded) (tokens_in tokens.old.rest.now)
         ≡ Some (option_map cond_tree cond, tokens_in tokens.new.rest.now)) }
     ensures none { IsErrOf result ReadError.Syntax →
-        reader.optional word.Having (reader.having_cond number_cell)
+        reader.optional word.Having (reader.having_cond bounded)
         (tokens_in tokens.old.rest.now) ≡ None }
 {
     if !is_key(tokens.peek(), Keyword::Having) {
@@ -179,10 +179,10 @@ fn having(alloc: Global, tokens: &mut Cursor<'_>) -> Result<Option<Cond>, ReadEr
 /// The most rows behind LIMIT, or none.
 #[tactic(auto, unfolding(crate::specs::Reader::counted))]
 fn limit(tokens: &mut Cursor<'_>) -> Result<Option<u64>, ReadError>
-    ensures found { IfOk result (λ limit. reader.optional word.Limit (reader.counted number_cell count_64)
+    ensures found { IfOk result (λ limit. reader.optional word.Limit (reader.counted bounded count_64)
         (tokens_in tokens.old.rest.now) ≡ Some (limit, tokens_in tokens.new.rest.now)) }
     ensures none { IsErrOf result ReadError.Syntax →
-        reader.optional word.Limit (reader.counted number_cell count_64)
+        reader.optional word.Limit (reader.counted bounded count_64)
         (tokens_in tokens.old.rest.now) ≡ None }
 {
     if !is_key(tokens.peek(), Keyword::Limit) {
@@ -198,10 +198,10 @@ fn limit(tokens: &mut Cursor<'_>) -> Result<Option<u64>, ReadError>
 /// A key of ORDER BY.
 #[tactic(auto, unfolding(crate::specs::Reader::key))]
 fn sort_key(tokens: &mut Cursor<'_>) -> Result<SortKey, ReadError>
-    ensures found { IfOk result (λ key. reader.key number_cell count_64
+    ensures found { IfOk result (λ key. reader.key bounded count_64
         (tokens_in tokens.old.rest.now) ≡ Some (key, tokens_in tokens.new.rest.now)) }
     ensures none { IsErrOf result ReadError.Syntax →
-        reader.key number_cell count_64 (tokens_in tokens.old.rest.now) ≡ None }
+        reader.key bounded count_64 (tokens_in tokens.old.rest.now) ≡ None }
 {
     let at = place(tokens)?;
     let ascending = ascending(tokens);
@@ -211,10 +211,10 @@ fn sort_key(tokens: &mut Cursor<'_>) -> Result<SortKey, ReadError>
 /// What a key sorts by: a position or a column.
 #[tactic(auto, unfolding(crate::specs::Reader::place))]
 fn place(tokens: &mut Cursor<'_>) -> Result<Place, ReadError>
-    ensures found { IfOk result (λ place. reader.place number_cell count_64
+    ensures found { IfOk result (λ place. reader.place bounded count_64
         (tokens_in tokens.old.rest.now) ≡ Some (place, tokens_in tokens.new.rest.now)) }
     ensures none { IsErrOf result ReadError.Syntax →
-        reader.place number_cell count_64 (tokens_in tokens.old.rest.now) ≡ None }
+        reader.place bounded count_64 (tokens_in tokens.old.rest.now) ≡ None }
 {
     if let Some(digits) = digits(tokens.peek()) {
         let position = count(digits);
@@ -251,7 +251,7 @@ fn count(digits: &Word) -> u64
 }
 
 impl Part for SortKey {
-    ghost reader = { reader.key number_cell count_64 };
+    ghost reader = { reader.key bounded count_64 };
 
     fn read(alloc: Global, tokens: &mut Cursor<'_>) -> Result<SortKey, ReadError> {
         sort_key(tokens)

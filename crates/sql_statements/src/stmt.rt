@@ -2,7 +2,7 @@ ghost use Rattle.std.specs.Prelude.{◌≡◌, Some, None, IfOk, IsErrOf};
 ghost use Rattle.sql_grammar.specs.Reads.{tokens_in};
 ghost use Rattle.sql_grammar.specs.Statements.{Derives};
 ghost use Rattle.sql_tree.specs.Tree.{StmtTree, stmt_tree};
-ghost use Rattle.sql_reader.specs.Derived.{number_cell};
+ghost use Rattle.sql_reader.specs.Bounded.{bounded};
 ghost use Rattle.sql_statements.specs.Derived.{IsReadStmt, count_64, length_32};
 ghost use Rattle.sql_statements.specs.Reader as reader;
 
@@ -17,8 +17,10 @@ use std::alloc::Global;
 /// The statement that the tokens are, all of them.
 ///
 /// A literal outside the signed 64-bit range stands as Nil, which no literal gives; a position of ORDER
-/// BY, a LIMIT or a length that doesn't fit stands as the most of its type. The limits of these are a
-/// step of its own.
+/// BY, a LIMIT or a length that doesn't fit stands as the most of its type. An expression of more than 64
+/// nodes and a condition of more than 128 stand cut off a little past these limits, with a sign of each of
+/// these in what is left out: a column, a Nil, arithmetic over columns. The limits of all these are a step
+/// of its own.
 pub fn read_stmt(alloc: Global, tokens: &[Placed]) -> Result<Stmt, ReadError>
     ensures statement { IfOk result (λ s. IsReadStmt (tokens_in tokens.now) (stmt_tree s)) }
     ensures none { IsErrOf result ReadError.Syntax →
@@ -33,10 +35,10 @@ pub fn read_stmt(alloc: Global, tokens: &[Placed]) -> Result<Stmt, ReadError>
 /// A statement.
 #[tactic(auto, unfolding(crate::specs::Reader::stmt))]
 fn stmt(alloc: Global, tokens: &mut Cursor<'_>) -> Result<Stmt, ReadError>
-    ensures found { IfOk result (λ s. reader.stmt number_cell count_64 length_32
+    ensures found { IfOk result (λ s. reader.stmt bounded count_64 length_32
         (tokens_in tokens.old.rest.now) ≡ Some (stmt_tree s, tokens_in tokens.new.rest.now)) }
     ensures none { IsErrOf result ReadError.Syntax →
-        reader.stmt number_cell count_64 length_32 (tokens_in tokens.old.rest.now) ≡ None }
+        reader.stmt bounded count_64 length_32 (tokens_in tokens.old.rest.now) ≡ None }
 {
     match tokens.next() {
         Some(Token::Key(Keyword::Create)) => create(alloc, tokens),
@@ -53,10 +55,10 @@ fn stmt(alloc: Global, tokens: &mut Cursor<'_>) -> Result<Stmt, ReadError>
 /// What follows EXPLAIN: a query.
 #[tactic(auto, unfolding(crate::specs::Reader::explain))]
 fn explain(alloc: Global, tokens: &mut Cursor<'_>) -> Result<Stmt, ReadError>
-    ensures found { IfOk result (λ s. reader.explain number_cell count_64
+    ensures found { IfOk result (λ s. reader.explain bounded count_64
         (tokens_in tokens.old.rest.now) ≡ Some (stmt_tree s, tokens_in tokens.new.rest.now)) }
     ensures none { IsErrOf result ReadError.Syntax →
-        reader.explain number_cell count_64 (tokens_in tokens.old.rest.now) ≡ None }
+        reader.explain bounded count_64 (tokens_in tokens.old.rest.now) ≡ None }
 {
     tokens.key(Keyword::Select)?;
     Ok(Stmt::Explain(query(alloc, tokens)?))

@@ -1,7 +1,7 @@
 ghost use Rattle.std.specs.Prelude.{◌≡◌, Some, None, IfOk, IsErrOf};
 ghost use Rattle.sql_grammar.specs.Reads.{tokens_in};
 ghost use Rattle.sql_tree.specs.Tree.{stmt_tree};
-ghost use Rattle.sql_reader.specs.Derived.{number_cell};
+ghost use Rattle.sql_reader.specs.Bounded.{bounded};
 ghost use Rattle.sql_statements.specs.Reader as reader;
 
 use crate::part::{Part, enclosed, listed, name};
@@ -13,10 +13,10 @@ use std::alloc::Global;
 /// What follows INSERT: INTO, a table, its columns or none, VALUES and rows.
 #[tactic(auto, unfolding(crate::specs::Reader::insert))]
 pub(crate) fn insert(alloc: Global, tokens: &mut Cursor<'_>) -> Result<Stmt, ReadError>
-    ensures found { IfOk result (λ statement. reader.insert number_cell
+    ensures found { IfOk result (λ statement. reader.insert bounded
         (tokens_in tokens.old.rest.now) ≡ Some (stmt_tree statement, tokens_in tokens.new.rest.now)) }
     ensures none { IsErrOf result ReadError.Syntax →
-        reader.insert number_cell (tokens_in tokens.old.rest.now) ≡ None }
+        reader.insert bounded (tokens_in tokens.old.rest.now) ≡ None }
 {
     tokens.key(Keyword::Into)?;
     let table = name(tokens)?;
@@ -47,10 +47,10 @@ fn names(alloc: Global, tokens: &mut Cursor<'_>) -> Result<Sequence<Word>, ReadE
 /// A row: literals in parentheses.
 #[tactic(auto, unfolding(crate::specs::Reader::row))]
 fn row(alloc: Global, tokens: &mut Cursor<'_>) -> Result<Sequence<Cell>, ReadError>
-    ensures found { IfOk result (λ row. reader.row number_cell (tokens_in tokens.old.rest.now)
+    ensures found { IfOk result (λ row. reader.row bounded (tokens_in tokens.old.rest.now)
         ≡ Some (row, tokens_in tokens.new.rest.now)) }
     ensures none { IsErrOf result ReadError.Syntax →
-        reader.row number_cell (tokens_in tokens.old.rest.now) ≡ None }
+        reader.row bounded (tokens_in tokens.old.rest.now) ≡ None }
 {
     enclosed(alloc, tokens)
 }
@@ -58,10 +58,10 @@ fn row(alloc: Global, tokens: &mut Cursor<'_>) -> Result<Sequence<Cell>, ReadErr
 /// A literal: digits, digits behind a `-`, a string, or DATE and a string that names a day.
 #[tactic(auto, unfolding(crate::specs::Reader::literal))]
 fn literal(tokens: &mut Cursor<'_>) -> Result<Cell, ReadError>
-    ensures found { IfOk result (λ literal. reader.literal number_cell
+    ensures found { IfOk result (λ literal. reader.literal bounded
         (tokens_in tokens.old.rest.now) ≡ Some (literal, tokens_in tokens.new.rest.now)) }
     ensures none { IsErrOf result ReadError.Syntax →
-        reader.literal number_cell (tokens_in tokens.old.rest.now) ≡ None }
+        reader.literal bounded (tokens_in tokens.old.rest.now) ≡ None }
 {
     match tokens.next() {
         Some(Token::Digits(digits)) => Ok(plain_number(digits.text())),
@@ -75,10 +75,10 @@ fn literal(tokens: &mut Cursor<'_>) -> Result<Cell, ReadError>
 /// The digits behind a `-`.
 #[tactic(auto, unfolding(crate::specs::Reader::negative_literal))]
 fn negative_literal(tokens: &mut Cursor<'_>) -> Result<Cell, ReadError>
-    ensures found { IfOk result (λ literal. reader.negative_literal number_cell
+    ensures found { IfOk result (λ literal. reader.negative_literal bounded
         (tokens_in tokens.old.rest.now) ≡ Some (literal, tokens_in tokens.new.rest.now)) }
     ensures none { IsErrOf result ReadError.Syntax →
-        reader.negative_literal number_cell (tokens_in tokens.old.rest.now) ≡ None }
+        reader.negative_literal bounded (tokens_in tokens.old.rest.now) ≡ None }
 {
     let Some(digits) = digits(tokens.next()) else {
         return Err(ReadError::Syntax);
@@ -104,7 +104,7 @@ fn day_literal(tokens: &mut Cursor<'_>) -> Result<Cell, ReadError>
 }
 
 impl Part for Cell {
-    ghost reader = { reader.literal number_cell };
+    ghost reader = { reader.literal bounded };
 
     fn read(alloc: Global, tokens: &mut Cursor<'_>) -> Result<Cell, ReadError> {
         literal(tokens)
@@ -112,7 +112,7 @@ impl Part for Cell {
 }
 
 impl Part for Sequence<Cell> {
-    ghost reader = { reader.row number_cell };
+    ghost reader = { reader.row bounded };
 
     fn read(alloc: Global, tokens: &mut Cursor<'_>) -> Result<Sequence<Cell>, ReadError> {
         row(alloc, tokens)

@@ -2,7 +2,7 @@ use Rattle.std.proofs.Common.{◌≡◌, ◌+◌, ◌-◌, ◌*◌}
 use Rattle.sql_grammar.specs.Reads.{tokens_in}
 use Rattle.sql_tree.specs.Tree.{cond_tree}
 use Rattle.sql_reader.specs.Chain.{chain}
-use Rattle.sql_reader.specs.Derived.{number_cell}
+use Rattle.sql_reader.specs.Bounded.{bounded}
 use Rattle.sql_reader.specs.CondReader as reader
 use Rattle.sql_reader.proofs.conditions.+cond.Given as goal
 
@@ -23,10 +23,10 @@ decreases-unit l = 5 * l.depth + 1
 
 abbrev pub invariant-cond-conjs : goal.invariant-cond-conjs
 invariant-cond-conjs l =
-    reader.condition (reader.unit (reader.operand number_cell l.aggregates) l.depth) (tokens_in l.fn.tokens.rest.now)
-    ≡ chain reader.or_in reader.either_of (reader.conjunction (reader.unit (reader.operand number_cell l.aggregates) l.depth)) (l.turn-end - l.turn) (cond_tree l.left) (tokens_in l.tokens.rest.now)
+    reader.condition bounded (reader.unit bounded (reader.operand bounded l.aggregates) l.depth) (tokens_in l.fn.tokens.rest.now)
+    ≡ chain reader.or_in (reader.either_of bounded) (reader.conjunction bounded (reader.unit bounded (reader.operand bounded l.aggregates) l.depth)) (l.turn-end - l.turn) (cond_tree l.left) (tokens_in l.tokens.rest.now)
 
 abbrev pub invariant-conj-units : goal.invariant-conj-units
 invariant-conj-units l =
-    reader.conjunction (reader.unit (reader.operand number_cell l.aggregates) l.depth) (tokens_in l.fn.tokens.rest.now)
-    ≡ chain reader.and_in reader.both_of (reader.unit (reader.operand number_cell l.aggregates) l.depth) (l.turn-end - l.turn) (cond_tree l.left) (tokens_in l.tokens.rest.now)
+    reader.conjunction bounded (reader.unit bounded (reader.operand bounded l.aggregates) l.depth) (tokens_in l.fn.tokens.rest.now)
+    ≡ chain reader.and_in (reader.both_of bounded) (reader.unit bounded (reader.operand bounded l.aggregates) l.depth) (l.turn-end - l.turn) (cond_tree l.left) (tokens_in l.tokens.rest.now)

@@ -1,9 +1,8 @@
 use Rattle.std.proofs.Common.{◌≡◌, ◌+◌, ◌-◌, ◌*◌}
 use Rattle.sql_grammar.specs.Reads.{tokens_in}
 use Rattle.sql_tree.specs.Tree.{expr_tree}
-use Rattle.sql_tree.specs.Tree.ExprTree.{Operator}
 use Rattle.sql_reader.specs.Chain.{chain}
-use Rattle.sql_reader.specs.Derived.{number_cell}
+use Rattle.sql_reader.specs.Bounded.{bounded, bounded_operator}
 use Rattle.sql_reader.specs.Reader as reader
 use Rattle.sql_reader.proofs.expressions.+expr.Given as goal
 
@@ -24,10 +23,10 @@ decreases-term l = 4 * l.depth + 2
 
 abbrev pub invariant-expr-terms : goal.invariant-expr-terms
 invariant-expr-terms l =
-    reader.expr (reader.factor number_cell l.depth) (tokens_in l.fn.tokens.rest.now)
-    ≡ chain reader.sign_in Operator (reader.term (reader.factor number_cell l.depth)) (l.turn-end - l.turn) (expr_tree l.left) (tokens_in l.tokens.rest.now)
+    reader.expr bounded (reader.factor bounded l.depth) (tokens_in l.fn.tokens.rest.now)
+    ≡ chain reader.sign_in bounded_operator (reader.term bounded (reader.factor bounded l.depth)) (l.turn-end - l.turn) (expr_tree l.left) (tokens_in l.tokens.rest.now)
 
 abbrev pub invariant-term-factors : goal.invariant-term-factors
 invariant-term-factors l =
-    reader.term (reader.factor number_cell l.depth) (tokens_in l.fn.tokens.rest.now)
-    ≡ chain reader.star_in Operator (reader.factor number_cell l.depth) (l.turn-end - l.turn) (expr_tree l.left) (tokens_in l.tokens.rest.now)
+    reader.term bounded (reader.factor bounded l.depth) (tokens_in l.fn.tokens.rest.now)
+    ≡ chain reader.star_in bounded_operator (reader.factor bounded l.depth) (l.turn-end - l.turn) (expr_tree l.left) (tokens_in l.tokens.rest.now)

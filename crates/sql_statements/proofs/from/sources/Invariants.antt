@@ -1,12 +1,12 @@
 use Rattle.std.proofs.Common.{◌≡◌, ◌-◌}
 use Rattle.std.specs.Option.{option_map}
 use Rattle.sql_grammar.specs.Reads.{tokens_in}
-use Rattle.sql_reader.specs.Derived.{number_cell}
+use Rattle.sql_reader.specs.Bounded.{bounded}
 use Rattle.sql_tree.specs.Tree.{cond_tree}
 use Rattle.sql_statements.specs.Reader as reader
 use Rattle.sql_statements.proofs.from.sources.Given as goal
 
 abbrev pub invariant-joins : goal.invariant-joins
 invariant-joins l =
-    reader.sources number_cell (tokens_in l.fn.tokens.rest.now)
-    ≡ reader.joins number_cell (l.turn-end - l.turn) (l.froms, option_map cond_tree l.cond) (tokens_in l.tokens.rest.now)
+    reader.sources bounded (tokens_in l.fn.tokens.rest.now)
+    ≡ reader.joins bounded (l.turn-end - l.turn) (l.froms, option_map cond_tree l.cond) (tokens_in l.tokens.rest.now)

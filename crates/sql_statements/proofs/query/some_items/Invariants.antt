@@ -1,7 +1,7 @@
 use Rattle.std.proofs.Common.{◌≡◌, ◌-◌, map}
 use Rattle.sql_grammar.specs.Reads.{tokens_in}
 use Rattle.sql_reader.specs.Chain.{chain}
-use Rattle.sql_reader.specs.Derived.{number_cell}
+use Rattle.sql_reader.specs.Bounded.{bounded}
 use Rattle.sql_reader.specs.Parts.{comma_in}
 use Rattle.sql_tree.specs.Tree.{item_tree}
 use Rattle.sql_statements.specs.Reader as reader
@@ -9,5 +9,5 @@ use Rattle.sql_statements.proofs.query.some_items.Given as goal
 
 abbrev pub invariant-items : goal.invariant-items
 invariant-items l =
-    reader.listed (reader.item number_cell) (tokens_in l.fn.tokens.rest.now)
-    ≡ chain comma_in reader.one_more (reader.item number_cell) (l.turn-end - l.turn) (map item_tree l.items) (tokens_in l.tokens.rest.now)
+    reader.listed (reader.item bounded) (tokens_in l.fn.tokens.rest.now)
+    ≡ chain comma_in reader.one_more (reader.item bounded) (l.turn-end - l.turn) (map item_tree l.items) (tokens_in l.tokens.rest.now)

@@ -2,7 +2,7 @@ use Rattle.std.proofs.Common.{ap, sym, ◌∙◌}
 use Rattle.std.proofs.lemmas.Result.{err_from_is_err_and}
 use Rattle.sql_grammar.specs.Reads.{tokens_in}
 use Rattle.sql_tree.specs.Tree.{stmt_tree}
-use Rattle.sql_reader.specs.Derived.{number_cell}
+use Rattle.sql_reader.specs.Bounded.{bounded}
 use Rattle.sql_reader.proofs.ChainLemmas.{same_err, all_found, left_over, nothing_found}
 use Rattle.sql_statements.specs.Derived.{count_64, length_32}
 use Rattle.sql_statements.specs.Reader as reader
@@ -13,17 +13,17 @@ pub returns-in_err-end-clause-none : goal.returns-in_err-end-clause-none
 returns-in_err-end-clause-none c =
     let p = err_from_is_err_and c.from_residual-in_err-end.result c.from_residual-in_err-end.ensures.1 in
     rw (p.1, p.2) (λ h s is. left_over _ (stmt_tree c.in_ok-read.read) (tokens_in c.stmt.new.tokens.rest.now)
-    (ap (λ ts. reader.stmt number_cell count_64 length_32 (tokens_in ts)) (sym c.new-rest.ensures) ∙ c.in_ok-read.ensures.found)
+    (ap (λ ts. reader.stmt bounded count_64 length_32 (tokens_in ts)) (sym c.new-rest.ensures) ∙ c.in_ok-read.ensures.found)
     (c.in_err-end.ensures.none (same_err _ _ h)) _ (read_told (tokens_in c.args.tokens.now) s is))
 
 pub returns-clause-statement : goal.returns-clause-statement
 returns-clause-statement c =
     stmt_read (tokens_in c.args.tokens.now) (stmt_tree c.in_ok-read.read)
     (all_found _ (stmt_tree c.in_ok-read.read) (tokens_in c.stmt.new.tokens.rest.now)
-    (ap (λ ts. reader.stmt number_cell count_64 length_32 (tokens_in ts)) (sym c.new-rest.ensures) ∙ c.in_ok-read.ensures.found)
+    (ap (λ ts. reader.stmt bounded count_64 length_32 (tokens_in ts)) (sym c.new-rest.ensures) ∙ c.in_ok-read.ensures.found)
     c.in_ok-end.ensures.found)
 
 pub returns-in_err-read-clause-none : goal.returns-in_err-read-clause-none
 returns-in_err-read-clause-none c =
     let p = err_from_is_err_and c.from_residual.result c.from_residual.ensures.1 in
-    rw (p.1, p.2) (λ h s is. nothing_found _ (ap (λ ts. reader.stmt number_cell count_64 length_32 (tokens_in ts)) (sym c.new-rest.ensures) ∙ c.in_err-read.ensures.none (same_err _ _ h)) _ (read_told (tokens_in c.args.tokens.now) s is))
+    rw (p.1, p.2) (λ h s is. nothing_found _ (ap (λ ts. reader.stmt bounded count_64 length_32 (tokens_in ts)) (sym c.new-rest.ensures) ∙ c.in_err-read.ensures.none (same_err _ _ h)) _ (read_told (tokens_in c.args.tokens.now) s is))

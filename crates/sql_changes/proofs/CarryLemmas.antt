@@ -1,0 +1,55 @@
+-- What a plan that is carried out leaves of a database, and its reply.
+use Rattle.std.proofs.Common.{◌≡◌, ℕ, List, refl, ap, sym, ◌∙◌, Option, Some, None, IsSome}
+use Rattle.cell_core.specs.declared.table.Table.{Table}
+use Rattle.cell_core.specs.declared.table.Db.{Db}
+use Rattle.sql_tree.specs.Names.{name_text}
+use Rattle.sql_tree.specs.Tree.{StmtTree}
+use Rattle.sql_semantics.specs.declared.refusal.Refusal.{Refusal}
+use Rattle.sql_semantics.specs.declared.refusal.Refusal.TheVariants.{NoTable}
+use Rattle.sql_semantics.specs.declared.refusal.Reply.{Reply}
+use Rattle.sql_semantics.specs.declared.refusal.Reply.TheVariants as reply
+use Rattle.sql_semantics.specs.Sources.{schema_of}
+use Rattle.sql_semantics.specs.Check.{check_refusal}
+use Rattle.sql_semantics.specs.Effect.{Change, changed, changed_by, accepted, effect, effect_unless}
+use Rattle.sql_changes.specs.declared.plan.Work.{Work}
+use Rattle.sql_changes.specs.declared.plan.Plan.{Plan}
+use Rattle.sql_changes.specs.declared.plan.Plan.TheVariants.{Refused, Accepted}
+use Rattle.sql_changes.specs.Plans.{change_of, reworked, touched_by}
+
+-- a plan as a change of a table
+abbrev pub planned : Plan → Table → Change
+planned plan table = change_of plan table.rows
+
+abbrev done_with : ℕ → List Table → Db × Reply
+done_with n tables = (record { tables = tables }, reply.Rows n)
+
+pub refused_done : (name : List ℕ) (refusal : Refusal) (found : Option Table) (db : Db) → IsSome found
+    → (db, reply.Refused refusal) ≡ changed name (planned (Refused refusal)) found db
+refused_done name refusal None db is = cc
+refused_done name refusal (Some table) db is = refl
+
+pub accepted_done : (name : List ℕ) (work : Work) (found : Option Table) (db after : Db) (n : ℕ) → IsSome found
+    → after.tables ≡ reworked name work found db.tables → n ≡ touched_by work
+    → (after, reply.Rows n) ≡ changed name (planned (Accepted work)) found db
+accepted_done name work None db after n is e f = cc
+accepted_done name work (Some table) db after n is e f =
+    ap (done_with n) e ∙ ap (λ k. done_with k (reworked name work (Some table) db.tables)) f
+
+-- the same change of the table that is found
+pub same_change : (name : List ℕ) (plan : Plan) (change : Table → Change) (found : Option Table) (table : Table) (db : Db) (outcome : Db × Reply)
+    → Some table ≡ found → change_of plan table.rows ≡ change table
+    → outcome ≡ changed name (planned plan) found db → outcome ≡ changed name change found db
+same_change name plan change found table db outcome is e o =
+    o ∙ ap (λ (f : Option Table). changed name (planned plan) f db) (sym is)
+    ∙ ap (λ (c : Change). changed_by name c db) e
+    ∙ ap (λ (f : Option Table). changed name change f db) is
+
+-- no table with the name
+pub not_there : (name : List ℕ) (change : Table → Change) (found : Option Table) (db : Db) (r : Reply)
+    → None ≡ found → r ≡ reply.Refused (NoTable (name_text name)) → (db, r) ≡ changed name change found db
+not_there name change found db r is e =
+    ap (λ (x : Reply). (db, x)) e ∙ ap (λ (f : Option Table). changed name change f db) is
+
+-- where the check has no refusal, what an accepted statement does is its effect
+pub effect_is : (stmt : StmtTree) (db : Db) → check_refusal stmt (schema_of db) ≡ None → accepted stmt db ≡ effect stmt db
+effect_is stmt db e = ap (λ (r : Option Refusal). effect_unless r stmt db) (sym e)

@@ -1,0 +1,4 @@
+pub mod FateLemmas
+pub mod PlanLemmas
+pub mod PlaceLemmas
+pub mod CarryLemmas

@@ -1,0 +1,12 @@
+use Rattle.std.proofs.Common.{◌≡◌, map, length}
+use Rattle.sql_tree.specs.Tree.{set_tree}
+use Rattle.sql_semantics.specs.Effect.{is_too_long_set, is_any_set}
+use Rattle.sql_changes.proofs.update.is_too_long_for_rows.Given as goal
+
+-- the rest decides as all do
+abbrev pub invariant-rows : goal.invariant-rows
+invariant-rows l =
+    is_any_set (is_too_long_set l.table) (map set_tree l.sets) l.rest ≡ is_any_set (is_too_long_set l.table) (map set_tree l.sets) l.rows
+
+abbrev pub decreases-rows : goal.decreases-rows
+decreases-rows l = length l.rest

@@ -1,0 +1,39 @@
+-- The fates of rows by what a DELETE or an UPDATE says; private contracts alone speak of them.
+use Rattle.std.specs.Prelude.{ℕ, List, [], ◌∷◌, Bool, ◌||◌, map, zip, find, bytes_eq, if◌then◌else◌, Option, Some, None}
+use Rattle.std.specs.List.{list_any}
+use Rattle.cell_core.specs.declared.cell.Cell.{Cell}
+use Rattle.cell_core.specs.declared.table.Column.{Column}
+use Rattle.cell_core.specs.declared.table.Table.{Table}
+use Rattle.sql_tree.specs.Tree.{ExprTree, CondTree}
+use Rattle.sql_semantics.specs.declared.refusal.Refusal.{Refusal}
+use Rattle.sql_semantics.specs.Values.{constant_overflows}
+use Rattle.sql_semantics.specs.Kept.{cond_overflows, is_kept}
+use Rattle.sql_semantics.specs.Effect.{own_table, set_cell, updated_row}
+use Rattle.sql_changes.specs.declared.fate.Fate.{Fate}
+use Rattle.sql_changes.specs.declared.fate.Fate.TheVariants.{Stays, Goes, Becomes}
+
+-- the condition is true of a row, also where it overflows
+abbrev pub is_true_of : Option CondTree → Table → List Cell → Bool
+is_true_of cond table row = is_kept (own_table table) cond (row ∷ [])
+
+abbrev pub deleted_fate : Option CondTree → Table → List Cell → Fate
+deleted_fate cond table row = if is_true_of cond table row then Goes else Stays
+
+abbrev pub updated_fate : List (List ℕ × ExprTree) → Option CondTree → Table → List Cell → Fate
+updated_fate sets cond table row = if is_true_of cond table row then Becomes (updated_row sets table row) else Stays
+
+-- the cell that a column gets from a row
+unfoldable pub set_at : List (List ℕ × ExprTree) → Table → List Cell → Column × Cell → Cell
+set_at sets table row at = set_cell (own_table table) row (find (λ (set : List ℕ × ExprTree). bytes_eq set.0 at.0.name) sets) at.1
+
+-- the cells that these columns get from a row that has these cells there
+abbrev pub set_cells : List (List ℕ × ExprTree) → Table → List Cell → List Column → List Cell → List Cell
+set_cells sets table row columns cells = map (set_at sets table row) (zip columns cells)
+
+-- a refusal, or else another one, or else none
+abbrev pub first_of : Bool → Refusal → Bool → Refusal → Option Refusal
+first_of first refusal second other = if first then Some refusal else (if second then Some other else None)
+
+-- an operator without a column below it leaves the range in a SET or in the condition
+abbrev pub constants_overflow : List (List ℕ × ExprTree) → Option CondTree → Bool
+constants_overflow sets cond = list_any constant_overflows (map (λ (set : List ℕ × ExprTree). set.1) sets) || cond_overflows cond

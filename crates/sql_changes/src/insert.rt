@@ -1,0 +1,166 @@
+//! INSERT.
+ghost use Rattle.std.specs.Prelude.{◌≡◌, ◌+◌, bytes_eq, filter_map, length, map, nat_lt, slice_index_or, IfOk};
+ghost use Rattle.std.specs.List.{position_or_len};
+ghost use Rattle.std.specs.Option.{option_copied};
+ghost use Rattle.cell_core.specs.declared.cell.Cell.TheVariants.{Nil};
+ghost use Rattle.cell_core.specs.declared.table.Column.{Column as ColumnSeen};
+ghost use Rattle.sql_semantics.specs.Check.{column_named as column_named_of, targets as targets_of};
+ghost use Rattle.sql_semantics.specs.Effect.{inserted, placed, row_limit};
+ghost use Rattle.sql_changes.specs.Plans.{change_of};
+
+use crate::long::are_rows_too_long;
+use crate::plan::{Plan, Work};
+use cell_core::{Cell, Column, Memory, Sequence, Table, Word, copy_cells, copy_columns, word_of};
+use sql_semantics::Refusal;
+use std::alloc::Global;
+
+/// The most rows of a table.
+const ROW_LIMIT: usize = 1_048_576;
+
+/// The column with this name.
+fn column_named<'a>(columns: &'a [Column], name: &Word) -> Option<&'a Column>
+    ensures { option_copied result ≡ column_named_of columns.now name.now }
+{
+    let mut rest = columns;
+    'columns: while let [column, more @ ..] = rest {
+        if column.name == *name {
+            return Some(column);
+        }
+        rest = more;
+    }
+    None
+}
+
+/// The columns with these names, those that are there.
+fn listed_columns(
+    alloc: Global,
+    columns: &[Column],
+    listed: &[Word],
+) -> Result<Sequence<Column>, Memory>
+    ensures { IfOk result (λ found. found ≡ filter_map (column_named_of columns.now) listed.now) }
+{
+    let mut found = Sequence::new(alloc);
+    let mut rest = listed;
+    'names: while let [name, more @ ..] = rest {
+        if let Some(column) = column_named(columns, name) {
+            found.push(column.share()?)?;
+        }
+        rest = more;
+    }
+    Ok(found)
+}
+
+/// The columns that the values of a row go to: all of them where none is listed.
+fn targets(alloc: Global, columns: &[Column], listed: &[Word]) -> Result<Sequence<Column>, Memory>
+    ensures { IfOk result (λ found. found ≡ targets_of columns.now listed.now) }
+{
+    if listed.is_empty() {
+        copy_columns(alloc, columns)
+    } else {
+        listed_columns(alloc, columns, listed)
+    }
+}
+
+/// The place of a name in a list, or the list's length.
+fn place_of(listed: &[Word], name: &Word) -> usize
+    ensures { result ≡ position_or_len (bytes_eq name.now) listed.now }
+{
+    let mut rest = listed;
+    'names: while let [first, more @ ..] = rest {
+        if *name == *first {
+            return listed.len() - rest.len();
+        }
+        rest = more;
+    }
+    listed.len()
+}
+
+/// The value that a row has for a column; Nil where it has none.
+fn placed_cell(listed: &[Word], row: &[Cell], column: &Column) -> Result<Cell, Memory>
+    ensures { IfOk result (λ cell. cell ≡ slice_index_or row.now (position_or_len (bytes_eq column.now.name) listed.now) Nil) }
+{
+    match row.get(place_of(listed, &column.name)) {
+        Some(cell) => cell.share(),
+        None => Ok(Cell::Nil),
+    }
+}
+
+/// The values that a row has for the columns, each in its column's place.
+fn placed_cells(
+    alloc: Global,
+    columns: &[Column],
+    listed: &[Word],
+    row: &[Cell],
+) -> Result<Sequence<Cell>, Memory>
+    ensures { IfOk result (λ cells. cells ≡ map (λ (column : ColumnSeen). slice_index_or row.now (position_or_len (bytes_eq column.name) listed.now) Nil) columns.now) }
+{
+    let mut cells = Sequence::new(alloc);
+    let mut rest = columns;
+    'columns: while let [column, more @ ..] = rest {
+        cells.push(placed_cell(listed, row, column)?)?;
+        rest = more;
+    }
+    Ok(cells)
+}
+
+/// A row with each value in its column's place.
+fn placed_row(
+    alloc: Global,
+    columns: &[Column],
+    listed: &[Word],
+    row: &[Cell],
+) -> Result<Sequence<Cell>, Memory>
+    ensures { IfOk result (λ cells. cells ≡ placed columns.now listed.now row.now) }
+{
+    if listed.is_empty() {
+        copy_cells(alloc, row)
+    } else {
+        placed_cells(alloc, columns, listed, row)
+    }
+}
+
+/// The rows, each with its values in their columns' places.
+fn placed_rows(
+    alloc: Global,
+    columns: &[Column],
+    listed: &[Word],
+    rows: &[Sequence<Cell>],
+) -> Result<Sequence<Sequence<Cell>>, Memory>
+    ensures { IfOk result (λ out. out ≡ map (placed columns.now listed.now) rows.now) }
+{
+    let mut out = Sequence::new(alloc);
+    let mut rest = rows;
+    'rows: while let [row, more @ ..] = rest {
+        out.push(placed_row(alloc, columns, listed, row.as_slice())?)?;
+        rest = more;
+    }
+    Ok(out)
+}
+
+/// Whether a table has more rows than it may, with so many more.
+fn passes_limit(rows: usize, more: usize) -> bool
+    ensures { result ≡ nat_lt row_limit (rows + more) }
+{
+    more > ROW_LIMIT || rows > ROW_LIMIT - more
+}
+
+/// What an INSERT is to do to a table.
+pub(crate) fn insert_plan(
+    alloc: Global,
+    listed: &[Word],
+    rows: &[Sequence<Cell>],
+    table: &Table,
+) -> Result<Plan, Memory>
+    ensures { IfOk result (λ plan. change_of plan table.now.rows ≡ inserted listed.now rows.now table.now) }
+{
+    let columns = table.columns.as_slice();
+    let targets = targets(alloc, columns, listed)?;
+    if are_rows_too_long(targets.as_slice(), rows) {
+        return Ok(Plan::Refused(Refusal::TextTooLong));
+    }
+    if passes_limit(table.rows.len(), rows.len()) {
+        return Ok(Plan::Refused(Refusal::Limit(word_of(alloc, "rows")?)));
+    }
+    let placed = placed_rows(alloc, columns, listed, rows)?;
+    Ok(Plan::Accepted(Work::Adds(placed)))
+}

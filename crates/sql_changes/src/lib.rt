@@ -1,0 +1,22 @@
+//! The plain programs of what SQL changes: what a statement does to a database, in place (`change`)
+//! or on a copy (`slow_effect`).
+//!
+//! It stands on `sql_semantics`, whose definition of the effect it gives exactly, and on the values and
+//! conditions of `sql_meaning`. A change of a table is first planned, over rows that are lent, and
+//! then carried out: all memory is taken before the table changes. INSERT leaves the rows that are
+//! there where they are, DELETE moves those that stay, and UPDATE makes rows for those alone of which
+//! its condition is true.
+#![tactic(auto)]
+
+mod carry;
+mod copy;
+mod delete;
+mod effect;
+mod fate;
+mod hits;
+mod insert;
+mod long;
+mod plan;
+mod update;
+
+pub use effect::{change, slow_effect};

@@ -1,0 +1,21 @@
+mod Examples
+pub mod DerivedLemmas
+pub mod DayLemmas
+pub mod CutLemmas
+pub mod WordLemmas
+pub mod ExprPrinted
+pub mod QueryPrinted
+pub mod StmtPrinted
+pub mod NamedLemmas
+pub mod ExprTold
+pub mod RuleWalk
+pub mod RuleParts
+pub mod RuleStatements
+pub mod LevelLemmas
+pub mod LevelTrees
+pub mod LevelStatements
+pub mod QueryTold
+pub mod StmtTold
+pub mod ShortTold
+pub mod ShortPrinted
+pub mod ReadAgain

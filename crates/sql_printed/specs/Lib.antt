@@ -1,0 +1,4 @@
+pub mod Printable
+pub mod CanonRules
+pub mod Laws
+pub mod PrintedReads

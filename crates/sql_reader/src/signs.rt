@@ -1,0 +1,128 @@
+//! What a reader leaves out past its limits is told by signs: a column, a Nil, arithmetic over columns.
+ghost use Rattle.std.specs.Prelude.{◌≡◌, ◌&&◌, not, if◌then◌else◌, IfOk};
+ghost use Rattle.sql_grammar.specs.Refused as refused;
+ghost use Rattle.cell_core.specs.declared.cell.Cell.TheVariants as literal;
+ghost use Rattle.sql_tree.specs.Tree.{cond_tree, expr_tree};
+ghost use Rattle.sql_tree.specs.Tree.CondTree.{Both, Compare};
+ghost use Rattle.sql_tree.specs.Tree.ExprTree.{Literal, Operator};
+ghost use Rattle.sql_tree.specs.declared.tree.ArithOp.TheVariants as arith;
+ghost use Rattle.sql_tree.specs.declared.tree.CmpOp.TheVariants as compare;
+ghost use Rattle.sql_reader.specs.Bounded as kept;
+
+use cell_core::{Cell, Memory, word_of};
+use sql_refusals::{cond_has_unread, has_column, has_column_arithmetic, has_unread};
+use sql_tree::{ArithOp, CmpOp, ColRef, Cond, Expr};
+use std::alloc::Global;
+
+/// The expression, with a sign of a column and of a Nil, where only the other has them.
+pub(crate) fn with_signs(alloc: Global, other: &Expr, expr: Expr) -> Result<Expr, Memory>
+    ensures { IfOk result (λ e. expr_tree e ≡ kept.with_signs (expr_tree other.now) (expr_tree expr)) }
+{
+    let expr = with_column(alloc, other, expr)?;
+    with_unread(alloc, other, expr)
+}
+
+fn with_column(alloc: Global, other: &Expr, expr: Expr) -> Result<Expr, Memory>
+    ensures { IfOk result (λ e. expr_tree e ≡ kept.with_column (expr_tree other.now) (expr_tree expr)) }
+{
+    if has_column(other) && !has_column(&expr) {
+        let column = some_column(alloc)?;
+        return plus(alloc, expr, column);
+    }
+    Ok(expr)
+}
+
+fn with_unread(alloc: Global, other: &Expr, expr: Expr) -> Result<Expr, Memory>
+    ensures { IfOk result (λ e. expr_tree e ≡ kept.with_unread (expr_tree other.now) (expr_tree expr)) }
+{
+    if has_unread(other) && !has_unread(&expr) {
+        return plus(alloc, expr, Expr::Lit(Cell::Nil));
+    }
+    Ok(expr)
+}
+
+/// The condition, with a sign of arithmetic over columns and of a Nil, where only the other has them.
+pub(crate) fn with_cond_signs(alloc: Global, other: &Cond, cond: Cond) -> Result<Cond, Memory>
+    ensures { IfOk result (λ c. cond_tree c ≡ kept.with_cond_signs (cond_tree other.now) (cond_tree cond)) }
+{
+    let cond = with_arithmetic(alloc, has_column_arithmetic(other), cond)?;
+    with_unread_test(alloc, cond_has_unread(other), cond)
+}
+
+/// The condition, with arithmetic over columns where that is wanted and it has none.
+pub(crate) fn with_arithmetic(alloc: Global, wanted: bool, cond: Cond) -> Result<Cond, Memory>
+    ensures { IfOk result (λ c. cond_tree c ≡ (if wanted && not (refused.has_column_arithmetic (cond_tree cond))
+        then Both (cond_tree cond) (Compare compare.Eq (Operator arith.Plus kept.some_column kept.some_column) kept.some_column)
+        else cond_tree cond)) }
+{
+    if wanted && !has_column_arithmetic(&cond) {
+        let test = column_arithmetic(alloc)?;
+        return and(alloc, cond, test);
+    }
+    Ok(cond)
+}
+
+/// The condition, with a Nil where that is wanted and it has none.
+pub(crate) fn with_unread_test(alloc: Global, wanted: bool, cond: Cond) -> Result<Cond, Memory>
+    ensures { IfOk result (λ c. cond_tree c ≡ (if wanted && not (kept.cond_has_unread (cond_tree cond))
+        then Both (cond_tree cond) (Compare compare.Eq (Literal literal.Nil) (Literal literal.Nil))
+        else cond_tree cond)) }
+{
+    if wanted && !cond_has_unread(&cond) {
+        return and(
+            alloc,
+            cond,
+            equal(Expr::Lit(Cell::Nil), Expr::Lit(Cell::Nil)),
+        );
+    }
+    Ok(cond)
+}
+
+/// A test with arithmetic over columns.
+fn column_arithmetic(alloc: Global) -> Result<Cond, Memory>
+    ensures { IfOk result (λ c. cond_tree c
+        ≡ Compare compare.Eq (Operator arith.Plus kept.some_column kept.some_column) kept.some_column) }
+{
+    let first = some_column(alloc)?;
+    let second = some_column(alloc)?;
+    let sum = plus(alloc, first, second)?;
+    let right = some_column(alloc)?;
+    Ok(equal(sum, right))
+}
+
+/// A column without a name, which no text gives.
+fn some_column(alloc: Global) -> Result<Expr, Memory>
+    ensures { IfOk result (λ e. expr_tree e ≡ kept.some_column) }
+{
+    let column = word_of(alloc, "")?;
+    Ok(Expr::Col(ColRef {
+        table: None,
+        column,
+    }))
+}
+
+fn plus(alloc: Global, left: Expr, right: Expr) -> Result<Expr, Memory>
+    ensures { IfOk result (λ e. expr_tree e ≡ Operator arith.Plus (expr_tree left) (expr_tree right)) }
+{
+    Ok(Expr::Arith {
+        op: ArithOp::Plus,
+        left: Box::new(alloc, left)?,
+        right: Box::new(alloc, right)?,
+    })
+}
+
+fn and(alloc: Global, left: Cond, right: Cond) -> Result<Cond, Memory>
+    ensures { IfOk result (λ c. cond_tree c ≡ Both (cond_tree left) (cond_tree right)) }
+{
+    Ok(Cond::And(Box::new(alloc, left)?, Box::new(alloc, right)?))
+}
+
+fn equal(left: Expr, right: Expr) -> Cond
+    ensures { cond_tree result ≡ Compare compare.Eq (expr_tree left) (expr_tree right) }
+{
+    Cond::Cmp {
+        op: CmpOp::Eq,
+        left,
+        right,
+    }
+}
