@@ -2,43 +2,47 @@
 use Rattle.std.proofs.Common.{◌≡◌, ℕ, suc, ◌+◌, ◌<◌, Bool, true, false, cond, List, [], ◌∷◌, ◌++◌, Option, Some, None, length, take, get_or, refl, sym, ap, ◌∙◌, append_assoc, add-zero, arith}
 use Rattle.std.specs.Prelude.{flat_map, is_some}
 use Rattle.std.specs.List.{count_by, enumerate_from, cons_option}
-use Rattle.std.proofs.lemmas.List.{take_more, append-nil}
+use Rattle.std.proofs.lemmas.List.{take_more, append-nil, map-append}
 use Rattle.std.proofs.lemmas.List.Elements.{filter_map-append}
 use Rattle.std.proofs.lemmas.List.Sums.{sum_by-cons}
 use Rattle.answer_text.specs.declared.event.Event.{Event}
-use Rattle.answer_text.specs.Log.{committed}
+use Rattle.answer_text.specs.Log.{EventTree, act_tree, event_tree, log_tree, committed}
 use Rattle.answer_text.specs.Layout.{Change, changes_of, change_from, change_line}
 
 -- the change of an event
 abbrev change_in : Event → Option Change
-change_in event = change_from event.session event.statement (committed event.act)
+change_in event = change_from event.session event.statement (committed (act_tree event.act))
 
 -- a change is an event with a committed statement
-pub count_by-committed : (log : List Event) → count_by (λ (event : Event). is_some (committed event.act)) log ≡ length (changes_of log)
+pub count_by-committed : (log : List Event) → count_by (λ (event : Event). is_some (committed (act_tree event.act))) log ≡ length (changes_of (log_tree log))
 count_by-committed [] = refl
 count_by-committed (event ∷ log) =
-    sum_by-cons (λ (e : Event). cond (is_some (committed e.act)) 1 0) event log ∙
-    elim (committed event.act) as (λ o. cond (is_some o) 1 0 + count_by (λ (e : Event). is_some (committed e.act)) log ≡ length (cons_option (change_from event.session event.statement o) (changes_of log))) [
+    sum_by-cons (λ (e : Event). cond (is_some (committed (act_tree e.act))) 1 0) event log ∙
+    elim (committed (act_tree event.act)) as (λ o. cond (is_some o) 1 0 + count_by (λ (e : Event). is_some (committed (act_tree e.act))) log ≡ length (cons_option (change_from event.session event.statement o) (changes_of (log_tree log)))) [
       | None ↦ omega (arith, count_by-committed log)
       | Some stmt ↦ omega (arith, count_by-committed log)
     ]
 
+-- the changes of a log in two parts
+seen-append : (xs ys : List Event) → changes_of (log_tree (xs ++ ys)) ≡ changes_of (log_tree xs) ++ changes_of (log_tree ys)
+seen-append xs ys = ap changes_of (map-append event_tree xs ys) ∙ filter_map-append (λ (event : EventTree). change_from event.session event.statement (committed event.act)) (log_tree xs) (log_tree ys)
+
 -- one event more
-changes_of-take : (log : List Event) (i : ℕ) (event : Event) → i < length log → event ≡ get_or log i event → changes_of (take (i + 1) log) ≡ changes_of (take i log) ++ cons_option (change_in event) []
+changes_of-take : (log : List Event) (i : ℕ) (event : Event) → i < length log → event ≡ get_or log i event → changes_of (log_tree (take (i + 1) log)) ≡ changes_of (log_tree (take i log)) ++ cons_option (change_in event) []
 changes_of-take log i event within is =
-    ap (λ es. changes_of es) (take_more log i event within)
-    ∙ filter_map-append change_in (take i log) (get_or log i event ∷ [])
-    ∙ ap (λ e. changes_of (take i log) ++ cons_option (change_in e) []) (sym is)
+    ap (λ es. changes_of (log_tree es)) (take_more log i event within)
+    ∙ seen-append (take i log) (get_or log i event ∷ [])
+    ∙ ap (λ e. changes_of (log_tree (take i log)) ++ cons_option (change_in e) []) (sym is)
 
 -- an event that is no change adds none
-pub changes_of-passed : (log : List Event) (i : ℕ) (event : Event) → i < length log → event ≡ get_or log i event → committed event.act ≡ None → changes_of (take (i + 1) log) ≡ changes_of (take i log)
+pub changes_of-passed : (log : List Event) (i : ℕ) (event : Event) → i < length log → event ≡ get_or log i event → committed (act_tree event.act) ≡ None → changes_of (log_tree (take (i + 1) log)) ≡ changes_of (log_tree (take i log))
 changes_of-passed log i event within is none =
-    changes_of-take log i event within is ∙ ap (λ o. changes_of (take i log) ++ cons_option (change_from event.session event.statement o) []) none ∙ append-nil _
+    changes_of-take log i event within is ∙ ap (λ o. changes_of (log_tree (take i log)) ++ cons_option (change_from event.session event.statement o) []) none ∙ append-nil _
 
 -- a change stands behind the others
-pub changes_of-more : (log : List Event) (i : ℕ) (event : Event) (change : Change) → i < length log → event ≡ get_or log i event → change_from event.session event.statement (committed event.act) ≡ Some change → changes_of (take (i + 1) log) ≡ changes_of (take i log) ++ change ∷ []
+pub changes_of-more : (log : List Event) (i : ℕ) (event : Event) (change : Change) → i < length log → event ≡ get_or log i event → change_from event.session event.statement (committed (act_tree event.act)) ≡ Some change → changes_of (log_tree (take (i + 1) log)) ≡ changes_of (log_tree (take i log)) ++ change ∷ []
 changes_of-more log i event change within is some =
-    changes_of-take log i event within is ∙ ap (λ o. changes_of (take i log) ++ cons_option o []) some
+    changes_of-take log i event within is ∙ ap (λ o. changes_of (log_tree (take i log)) ++ cons_option o []) some
 
 -- the lines of changes, numbered from a number on
 abbrev pub lines_from : ℕ → List Change → List ℕ

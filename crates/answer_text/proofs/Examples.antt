@@ -5,20 +5,15 @@ use Rattle.std.specs.Fmt.{digits}
 use Rattle.cell_core.specs.declared.cell.Cell.{Cell}
 use Rattle.cell_core.specs.declared.cell.Cell.TheVariants as cell
 use Rattle.cell_core.specs.declared.cell.Kind.TheVariants as kind
-use Rattle.sql_core.specs.Names.{is_reserved_word}
-use Rattle.sql_core.specs.declared.tree.Expr.{Expr}
-use Rattle.sql_core.specs.declared.tree.Expr.TheVariants.{Lit, Col}
-use Rattle.sql_core.specs.declared.tree.Cond.TheVariants.{Between}
-use Rattle.sql_core.specs.declared.tree.Query.{Query}
-use Rattle.sql_core.specs.declared.tree.Stmt.{Stmt}
-use Rattle.sql_core.specs.declared.tree.Stmt.TheVariants as stmt
-use Rattle.sql_core.specs.declared.refusal.Refusal.{Refusal}
-use Rattle.sql_core.specs.declared.refusal.Refusal.TheVariants.{Syntax, NoTable}
-use Rattle.answer_text.specs.declared.event.Event.{Event}
-use Rattle.answer_text.specs.declared.event.Act.{Act}
-use Rattle.answer_text.specs.declared.event.Act.TheVariants.{Begin, Write, End}
+use Rattle.sql_tree.specs.Words.{keyword_of, is_unsupported_word}
+use Rattle.sql_tree.specs.Tree.{ExprTree, QueryTree, StmtTree}
+use Rattle.sql_tree.specs.Tree.ExprTree.{Literal, ColumnOf}
+use Rattle.sql_tree.specs.Tree.CondTree.{Within}
+use Rattle.sql_tree.specs.Tree.StmtTree.{CreateTable, DropTable, InsertInto, Select, ExplainSelect}
+use Rattle.sql_semantics.specs.declared.refusal.Refusal.{Refusal}
+use Rattle.sql_semantics.specs.declared.refusal.Refusal.TheVariants.{Syntax, NoTable}
 use Rattle.answer_text.specs.declared.event.Shown.TheVariants as shown
-use Rattle.answer_text.specs.Log.{acts_of, logged_of, IsOrdered}
+use Rattle.answer_text.specs.Log.{EventTree, ActTree, Begins, Writes, Ends, acts_of, logged_of, IsOrdered}
 use Rattle.answer_text.specs.Layout.{record_text, reply_text, printed}
 
 -- ## Records and replies
@@ -55,40 +50,48 @@ refused_reply = refl
 -- ## A whole run
 
 -- CREATE TABLE t (a INT)
-abbrev pub create_t : Stmt
-create_t = stmt.Create (codes "t") (record { name = codes "a"; kind = kind.Int; width = 0; not_null = false } ∷ [])
+abbrev pub create_t : StmtTree
+create_t = CreateTable (codes "t") (record { name = codes "a"; kind = kind.Int; width = 0; not_null = false } ∷ [])
 
 -- INSERT INTO t VALUES (3), (1), (2)
-abbrev pub insert_t : Stmt
-insert_t = stmt.Insert (codes "t") [] (row 3 ∷ row 1 ∷ row 2 ∷ [])
+abbrev pub insert_t : StmtTree
+insert_t = InsertInto (codes "t") [] (row 3 ∷ row 1 ∷ row 2 ∷ [])
 
-abbrev pub expr_a : Expr
-expr_a = Col (record { table = None; column = codes "a" })
+abbrev pub expr_a : ExprTree
+expr_a = ColumnOf (record { table = None; column = codes "a" })
 
 -- SELECT a FROM t WHERE a BETWEEN 2 AND 3
-abbrev pub select_a : Stmt
-select_a = stmt.Query (record {
-  items = record { expr = expr_a } ∷ [];
-  froms = record { table = codes "t" } ∷ [];
-  cond = Some (Between expr_a (Lit (cell.Int (pos 2))) (Lit (cell.Int (pos 3))));
-})
+abbrev pub query_a : QueryTree
+query_a = record {
+  distinct = false;
+  items = record { expr = expr_a; alias = None } ∷ [];
+  froms = record { table = codes "t"; alias = None } ∷ [];
+  cond = Some (Within expr_a (Literal (cell.Int (pos 2))) (Literal (cell.Int (pos 3))));
+  groups = [];
+  having = None;
+  keys = [];
+  limit = None;
+}
 
-abbrev pub script : List (Result Stmt Refusal)
+abbrev pub select_a : StmtTree
+select_a = Select query_a
+
+abbrev pub script : List (Result StmtTree Refusal)
 script = Ok create_t ∷ Ok insert_t ∷ Ok select_a ∷ []
 
-abbrev pub event : ℕ → ℕ → Act → Event
+abbrev pub event : ℕ → ℕ → ActTree → EventTree
 event session statement act = record { session = session; statement = statement; act = act }
 
-abbrev pub log : List Event
+abbrev pub log : List EventTree
 log =
-    event 1 1 (Write (Some create_t) 0 0) ∷ event 1 2 (Write (Some insert_t) 0 3)
-    ∷ event 1 3 (Begin 0) ∷ event 1 3 (End 0) ∷ []
+    event 1 1 (Writes (Some create_t) 0 0) ∷ event 1 2 (Writes (Some insert_t) 0 3)
+    ∷ event 1 3 (Begins 0) ∷ event 1 3 (Ends 0) ∷ []
 
 acts : acts_of log 1 script ≡ logged_of 1 log
-unfolding is_reserved_word
+unfolding keyword_of is_unsupported_word
 acts = refl
 
-statements : (i : ℕ) (readings : List (Result Stmt Refusal)) → slice_get (script ∷ []) i ≡ Some readings → logged_of (i + 1) log ≡ acts_of log (i + 1) readings
+statements : (i : ℕ) (readings : List (Result StmtTree Refusal)) → slice_get (script ∷ []) i ≡ Some readings → logged_of (i + 1) log ≡ acts_of log (i + 1) readings
 statements zero readings e = let here : script ≡ readings = cc in subst (λ rs. logged_of 1 log ≡ acts_of log 1 rs) here (sym acts)
 statements (suc i) readings e = cc
 
@@ -100,28 +103,47 @@ ordered = record {
 }
 
 output : printed (codes "a.sql" ∷ []) (script ∷ []) log ≡ codes "session 1 a.sql\n1 ok\n2 ok 3\n3 rows 2\n2\n3\nhistory 2\n1 1 1 CREATE TABLE t (a INT);\n2 1 2 INSERT INTO t VALUES (3), (1), (2);\n"
-unfolding is_reserved_word digits
+unfolding keyword_of is_unsupported_word digits
 output = refl
 
 -- ## Two sessions
 
 -- the second session's insert comes before the table is there, and is refused, and so is a text that is no statement
-abbrev pub two_log : List Event
+abbrev pub two_log : List EventTree
 two_log =
-    event 2 1 (Write (Some insert_t) 3 0) ∷ event 1 1 (Write (Some create_t) 0 0)
-    ∷ event 2 2 (Write None 1 0) ∷ event 2 3 (Write (Some insert_t) 0 3) ∷ []
+    event 2 1 (Writes (Some insert_t) 3 0) ∷ event 1 1 (Writes (Some create_t) 0 0)
+    ∷ event 2 2 (Writes None 1 0) ∷ event 2 3 (Writes (Some insert_t) 0 3) ∷ []
 
-abbrev pub second_script : List (Result Stmt Refusal)
+abbrev pub second_script : List (Result StmtTree Refusal)
 second_script = Ok insert_t ∷ Err Syntax ∷ Ok insert_t ∷ []
 
 first_acts : acts_of two_log 1 (Ok create_t ∷ []) ≡ logged_of 1 two_log
-unfolding is_reserved_word
+unfolding keyword_of is_unsupported_word
 first_acts = refl
 
 second_acts : acts_of two_log 2 second_script ≡ logged_of 2 two_log
-unfolding is_reserved_word
+unfolding keyword_of is_unsupported_word
 second_acts = refl
 
 two_output : printed (codes "a.sql" ∷ codes "b.sql" ∷ []) ((Ok create_t ∷ []) ∷ second_script ∷ []) two_log ≡ codes "session 1 a.sql\n1 ok\nsession 2 b.sql\n1 refused 3 no such table t\n2 refused 1 syntax\n3 ok 3\nhistory 2\n1 1 1 CREATE TABLE t (a INT);\n2 2 3 INSERT INTO t VALUES (3), (1), (2);\n"
-unfolding is_reserved_word digits
+unfolding keyword_of is_unsupported_word digits
 two_output = refl
+
+-- ## EXPLAIN and DROP
+
+-- an EXPLAIN that the tables accept isn't built yet, and one that they refuse is refused like its query
+abbrev pub explain_log : List EventTree
+explain_log =
+    event 1 1 (Begins 3) ∷ event 1 1 (Ends 3) ∷ event 1 2 (Writes (Some create_t) 0 0)
+    ∷ event 1 3 (Begins 2) ∷ event 1 3 (Ends 2) ∷ event 1 4 (Writes (Some (DropTable (codes "t"))) 0 0) ∷ []
+
+abbrev pub explain_script : List (Result StmtTree Refusal)
+explain_script = Ok (ExplainSelect query_a) ∷ Ok create_t ∷ Ok (ExplainSelect query_a) ∷ Ok (DropTable (codes "t")) ∷ []
+
+explain_acts : acts_of explain_log 1 explain_script ≡ logged_of 1 explain_log
+unfolding keyword_of is_unsupported_word
+explain_acts = refl
+
+explain_output : printed (codes "a.sql" ∷ []) (explain_script ∷ []) explain_log ≡ codes "session 1 a.sql\n1 refused 3 no such table t\n2 ok\n3 refused 2 unsupported NOT BUILT\n4 ok\nhistory 2\n1 1 2 CREATE TABLE t (a INT);\n2 1 4 DROP TABLE t;\n"
+unfolding keyword_of is_unsupported_word digits
+explain_output = refl

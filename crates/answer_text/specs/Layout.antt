@@ -3,15 +3,13 @@ use Rattle.std.specs.Prelude.{ℕ, ◌==◌, List, [], ◌∷◌, ◌++◌, leng
 use Rattle.std.specs.List.{list_any, filter_map, enumerate_from, zip}
 use Rattle.cell_core.specs.declared.cell.Cell.{Cell}
 use Rattle.cell_core.specs.CellText.{cell_text}
-use Rattle.sql_core.specs.Refusals.{refusal_number, refusal_words}
-use Rattle.sql_core.specs.Canon.{canonical}
-use Rattle.sql_core.specs.declared.tree.Stmt.{Stmt}
-use Rattle.sql_core.specs.declared.refusal.Refusal.{Refusal}
-use Rattle.answer_text.specs.declared.event.Event.{Event}
-use Rattle.answer_text.specs.declared.event.Act.{Act}
+use Rattle.sql_tree.specs.Canon.{canonical}
+use Rattle.sql_tree.specs.Tree.{StmtTree}
+use Rattle.sql_semantics.specs.Refusals.{refusal_number, refusal_words}
+use Rattle.sql_semantics.specs.declared.refusal.Refusal.{Refusal}
 use Rattle.answer_text.specs.declared.event.Shown.{Shown}
 use Rattle.answer_text.specs.declared.event.Shown.TheVariants as shown
-use Rattle.answer_text.specs.Log.{committed, commits, shown_over, tables_met}
+use Rattle.answer_text.specs.Log.{EventTree, committed, shown_over, tables_met}
 
 -- ## Records
 
@@ -64,31 +62,31 @@ pub record Change : Type 0 where
   pub statement : ℕ
   pub text : List ℕ
 
-abbrev pub change_from : ℕ → ℕ → Option Stmt → Option Change
+abbrev pub change_from : ℕ → ℕ → Option StmtTree → Option Change
 change_from session statement None = None
 change_from session statement (Some stmt) = Some (record { session = session; statement = statement; text = canonical stmt })
 
 -- the accepted changes of a log, in order
-abbrev pub changes_of : List Event → List Change
-changes_of log = filter_map (λ (event : Event). change_from event.session event.statement (committed event.act)) log
+abbrev pub changes_of : List EventTree → List Change
+changes_of log = filter_map (λ (event : EventTree). change_from event.session event.statement (committed event.act)) log
 
 abbrev pub change_line : ℕ → Change → List ℕ
 change_line i change = decimal i ++ codes " " ++ decimal change.session ++ codes " " ++ decimal change.statement ++ codes " " ++ change.text ++ codes ";\n"
 
 -- the history: how many changes were accepted, and a line for each
-abbrev pub history_text : List Event → List ℕ
+abbrev pub history_text : List EventTree → List ℕ
 history_text log = codes "history " ++ decimal (length (changes_of log)) ++ codes "\n" ++ flat_map (λ (i, change). change_line i change) (enumerate_from 1 (changes_of log))
 
 -- ## The whole output
 
 -- the replies of a session, each over the tables that its statement meets
-abbrev pub replies_text : List Event → ℕ → List (Result Stmt Refusal) → List ℕ
+abbrev pub replies_text : List EventTree → ℕ → List (Result StmtTree Refusal) → List ℕ
 replies_text log session readings = flat_map (λ (k, reading). reply_text k (shown_over (tables_met log session k) reading)) (enumerate_from 1 readings)
 
-abbrev pub session_text : List Event → ℕ → List ℕ → List (Result Stmt Refusal) → List ℕ
+abbrev pub session_text : List EventTree → ℕ → List ℕ → List (Result StmtTree Refusal) → List ℕ
 session_text log session name readings = session_line session name ++ replies_text log session readings
 
 -- each session under the name of its file, and the history
-abbrev pub printed : List (List ℕ) → List (List (Result Stmt Refusal)) → List Event → List ℕ
+abbrev pub printed : List (List ℕ) → List (List (Result StmtTree Refusal)) → List EventTree → List ℕ
 printed names scripts log =
     flat_map (λ (s, script). session_text log s script.0 script.1) (enumerate_from 1 (zip names scripts)) ++ history_text log

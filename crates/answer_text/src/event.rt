@@ -1,9 +1,11 @@
 ghost use Rattle.std.specs.Prelude.{◌≡◌};
-ghost use Rattle.std.specs.Option.{option_copied};
-ghost use Rattle.answer_text.specs.Log.{committed};
+ghost use Rattle.std.specs.Option.{option_copied, option_map};
+ghost use Rattle.sql_tree.specs.Tree.{stmt_tree};
+ghost use Rattle.answer_text.specs.Log.{act_tree, committed};
 
 use cell_core::{Cell, Sequence};
-use sql_core::{Refusal, Stmt};
+use sql_semantics::Refusal;
+use sql_tree::Stmt;
 
 /// One entry of the log. Positions in the log count from 1.
 #[derive(Debug, Drop)]
@@ -30,7 +32,7 @@ pub enum Act {
         stmt: Option<Stmt>,
         /// 0, or the number of the refusal.
         code: u8,
-        /// The rows inserted, deleted or updated; 0 for a refusal and for CREATE.
+        /// The rows inserted, deleted or updated; 0 for a refusal, for CREATE and for DROP.
         count: u64,
     },
     /// A query ends.
@@ -43,7 +45,7 @@ pub enum Act {
 impl Act {
     /// The statement of an accepted write.
     pub fn committed(&self) -> Option<&Stmt>
-        ensures { option_copied result ≡ committed self.now }
+        ensures { option_map stmt_tree (option_copied result) ≡ committed (act_tree self.now) }
     {
         match self {
             Act::Write { stmt, code: 0, .. } => stmt.as_ref(),

@@ -1,18 +1,20 @@
-ghost use Rattle.std.specs.Prelude.{◌≡◌, ◌++◌, length, flat_map, OnOk, OnErr, codes, decimal};
+ghost use Rattle.std.specs.Prelude.{◌≡◌, ◌++◌, is_some, length, flat_map, OnOk, OnErr, codes, decimal};
 ghost use Rattle.std.specs.List.{enumerate_from};
-ghost use Rattle.sql_core.specs.Canon.{canonical};
+ghost use Rattle.sql_tree.specs.Canon.{canonical};
+ghost use Rattle.sql_tree.specs.Tree.{stmt_tree};
 ghost use Rattle.answer_text.specs.Layout.{changes_of, change_line, history_text};
+ghost use Rattle.answer_text.specs.Log.{act_tree, committed, log_tree};
 
 use crate::event::Event;
 use crate::number::write_number;
 use cell_core::Memory;
-use sql_core::{Stmt, print_stmt};
+use sql_tree::{Stmt, print_stmt};
 use std::alloc::Global;
 
 /// Appends the history of a log: how many changes were accepted, and a line for each. Where memory
 /// runs out, `out` stays as it was.
 pub fn write_history(alloc: Global, log: &[Event], out: &mut Vec<u8>) -> Result<(), Memory>
-    ensures ok { OnOk result (out.new.items ≡ out.old.items ++ history_text log.now) }
+    ensures ok { OnOk result (out.new.items ≡ out.old.items ++ history_text (log_tree log.now)) }
     ensures err { OnErr result (out.new.items ≡ out.old.items) }
 {
     let mut text = Vec::from_slice(alloc, b"history ")?;
@@ -25,16 +27,24 @@ pub fn write_history(alloc: Global, log: &[Event], out: &mut Vec<u8>) -> Result<
 
 /// How many changes a log accepts.
 fn count_changes(log: &[Event]) -> usize
-    ensures { result ≡ length (changes_of log.now) }
+    ensures { result ≡ length (changes_of (log_tree log.now)) }
 {
-    log.iter()
-        .filter(|event| event.act.committed().is_some())
-        .count()
+    log.iter().filter(|event| is_change(event)).count()
+}
+
+/// Whether the event is an accepted change.
+fn is_change(event: &Event) -> bool
+    ensures { result ≡ is_some (committed (act_tree event.now.act)) }
+{
+    match event.act.committed() {
+        Some(_) => true,
+        None => false,
+    }
 }
 
 /// Appends a line for each accepted change, numbered from 1.
 fn write_changes(alloc: Global, log: &[Event], out: &mut Vec<u8>) -> Result<(), Memory>
-    ensures { OnOk result (out.new.items ≡ out.old.items ++ flat_map (λ (i, change). change_line i change) (enumerate_from 1 (changes_of log.now))) }
+    ensures { OnOk result (out.new.items ≡ out.old.items ++ flat_map (λ (i, change). change_line i change) (enumerate_from 1 (changes_of (log_tree log.now)))) }
 {
     let mut count = 0;
     for event in log {
@@ -55,7 +65,7 @@ fn write_change(
     stmt: &Stmt,
     out: &mut Vec<u8>,
 ) -> Result<(), Memory>
-    ensures { OnOk result (out.new.items ≡ out.old.items ++ change_line count (record { session = event.now.session; statement = event.now.statement; text = canonical stmt.now })) }
+    ensures { OnOk result (out.new.items ≡ out.old.items ++ change_line count (record { session = event.now.session; statement = event.now.statement; text = canonical (stmt_tree stmt.now) })) }
 {
     write_number(count, out)?;
     out.extend_from_slice(b" ")?;

@@ -2,7 +2,8 @@ use crate::event::{Act, Event, Shown};
 use crate::history::write_history;
 use crate::reply::{write_reply, write_session_line};
 use cell_core::{Cell, Memory, Sequence, word_of};
-use sql_core::{Refusal, Stmt};
+use sql_semantics::Refusal;
+use sql_tree::Stmt;
 use std::alloc::Global;
 use std::test::Fail;
 

@@ -1,11 +1,7 @@
-pub mod BoolLemmas
-pub mod OptionLemmas
-pub mod NumberLemmas
-pub mod PieceLemmas
-pub mod TokenLemmas
-pub mod TokensRead
-pub mod PartsFound
-pub mod RowLemmas
-pub mod FormsFound
-pub mod FormsRead
-pub mod TextRead
+mod Lists
+mod BoundedExprs
+mod BoundedConds
+mod BoundedStmts
+mod WholeStmts
+mod TextsRead
+mod ErrorLemmas

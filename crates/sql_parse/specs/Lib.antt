@@ -1,3 +1,3 @@
-pub mod Marks
-pub mod Refused
-pub mod Reader
+pub mod Answered
+pub mod Errors
+pub mod Steps

@@ -1,11 +1,12 @@
-ghost use Rattle.sql_parse.specs.Refused.{OneReading, OneSource};
+ghost use Rattle.sql_parse.specs.Answered.{EachReadsAsOne};
 
-/// A text reads as one thing at most: one statement, or its refusal.
+use sql_statements::one_stmt;
+use sql_tokens::one_list;
+
+/// No text reads as two things.
 pub fn one_reading()
-    ensures { OneReading }
-{}
-
-/// A query that is read has one table in FROM.
-pub fn one_source()
-    ensures { OneSource }
-{}
+    ensures { EachReadsAsOne }
+{
+    one_list();
+    one_stmt();
+}

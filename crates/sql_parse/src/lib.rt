@@ -1,26 +1,21 @@
-//! From SQL text to statements: a script's pieces, a piece's tokens, and the statement that they are.
+//! From SQL text to the statement that it is, or to the reason for which it is refused.
 //!
-//! It stands on `sql_core`, whose definitions say what a text reads as, and on `cell_core`. It
-//! promises that `split` gives exactly a script's pieces, that `parse` gives the statement that a
-//! text reads as and refuses a text that reads as none, and that no text reads as two statements
-//! (`one_reading`). Three forms are read in this stage: CREATE TABLE with one column of type INT,
-//! INSERT of one-column rows, and SELECT of a column with BETWEEN. Memory running out is the only
-//! answer that may come instead.
+//! It stands on the crates that do one step each: `sql_tokens` finds tokens, `sql_refusals` and
+//! `sql_grammar` tell what is refused before and after the statement is read, and `sql_statements` reads
+//! it. What a text reads as is defined in `sql_grammar`; the definitions in `specs/Answered` say with
+//! which statement or refusal that is answered. It promises that `parse` answers so for every text, and
+//! that no text reads as two things (`one_reading`). Memory running out is the only answer that may come
+//! instead. `split`, which cuts a script into pieces, is that of `sql_tokens`.
 #![tactic(auto)]
 
-mod bytes;
-mod cursor;
+mod error;
 mod laws;
-mod marks;
-mod pieces;
-mod statement;
-mod stop;
+mod steps;
 #[cfg(test)]
 mod tests;
 mod text;
-mod tokens;
 
-pub use laws::{one_reading, one_source};
-pub use marks::has_marks;
-pub use pieces::{MOST_STATEMENTS, SplitError, split};
-pub use text::{ParseError, parse};
+pub use error::ParseError;
+pub use laws::one_reading;
+pub use sql_tokens::{MOST_STATEMENTS, SplitError, split};
+pub use text::parse;

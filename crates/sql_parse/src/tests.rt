@@ -1,239 +1,311 @@
-use crate::{
-    MOST_STATEMENTS, ParseError, SplitError, has_marks, one_reading, one_source, parse, split,
-};
-use cell_core::{Cell, Column, Sequence};
-use sql_core::{Cond, Expr, Query, Refusal, Stmt};
+use crate::{ParseError, one_reading, parse, split};
+use cell_core::Memory;
+use sql_semantics::Refusal;
+use sql_tree::print_stmt;
 use std::alloc::{AllocError, Global};
-use std::fmt::Write;
 use std::test::Fail;
 
-/// The texts of the three forms, and those next to them, with what is read.
-const TEXTS: [(&str, &str); 48] = [
-    ("CREATE TABLE t (c INT)", "create t: c Int 0 false"),
+/// Texts with what they are answered with: a refusal's words, or the statement's canonical text.
+const TEXTS: [(&str, &str); 52] = [
+    ("", "syntax"),
+    ("-- nothing", "syntax"),
+    ("SELECT @", "syntax"),
+    ("SELECT 12a FROM t", "syntax"),
+    ("SELECT a FROM t /* x", "syntax"),
+    ("LEFT @", "syntax"),
+    ("FULL LEFT", "unsupported FULL"),
     (
-        "create\ttable\r\nT1(\n_C int)\n",
-        "create t1: _c Int 0 false",
+        "SELECT a FROM t WHERE a IN (SELECT 1) UNION",
+        "unsupported SUBQUERY",
+    ),
+    ("EXPLAIN EXPLAIN SELECT a FROM t", "unsupported SUBQUERY"),
+    ("select COUNT(distinct a) from t", "unsupported DISTINCT"),
+    ("SELECT a / b % c FROM t", "unsupported DIVISION"),
+    ("SELECT a % b / c FROM t", "unsupported MODULO"),
+    ("SELECT a || b FROM t", "unsupported CONCAT"),
+    ("SELECT t . 5 FROM t", "unsupported DECIMAL"),
+    ("SELECT t.* FROM t", "unsupported QUALIFIED STAR"),
+    ("DELETE FROM t WHERE \"f\"(a) = 1", "unsupported FUNCTION"),
+    (
+        "CREATE TABLE t (a INT NOT NULL, b VARCHAR(3) NOT NULL NULL)",
+        "unsupported NULL",
+    ),
+    ("CREATE TABLE t (a INT NULL)", "unsupported NULL"),
+    (
+        "SELECT a FROM t WHERE a IN () AND b / 2 = 1",
+        "unsupported DIVISION",
+    ),
+    ("SELECT a FROM t WHERE a IN ()", "syntax"),
+    ("SELECT", "syntax"),
+    ("SELECT DATE '1999-02-29' FROM t", "syntax"),
+    ("CREATE TABLE t ()", "syntax"),
+    ("SELECT a FROM t WHERE COUNT(*) = 1", "syntax"),
+    ("SELECT select FROM t", "unsupported SUBQUERY"),
+    ("CREATE TABLE order (a INT)", "syntax"),
+    ("DROP TABLE 1.5", "unsupported DECIMAL"),
+    ("SELECT a FROM t WHERE a LIKE 'x'", "unsupported LIKE"),
+    ("INSERT INTO t VALUES (1 + 1)", "syntax"),
+    ("SELECT a FROM t LIMIT -1", "syntax"),
+    (
+        "SELECT 99999999999999999999",
+        "unsupported SELECT WITHOUT FROM",
+    ),
+    ("EXPLAIN SELECT *", "unsupported SELECT WITHOUT FROM"),
+    (
+        "SELECT a FROM t WHERE a + 1 < 99999999999999999999",
+        "unsupported ARITHMETIC IN WHERE",
     ),
     (
-        "CREATE TABLE integers(values_ INT)",
-        "create integers: values_ Int 0 false",
-    ),
-    ("INSERT INTO t VALUES (5)", "insert t: 5"),
-    (
-        " Insert Into T Values (1), (-2),(- 3)\t, ( 007 ) ",
-        "insert t: 1 -2 -3 7",
+        "DELETE FROM t WHERE NOT 2 > -a",
+        "unsupported ARITHMETIC IN WHERE",
     ),
     (
-        "insert into t values(-9223372036854775808),(9223372036854775807)",
-        "insert t: -9223372036854775808 9223372036854775807",
+        "SELECT a FROM t GROUP BY a HAVING SUM(a + 1) > 2 AND a + 1 > 2",
+        "unsupported ARITHMETIC IN WHERE",
+    ),
+    ("SELECT a FROM t LIMIT 9223372036854775808", "limit literal"),
+    (
+        "SELECT a FROM t ORDER BY 99999999999999999999",
+        "limit literal",
+    ),
+    ("SELECT -(9223372036854775808) FROM t", "limit literal"),
+    ("CREATE TABLE t (a VARCHAR(0))", "limit length"),
+    ("CREATE TABLE t (a VARCHAR(65536))", "limit length"),
+    (
+        "SELECT a, b FROM a, b, c, d, e LIMIT 9223372036854775808",
+        "limit literal",
     ),
     (
-        "insert into t values (00000000000000000000000000000042)",
-        "insert t: 42",
-    ),
-    ("insert into t values (-0)", "insert t: 0"),
-    (
-        "SELECT a FROM t WHERE b BETWEEN -5 AND 10",
-        "select a from t where b: -5 to 10",
+        "create  table T (A int,b BigInt not null, c varchar(3), d date, e text)",
+        "CREATE TABLE t (a INT, b INT NOT NULL, c VARCHAR(3), d DATE, e TEXT)",
     ),
     (
-        "sElEcT a\nfRoM t wHeRe a bEtWeEn 3 aNd- 1",
-        "select a from t where a: 3 to -1",
+        "SELECT \"A\", \"a\", \"sel\"\"ect\", \"select\" FROM \"T\"",
+        "SELECT \"A\", a, \"sel\"\"ect\", \"select\" FROM \"T\"",
     ),
-    ("", "not built"),
-    (" \t\r\n", "not built"),
-    ("insert into t values (9223372036854775808)", "not built"),
-    ("insert into t values (-9223372036854775809)", "not built"),
     (
-        "insert into t values (99999999999999999999999999)",
-        "not built",
+        "SELECT a+b*c-d, (a+b)*c, -a, - 5, a - - 5, -(-a), - -5 FROM t x",
+        "SELECT (a + (b * c)) - d, (a + b) * c, 0 - a, -5, a - -5, 0 - (0 - a), 0 - -5 FROM t AS x",
     ),
-    ("create table select (c int)", "not built"),
-    ("create table t (order int)", "not built"),
-    ("insert into Values values (1)", "not built"),
-    ("select min from t where a between 1 and 2", "not built"),
-    ("select a from limit where a between 1 and 2", "not built"),
-    ("select a from t where null between 1 and 2", "not built"),
-    ("create table 1a (c int)", "not built"),
-    ("create table t (c int, d int)", "not built"),
-    ("create table t (c int", "not built"),
-    ("create table t (c int))", "not built"),
-    ("create table t (c bigint)", "not built"),
-    ("create table t ()", "not built"),
-    ("create table t", "not built"),
-    ("create table tä (c int)", "not built"),
-    ("create table \"t\" (c int)", "not built"),
-    ("insert into t values", "not built"),
-    ("insert into t values ()", "not built"),
-    ("insert into t values (1a)", "not built"),
-    ("insert into t values (1) (2)", "not built"),
-    ("insert into t values (1),", "not built"),
-    ("insert into t values (1, 2)", "not built"),
-    ("insert into t values 1", "not built"),
-    ("insert into t values (--1)", "not built"),
-    ("insert into t values (+1)", "not built"),
-    ("insert into t values ('x')", "not built"),
-    ("insert into t (c) values (1)", "not built"),
-    ("select a from t", "not built"),
-    ("select a, b from t where a between 1 and 2", "not built"),
-    ("select a from t where a between 1 and", "not built"),
-    ("select a from t where a between 1 and 2 and", "not built"),
-    ("select a from t where a between 1 and2", "not built"),
-    ("drop table t", "not built"),
-    ("1", "not built"),
+    (
+        "SELECT DISTINCT t.a AS x, COUNT ( * ) y FROM t INNER JOIN u ON t.a=u.b, v WHERE a<5 AND b>6 OR NOT c BETWEEN 1 AND 2 GROUP BY t . a ORDER BY 1 ASC, x DESC LIMIT 007",
+        "SELECT DISTINCT t.a AS x, COUNT(*) AS y FROM t, u, v WHERE t.a = u.b AND ((a < 5 AND b > 6) OR (NOT c BETWEEN 1 AND 2)) GROUP BY t.a ORDER BY 1, x DESC LIMIT 7",
+    ),
+    (
+        "DELETE FROM t WHERE a NOT IN (1,2,3)",
+        "DELETE FROM t WHERE NOT (((a = 1) OR (a = 2)) OR (a = 3))",
+    ),
+    (
+        "DELETE FROM t WHERE a NOT BETWEEN 1 AND 2 AND s = 'it''s; -- x' -- ;\n",
+        "DELETE FROM t WHERE (NOT a BETWEEN 1 AND 2) AND s = 'it''s; -- x'",
+    ),
+    (
+        "UPDATE t SET a=-a+1, s='x' WHERE DATE '1994-01-01' <= d",
+        "UPDATE t SET a = (0 - a) + 1, s = 'x' WHERE DATE '1994-01-01' <= d",
+    ),
+    (
+        "SELECT ((a)) FROM t WHERE ((a) = (1)) AND ((b <> 2))",
+        "SELECT a FROM t WHERE a = 1 AND b <> 2",
+    ),
+    (
+        "explain select MIN(a) from t having count(*) > 1 or max(a) != -9223372036854775808",
+        "EXPLAIN SELECT MIN(a) FROM t HAVING (COUNT(*) > 1) OR (MAX(a) <> -9223372036854775808)",
+    ),
+    (
+        "INSERT INTO t (a, b) VALUES (- 1, 'x'), (2, DATE '1994-01-01')",
+        "INSERT INTO t (a, b) VALUES (-1, 'x'), (2, DATE '1994-01-01')",
+    ),
+    ("SELECT/**/a--x\nFROM t", "SELECT a FROM t"),
 ];
 
-/// What a text is read as, in words.
-fn shape(alloc: Global, text: &str) -> Result<String, AllocError> {
+/// Texts with a part that stands so many times, and how what they are answered with begins.
+const LONG: [(&str, &str, u32, &str, &str); 38] = [
+    ("SELECT a", " ", 65_522, "FROM t", "SELECT "),
+    ("SELECT a", " ", 65_523, "FROM t", "limit statement"),
+    (
+        "SELECT a FROM t LIMIT 9223372036854775807",
+        "",
+        0,
+        "",
+        "SELECT ",
+    ),
+    (
+        "SELECT a FROM t LIMIT 9223372036854775808",
+        "",
+        0,
+        "",
+        "limit literal",
+    ),
+    ("CREATE TABLE t (a VARCHAR(65535))", "", 0, "", "CREATE "),
+    (
+        "CREATE TABLE t (a VARCHAR(65536))",
+        "",
+        0,
+        "",
+        "limit length",
+    ),
+    (
+        "SELECT a FROM t HAVING COUNT(*) = 1",
+        " OR COUNT(*) = 1",
+        63,
+        "",
+        "SELECT ",
+    ),
+    ("SELECT a FROM t WHERE 1 = 1", " + 1", 31, "", "SELECT "),
+    ("SELECT a", " + a", 31, " FROM t", "SELECT "),
+    ("SELECT a", " + a", 32, " FROM t", "limit expression"),
+    ("SELECT a FROM t WHERE ", "NOT ", 127, "a = 1", "SELECT "),
+    (
+        "SELECT a FROM t WHERE ",
+        "NOT ",
+        128,
+        "a = 1",
+        "limit conditions",
+    ),
+    (
+        "SELECT a FROM t WHERE a = 1",
+        " OR a = 1",
+        63,
+        "",
+        "SELECT ",
+    ),
+    (
+        "SELECT a FROM t WHERE a = 1",
+        " AND a = 1",
+        64,
+        "",
+        "limit conditions",
+    ),
+    (
+        "SELECT a FROM t HAVING COUNT(*) = 1",
+        " OR COUNT(*) = 1",
+        64,
+        "",
+        "limit conditions",
+    ),
+    (
+        "SELECT a FROM t WHERE 1 = 1",
+        " + 1",
+        32,
+        "",
+        "limit expression",
+    ),
+    (
+        "SELECT a FROM t WHERE 1 = 1",
+        " + 1",
+        100,
+        " + a",
+        "unsupported ARITHMETIC IN WHERE",
+    ),
+    (
+        "SELECT a FROM t WHERE a = 1",
+        " OR a = 1",
+        99,
+        " OR a + 1 = 2",
+        "unsupported ARITHMETIC IN WHERE",
+    ),
+    (
+        "SELECT a",
+        " + 1",
+        99,
+        " + 9223372036854775808 FROM t",
+        "limit literal",
+    ),
+    (
+        "DELETE FROM t WHERE a = 1",
+        " OR a = 1",
+        99,
+        " OR a = 9223372036854775808",
+        "limit literal",
+    ),
+    ("SELECT a", ", a", 31, " FROM t", "SELECT "),
+    ("SELECT a", ", a", 32, " FROM t", "limit items"),
+    ("SELECT a FROM t", ", t", 3, "", "SELECT "),
+    ("SELECT a FROM t", ", t", 4, "", "limit tables"),
+    ("SELECT a FROM t GROUP BY a", ", a", 7, "", "SELECT "),
+    ("SELECT a FROM t GROUP BY a", ", a", 8, "", "limit groups"),
+    ("SELECT a FROM t ORDER BY a", ", a", 7, "", "SELECT "),
+    ("SELECT a FROM t ORDER BY a", ", a", 8, "", "limit keys"),
+    ("CREATE TABLE t (a INT", ", a INT", 63, ")", "CREATE "),
+    ("CREATE TABLE t (a INT", ", a INT", 64, ")", "limit columns"),
+    ("DROP TABLE ", "a", 64, "", "DROP "),
+    ("DROP TABLE ", "a", 65, "", "limit name"),
+    ("SELECT ", "(", 512, "a", "syntax"),
+    ("SELECT ", "(", 513, "a", "limit nesting"),
+    ("SELECT ", "- ", 512, "a FROM t", "limit expression"),
+    ("SELECT ", "- ", 513, "a FROM t", "limit nesting"),
+    ("SELECT LIKE ", "- ", 513, "a FROM t", "unsupported LIKE"),
+    (
+        "SELECT a FROM t WHERE ",
+        "NOT ",
+        513,
+        "a = 1",
+        "limit nesting",
+    ),
+];
+
+/// What is printed of a refusal.
+fn words(alloc: Global, refusal: &Refusal) -> Result<Vec<u8>, Memory> {
+    let mut words = Vec::new(alloc);
+    refusal.write_words(&mut words)?;
+    Ok(words)
+}
+
+/// The words of a text's refusal, or its canonical text.
+fn answer(alloc: Global, text: &str) -> Result<Vec<u8>, Memory> {
     let read = parse(alloc, text);
     match &read {
-        Ok(statement) => statement_shape(alloc, statement),
-        Err(ParseError::Refused(refusal)) => refusal_shape(alloc, refusal),
-        Err(ParseError::Memory) => String::from_str(alloc, "memory"),
+        Ok(stmt) => print_stmt(alloc, stmt),
+        Err(ParseError::Refused(refusal)) => words(alloc, refusal),
+        Err(ParseError::Memory) => Err(Memory),
     }
 }
 
-/// A refusal in words.
-fn refusal_shape(alloc: Global, refusal: &Refusal) -> Result<String, AllocError> {
-    match refusal {
-        Refusal::Unsupported(name) if name.text() == "NOT BUILT" => {
-            String::from_str(alloc, "not built")
-        }
-        _ => String::from_str(alloc, "refused"),
-    }
-}
-
-/// A statement in words.
-fn statement_shape(alloc: Global, statement: &Stmt) -> Result<String, AllocError> {
-    match statement {
-        Stmt::Create { table, columns } => create_shape(alloc, table.text(), columns),
-        Stmt::Insert {
-            table,
-            columns,
-            rows,
-        } => insert_shape(alloc, table.text(), columns.len(), rows),
-        Stmt::Query(query) => query_shape(alloc, query),
-    }
-}
-
-/// A CREATE in words.
-fn create_shape(
+/// A text in which a part stands so many times.
+fn repeated(
     alloc: Global,
-    table: &str,
-    columns: &Sequence<Column>,
+    before: &str,
+    part: &str,
+    times: u32,
+    after: &str,
 ) -> Result<String, AllocError> {
-    let mut words = format!(in alloc; "create {table}:")?;
-    for column in columns.as_slice() {
-        let (kind, width, not_null) = (column.kind, column.width, column.not_null);
-        write!(words, " {} {kind:?} {width} {not_null}", column.name.text())?;
+    let mut text = String::from_str(alloc, before)?;
+    for _ in 0..times {
+        text.push_str(part)?;
     }
-    Ok(words)
-}
-
-/// An INSERT in words.
-fn insert_shape(
-    alloc: Global,
-    table: &str,
-    columns: usize,
-    rows: &Sequence<Sequence<Cell>>,
-) -> Result<String, AllocError> {
-    let mut words = format!(in alloc; "insert {table}:")?;
-    if columns != 0 {
-        words.push_str(" with columns")?;
-    }
-    for row in rows.as_slice() {
-        match row.as_slice() {
-            [Cell::Int(number)] => write!(words, " {number}")?,
-            _ => words.push_str(" another row")?,
-        }
-    }
-    Ok(words)
-}
-
-/// A query in words.
-fn query_shape(alloc: Global, query: &Query) -> Result<String, AllocError> {
-    let ([item], [from]) = (query.items.as_slice(), query.froms.as_slice()) else {
-        return String::from_str(alloc, "another query");
-    };
-    let Some(Cond::Between { of, low, high }) = &query.cond else {
-        return String::from_str(alloc, "another condition");
-    };
-    match (&item.expr, of, low, high) {
-        (Expr::Col(item), Expr::Col(of), Expr::Lit(Cell::Int(low)), Expr::Lit(Cell::Int(high)))
-            if item.table.is_none() && of.table.is_none() => {
-            let (item, table, of) = (item.column.text(), from.table.text(), of.column.text());
-            format!(in alloc; "select {item} from {table} where {of}: {low} to {high}")
-        }
-        _ => String::from_str(alloc, "another query"),
-    }
+    text.push_str(after)?;
+    Ok(text)
 }
 
 #[test]
-fn texts_are_read(rt: HostRuntime) -> Result<(), Fail> {
+fn texts_are_answered(rt: HostRuntime) -> Result<(), Fail> {
     one_reading();
-    one_source();
-    for (text, want) in TEXTS {
-        let found = shape(rt.alloc(), text)?;
-        assert_eq!(rt; found.as_str(), want, "at {text}");
-    }
-    Ok(())
-}
-
-#[test]
-fn long_names_and_statements(rt: HostRuntime) -> Result<(), Fail> {
     let alloc = rt.alloc();
-    for (bytes, built) in [(64, true), (65, false)] {
-        let name = "n".repeat(alloc, bytes)?;
-        let text = format!(in alloc; "create table t ({} int)", name.as_str())?;
-        let found = shape(alloc, text.as_str())?;
-        assert_eq!(rt;
-            found.as_str() != "not built",
-            built,
-            "at a name of {bytes}"
-        );
-    }
-    for (bytes, built) in [(65_536, true), (65_537, false)] {
-        let blanks = " ".repeat(alloc, bytes - 24)?;
-        let text = format!(in alloc; "\n insert into t values ({}1)\t ", blanks.as_str())?;
-        assert_eq!(rt; text.len(), bytes + 4);
-        let found = shape(alloc, text.as_str())?;
-        assert_eq!(rt; found.as_str() == "insert t: 1", built, "at {bytes} bytes");
+    for (text, want) in &TEXTS {
+        let answer = answer(alloc, text)?;
+        assert!(rt; answer.as_slice() == want.as_bytes(), "{text}");
     }
     Ok(())
 }
 
 #[test]
-fn scripts_are_split(rt: HostRuntime) -> Result<(), Fail> {
+fn limits(rt: HostRuntime) -> Result<(), Fail> {
     let alloc = rt.alloc();
-    let scripts = [
-        ("", ""),
-        (" \t\r\n", ""),
-        ("a", "a|"),
-        ("a;", "a|"),
-        (";;a b;; ;\n", "a b|"),
-        ("a; b ;\nc", "a| b |\nc|"),
-    ];
-    for (script, want) in scripts {
-        let mut found = String::new(alloc);
-        for piece in split(alloc, script)?.iter() {
-            found.push_str(piece.text())?;
-            found.push_str("|")?;
-        }
-        assert_eq!(rt; found.as_str(), want, "at {script}");
+    for (before, part, times, after, want) in &LONG {
+        let text = repeated(alloc, before, part, *times, after)?;
+        let answer = answer(alloc, text.as_str())?;
+        assert!(rt; answer.as_slice().starts_with(want.as_bytes()), "{text}");
     }
-    let most = "a;".repeat(alloc, MOST_STATEMENTS)?;
-    assert_eq!(rt; split(alloc, most.as_str())?.len(), MOST_STATEMENTS);
-    let more = format!(in alloc; "{}b", most.as_str())?;
-    assert!(rt; matches!(split(alloc, more.as_str()), Err(SplitError::TooMany)));
     Ok(())
 }
 
 #[test]
-fn marks_are_found(rt: HostRuntime) {
-    for text in ["", "select a", "a - b", "1/2 *", "-", "/", "- -"] {
-        assert!(rt; !has_marks(text), "in {text}");
-    }
-    for text in ["'", "a\"b", "a--", "x /* y", "a'"] {
-        assert!(rt; has_marks(text), "in {text}");
-    }
+fn parentheses_are_levels(rt: HostRuntime) -> Result<(), Fail> {
+    let alloc = rt.alloc();
+    let text = repeated(alloc, "SELECT ", "(", 512, "a")?;
+    let text = repeated(alloc, text.as_str(), ")", 512, " FROM t")?;
+    let answer = answer(alloc, text.as_str())?;
+    assert!(rt; answer.as_slice() == b"SELECT a FROM t".as_slice());
+    assert_eq!(rt; split(alloc, "SELECT a; SELECT b")?.len(), 2);
+    Ok(())
 }

@@ -1,63 +1,39 @@
-ghost use Rattle.std.specs.Prelude.{◌≡◌, Ok, Err, Some, None, IfOk, IsErrOf};
-ghost use Rattle.sql_core.specs.Reading.{IsReadAs};
-ghost use Rattle.sql_parse.specs.Reader as reader;
-ghost use Rattle.sql_parse.specs.Refused.{IfRefused};
+ghost use Rattle.std.specs.Prelude.{◌≡◌, Ok, Err, IfOk};
+ghost use Rattle.sql_parse.specs.Answered.{Reads};
+ghost use Rattle.sql_parse.specs.Steps.{AreAnswered};
+ghost use Rattle.sql_parse.specs.declared.error.ParseError.TheVariants.{Refused};
+ghost use Rattle.sql_semantics.specs.declared.refusal.Refusal.{Refusal as RefusalSeen};
+ghost use Rattle.sql_tree.specs.Tree.{stmt_tree};
 
-use crate::bytes::is_short;
-use crate::cursor::Cursor;
-use crate::statement::read_statement;
-use crate::stop::Stop;
-use crate::tokens::read_tokens;
-use cell_core::{Memory, word_of};
-use sql_core::{Refusal, Stmt};
+use crate::error::ParseError;
+use crate::steps::{check_left_out, check_levels, check_limits, check_rules};
+use sql_statements::read_stmt;
+use sql_tokens::tokens;
+use sql_tree::{Placed, Stmt};
 use std::alloc::Global;
-use thiserror::Error;
 
-/// Why a text isn't parsed.
-#[derive(Debug, Drop, Error)]
-pub enum ParseError {
-    /// The statement is refused.
-    #[error("the statement is refused")]
-    Refused(Refusal),
-    /// Memory ran out.
-    #[error("memory ran out")]
-    Memory,
-}
-
-impl From<Memory> for ParseError {
-    ghost use Rattle.sql_parse.specs.declared.text.ParseError.TheVariants.{Memory as ParseMemory};
-
-    ghost from_gives = { λ _ e. e ≡ ParseMemory };
-
-    fn from(_e: Memory) -> ParseError {
-        ParseError::Memory
-    }
-}
-
-/// The statement that a text is, or the refusal of what isn't built.
+/// The statement that the text is, or why it is refused: by the first of these that applies. It has no
+/// tokens (syntax); a rule of the profile applies to a token (unsupported, by the first such token); more
+/// than 512 levels stand open at some token (limit nesting); the grammar derives no statement (syntax);
+/// the profile leaves something out of the statement (unsupported); the statement passes a limit (the
+/// first of them).
 pub fn parse(alloc: Global, text: &str) -> Result<Stmt, ParseError>
-    ensures read { IfOk result (λ statement. IsReadAs text.now (Ok statement)) }
-    ensures refused { IfRefused result (λ refusal. IsReadAs text.now (Err refusal)) }
+    ensures read { IfOk result (λ stmt. Reads text.now (Ok (stmt_tree stmt))) }
+    ensures refused { (refusal : RefusalSeen) → result ≡ Err (Refused refusal) → Reads text.now (Err refusal) }
 {
-    match read_text(alloc, text) {
-        Ok(statement) => Ok(statement),
-        Err(Stop::Memory) => Err(ParseError::Memory),
-        Err(Stop::NotBuilt) => {
-            let name = word_of(alloc, "NOT BUILT")?;
-            Err(ParseError::Refused(Refusal::Unsupported(name)))
-        }
-    }
+    let tokens = tokens(alloc, text)?;
+    parse_tokens(alloc, tokens.as_slice())
 }
 
-/// The statement that a text is.
-fn read_text(alloc: Global, text: &str) -> Result<Stmt, Stop>
-    ensures found { IfOk result (λ statement. reader.read_text text.now ≡ Some statement) }
-    ensures none { IsErrOf result Stop.NotBuilt → reader.read_text text.now ≡ None }
+/// The statement that tokens are, or why they are refused.
+fn parse_tokens(alloc: Global, tokens: &[Placed]) -> Result<Stmt, ParseError>
+    ensures read { IfOk result (λ stmt. AreAnswered tokens.now (Ok (stmt_tree stmt))) }
+    ensures refused { (refusal : RefusalSeen) → result ≡ Err (Refused refusal) → AreAnswered tokens.now (Err refusal) }
 {
-    if !is_short(text) {
-        return Err(Stop::NotBuilt);
-    }
-    let tokens = read_tokens(alloc, text)?;
-    let mut cursor = Cursor::new(tokens.as_slice());
-    read_statement(alloc, &mut cursor)
+    check_rules(alloc, tokens)?;
+    check_levels(alloc, tokens)?;
+    let stmt = read_stmt(alloc, tokens)?;
+    check_left_out(alloc, &stmt)?;
+    check_limits(alloc, tokens, &stmt)?;
+    Ok(stmt)
 }

@@ -3,19 +3,19 @@ use Rattle.std.proofs.Common.{◌≡◌, ℕ, ◌==◌, List, [], ◌∷◌, ◌
 use Rattle.std.specs.List.{filter_map}
 use Rattle.std.proofs.lemmas.List.Elements.{filter_map-append}
 use Rattle.cell_core.specs.declared.table.Db.{Db}
-use Rattle.cell_core.specs.Tables.{has_table}
-use Rattle.sql_core.specs.Names.{name_text}
-use Rattle.sql_core.specs.Refusals.{refusal_number}
-use Rattle.sql_core.specs.Effect.{effect, created, inserted, replay_from}
-use Rattle.sql_core.specs.declared.tree.Stmt.{Stmt}
-use Rattle.sql_core.specs.declared.tree.Stmt.TheVariants as stmt
-use Rattle.sql_core.specs.declared.refusal.Refusal.{Refusal}
-use Rattle.sql_core.specs.declared.refusal.Refusal.TheVariants as refusal
-use Rattle.sql_core.specs.declared.refusal.Reply.{Reply}
-use Rattle.sql_core.specs.declared.refusal.Reply.TheVariants.{Done, Rows, Refused}
-use Rattle.answer_text.specs.declared.event.Event.{Event}
-use Rattle.answer_text.specs.declared.event.Act.TheVariants.{Begin, Write, End}
-use Rattle.answer_text.specs.Log.{commits, committed, acts_over, shown_reply, code_of, count_of}
+use Rattle.cell_core.specs.declared.table.Table.{Table}
+use Rattle.cell_core.specs.Tables.{named_table}
+use Rattle.sql_semantics.specs.Refusals.{refusal_number}
+use Rattle.sql_semantics.specs.Check.{check_refusal}
+use Rattle.sql_semantics.specs.Effect.{Change, effect, effect_unless, accepted, changed, changed_by, inserted, deleted, updated, replay_from}
+use Rattle.sql_semantics.specs.Sources.{schema_of}
+use Rattle.sql_semantics.specs.declared.refusal.Refusal.{Refusal}
+use Rattle.sql_semantics.specs.declared.refusal.Refusal.TheVariants as refusal
+use Rattle.sql_semantics.specs.declared.refusal.Reply.{Reply}
+use Rattle.sql_semantics.specs.declared.refusal.Reply.TheVariants.{Done, Rows, Refused}
+use Rattle.sql_tree.specs.Tree.{QueryTree, StmtTree}
+use Rattle.sql_tree.specs.Tree.StmtTree.{CreateTable, DropTable, InsertInto, DeleteFrom, UpdateTable, Select, ExplainSelect}
+use Rattle.answer_text.specs.Log.{EventTree, Writes, commits, committed, acts_over, shown_reply, code_of, count_of}
 use Rattle.sql_shell.specs.Session.{events_of, db_after}
 
 number_not_zero : (r : Refusal) → (refusal_number r == 0) ≡ false
@@ -34,40 +34,74 @@ number_not_zero (refusal.NameTwice name) = refl
 number_not_zero refusal.NullStored = refl
 number_not_zero (refusal.NotGrouped name) = refl
 
-refused_first : (b : Bool) (db other : Db) (why r : Refusal) (reply : Reply) → (reply ≡ Refused r → ⊥) → (cond {A = Db × Reply} b (db, Refused why) (other, reply)).1 ≡ Refused r → (cond {A = Db × Reply} b (db, Refused why) (other, reply)).0 ≡ db
-refused_first true db other why r reply never e = refl
-refused_first false db other why r reply never e = absurd (never e)
+changed_by_keeps : (name : List ℕ) (change : Change) (db : Db) (r : Refusal) → (changed_by name change db).1 ≡ Refused r → (changed_by name change db).0 ≡ db
+changed_by_keeps name (Ok outcome) db r e = cc
+changed_by_keeps name (Err refusal) db r e = refl
 
-refused_second : (b : Bool) (db other : Db) (why r : Refusal) (reply : Reply) → (reply ≡ Refused r → ⊥) → (cond {A = Db × Reply} b (other, reply) (db, Refused why)).1 ≡ Refused r → (cond {A = Db × Reply} b (other, reply) (db, Refused why)).0 ≡ db
-refused_second true db other why r reply never e = absurd (never e)
-refused_second false db other why r reply never e = refl
+changed_keeps : (name : List ℕ) (change : Table → Change) (found : Option Table) (db : Db) (r : Refusal) → (changed name change found db).1 ≡ Refused r → (changed name change found db).0 ≡ db
+changed_keeps name change (Some table) db r e = changed_by_keeps name (change table) db r e
+changed_keeps name change None db r e = refl
+
+accepted_keeps : (statement : StmtTree) (db : Db) (r : Refusal) → (accepted statement db).1 ≡ Refused r → (accepted statement db).0 ≡ db
+accepted_keeps (CreateTable table columns) db r e = cc
+accepted_keeps (DropTable table) db r e = cc
+accepted_keeps (InsertInto table listed rows) db r e = changed_keeps table (inserted listed rows) (named_table table db) db r e
+accepted_keeps (DeleteFrom table cond) db r e = changed_keeps table (deleted cond) (named_table table db) db r e
+accepted_keeps (UpdateTable table sets cond) db r e = changed_keeps table (updated sets cond) (named_table table db) db r e
+accepted_keeps (Select query) db r e = refl
+accepted_keeps (ExplainSelect query) db r e = refl
+
+unless_keeps : (why : Option Refusal) (statement : StmtTree) (db : Db) (r : Refusal) → (effect_unless why statement db).1 ≡ Refused r → (effect_unless why statement db).0 ≡ db
+unless_keeps (Some refusal) statement db r e = refl
+unless_keeps None statement db r e = accepted_keeps statement db r e
 
 -- a refused statement leaves the database
-pub refused_keeps : (statement : Stmt) (db : Db) (r : Refusal) → (effect statement db).1 ≡ Refused r → (effect statement db).0 ≡ db
-refused_keeps (stmt.Create table columns) db r e = refused_first (has_table table db) db _ _ r Done (λ d. cc) e
-refused_keeps (stmt.Insert table columns rows) db r e = refused_second (has_table table db) db _ _ r _ (λ d. cc) e
-refused_keeps (stmt.Query query) db r e = refl
+pub refused_keeps : (statement : StmtTree) (db : Db) (r : Refusal) → (effect statement db).1 ≡ Refused r → (effect statement db).0 ≡ db
+refused_keeps statement db r e = unless_keeps (check_refusal statement (schema_of db)) statement db r e
+
+select_unless : (why : Option Refusal) (query : QueryTree) (db : Db) → (effect_unless why (Select query) db).0 ≡ db
+select_unless (Some refusal) query db = refl
+select_unless None query db = refl
+
+explain_unless : (why : Option Refusal) (query : QueryTree) (db : Db) → (effect_unless why (ExplainSelect query) db).0 ≡ db
+explain_unless (Some refusal) query db = refl
+explain_unless None query db = refl
+
+-- so does a query, and an EXPLAIN
+pub select_keeps : (query : QueryTree) (db : Db) → (effect (Select query) db).0 ≡ db
+select_keeps query db = select_unless (check_refusal (Select query) (schema_of db)) query db
+
+pub explain_keeps : (query : QueryTree) (db : Db) → (effect (ExplainSelect query) db).0 ≡ db
+explain_keeps query db = explain_unless (check_refusal (ExplainSelect query) (schema_of db)) query db
 
 -- the commits of a write lead where its statement does
-written : (statement : Stmt) (db after : Db) (reply : Reply) (s k n : ℕ) → (effect statement db).0 ≡ after → ((r : Refusal) → reply ≡ Refused r → after ≡ db) → replay_from db (commits (events_of s k (Write (Some statement) (code_of (shown_reply reply)) n ∷ []))) ≡ after
+written : (statement : StmtTree) (db after : Db) (reply : Reply) (s k n : ℕ) → (effect statement db).0 ≡ after → ((r : Refusal) → reply ≡ Refused r → after ≡ db) → replay_from db (commits (events_of s k (Writes (Some statement) (code_of (shown_reply reply)) n ∷ []))) ≡ after
 written statement db after Done s k n leads keeps = leads
 written statement db after (Rows m) s k n leads keeps = leads
 written statement db after (Refused r) s k n leads keeps =
     ap (λ b. replay_from db (commit_list (cond b (Some statement) None))) (number_not_zero r) ∙ sym (keeps r refl)
   where
-    commit_list : Option Stmt → List Stmt
+    commit_list : Option StmtTree → List StmtTree
     commit_list o = filter_map (λ x. x) (o ∷ [])
 
+-- the commits of a change that is written lead where it does
+change_leads : (s : ℕ) (db : Db) (statement : StmtTree) (k : ℕ) → replay_from db (commits (events_of s k (Writes (Some statement) (code_of (shown_reply (effect statement db).1)) (count_of (shown_reply (effect statement db).1)) ∷ []))) ≡ (effect statement db).0
+change_leads s db statement k = written statement db _ (effect statement db).1 s k (count_of (shown_reply (effect statement db).1)) refl (refused_keeps statement db)
+
 -- the commits of a statement's events lead where the statement does
-pub commits_lead : (s : ℕ) (db : Db) (reading : Result Stmt Refusal) (k : ℕ) → replay_from db (commits (events_of s k (acts_over db reading))) ≡ db_after db reading
-commits_lead s db (Err r) k = ap (λ b. replay_from db (filter_map (λ (x : Option Stmt). x) (cond b None None ∷ []))) (number_not_zero r)
-commits_lead s db (Ok (stmt.Create table columns)) k = written (stmt.Create table columns) db _ (effect (stmt.Create table columns) db).1 s k (count_of (shown_reply (effect (stmt.Create table columns) db).1)) refl (refused_keeps (stmt.Create table columns) db)
-commits_lead s db (Ok (stmt.Insert table columns rows)) k = written (stmt.Insert table columns rows) db _ (effect (stmt.Insert table columns rows) db).1 s k (count_of (shown_reply (effect (stmt.Insert table columns rows) db).1)) refl (refused_keeps (stmt.Insert table columns rows) db)
-commits_lead s db (Ok (stmt.Query query)) k = refl
+pub commits_lead : (s : ℕ) (db : Db) (reading : Result StmtTree Refusal) (k : ℕ) → replay_from db (commits (events_of s k (acts_over db reading))) ≡ db_after db reading
+commits_lead s db (Err r) k = ap (λ b. replay_from db (filter_map (λ (x : Option StmtTree). x) (cond b None None ∷ []))) (number_not_zero r)
+commits_lead s db (Ok (CreateTable table columns)) k = change_leads s db (CreateTable table columns) k
+commits_lead s db (Ok (DropTable table)) k = change_leads s db (DropTable table) k
+commits_lead s db (Ok (InsertInto table listed rows)) k = change_leads s db (InsertInto table listed rows) k
+commits_lead s db (Ok (DeleteFrom table cond)) k = change_leads s db (DeleteFrom table cond) k
+commits_lead s db (Ok (UpdateTable table sets cond)) k = change_leads s db (UpdateTable table sets cond) k
+commits_lead s db (Ok (Select query)) k = sym (select_keeps query db)
+commits_lead s db (Ok (ExplainSelect query)) k = sym (explain_keeps query db)
 
-pub commits-append : (xs ys : List Event) → commits (xs ++ ys) ≡ commits xs ++ commits ys
-commits-append xs ys = filter_map-append (λ (event : Event). committed event.act) xs ys
+pub commits-append : (xs ys : List EventTree) → commits (xs ++ ys) ≡ commits xs ++ commits ys
+commits-append xs ys = filter_map-append (λ (event : EventTree). committed event.act) xs ys
 
-pub replay_from-append : (db : Db) (xs ys : List Stmt) → replay_from db (xs ++ ys) ≡ replay_from (replay_from db xs) ys
+pub replay_from-append : (db : Db) (xs ys : List StmtTree) → replay_from db (xs ++ ys) ≡ replay_from (replay_from db xs) ys
 replay_from-append db [] ys = refl
 replay_from-append db (x ∷ xs) ys = replay_from-append (effect x db).0 xs ys

@@ -1,6 +1,6 @@
 pub mod CommitLemmas
-pub mod IntLemmas
-pub mod MissingLemmas
+pub mod KindLemmas
 pub mod ScriptLemmas
 pub mod ServedLemmas
 pub mod SessionLemmas
+pub mod ShowLemmas

@@ -5,15 +5,14 @@ use Rattle.std.specs.Option.{option_and_then}
 use Rattle.std.proofs.lemmas.List.{take_more, take-append-drop, length-take-le}
 use Rattle.std.proofs.Math.Seq.{drop-cons}
 use Rattle.std.proofs.lemmas.Bool.Decides.{nat_tests}
-use Rattle.sql_core.specs.Reading.{pieces_of}
-use Rattle.sql_core.specs.declared.tree.Stmt.{Stmt}
-use Rattle.sql_core.specs.declared.refusal.Refusal.{Refusal}
-use Rattle.answer_text.specs.declared.event.Event.{Event}
-use Rattle.answer_text.specs.Log.{IsOrdered}
+use Rattle.sql_semantics.specs.declared.refusal.Refusal.{Refusal}
+use Rattle.sql_tree.specs.Pieces.{pieces_of}
+use Rattle.sql_tree.specs.Tree.{StmtTree}
+use Rattle.answer_text.specs.Log.{EventTree, IsOrdered}
 use Rattle.answer_text.specs.Layout.{printed}
 use Rattle.sql_shell.specs.Readings.{AreReadings, AreAllRead}
-use Rattle.sql_shell.specs.Words.{few_files, files_in, run_files}
-use Rattle.sql_shell.specs.Scripts.{IsRunnable, IsUnfit, TooLong, NotText, Marked, TooMany, IsFirstUnfit, AreRunnable, about, both_told, told, names_of, pieces_in, IsCut, AreCut}
+use Rattle.command_words.specs.Words.{few_files, files_in, run_files}
+use Rattle.sql_shell.specs.Scripts.{IsRunnable, IsUnfit, TooLong, NotText, TooMany, IsFirstUnfit, AreRunnable, both_told, told, names_of, pieces_in, IsCut, AreCut}
 use Rattle.sql_shell.specs.Served.{AreRead, IsServed}
 use Rattle.sql_shell.specs.Session.{Produces}
 use Rattle.sql_shell.specs.Work.{HasWork}
@@ -79,19 +78,19 @@ are_of bytes (n ∷ ns) (s ∷ ss) texts are e =
 
 -- behind scripts that were read, one that can't be run is the first
 pub unfit_at : (bytes : List ℕ → Option (List ℕ)) (names : List (List ℕ)) (scripts : List Script) (name : List ℕ) (more : List (List ℕ)) (number status at : ℕ) (texts : List (List ℕ))
-    → AreCut bytes names scripts → IfSome (bytes name) (λ text. IsUnfit text status × (at ≡ about status (number + length names)))
+    → AreCut bytes names scripts → IfSome (bytes name) (λ text. IsUnfit text status × (at ≡ number + length names))
     → told bytes (names ++ name ∷ more) ≡ Some texts → IsFirstUnfit number texts status at
 unfit_at bytes [] [] name more number status at texts are unfit e =
     let first = first_told (bytes name) (told bytes more) texts e in
-    let own = some_of (bytes name) (λ text. IsUnfit text status × (at ≡ about status (number + 0))) first.text first.here unfit in
+    let own = some_of (bytes name) (λ text. IsUnfit text status × (at ≡ number + 0)) first.text first.here unfit in
     let P : List (List ℕ) → Type 0 = λ ts. IsFirstUnfit number ts status at in
-    subst P first.all (inl (own.0, own.1 ∙ ap (about status) (let n : number + 0 ≡ number = omega arith in n)))
+    subst P first.all (inl (own.0, own.1 ∙ (let n : number + 0 ≡ number = omega arith in n)))
 unfit_at bytes [] (s ∷ ss) name more number status at texts are unfit e = absurd are
 unfit_at bytes (n ∷ ns) [] name more number status at texts are unfit e = absurd are
 unfit_at bytes (n ∷ ns) (s ∷ ss) name more number status at texts are unfit e =
     let first = first_told (bytes n) (told bytes (ns ++ name ∷ more)) texts e in
     let own = some_of (bytes n) (λ text. IsRunnable text × (s.pieces ≡ pieces_of text)) first.text first.here are.0.cut in
-    let Q : ℕ → Type 0 = λ m. IfSome (bytes name) (λ text. IsUnfit text status × (at ≡ about status m)) in
+    let Q : ℕ → Type 0 = λ m. IfSome (bytes name) (λ text. IsUnfit text status × (at ≡ m)) in
     let on : number + (length ns + 1) ≡ (number + 1) + length ns = omega arith in
     let P : List (List ℕ) → Type 0 = λ ts. IsFirstUnfit number ts status at in
     subst P first.all (inr (own.0, unfit_at bytes ns ss name more (number + 1) status at first.more are.1 (subst Q (let e : number + length (n ∷ ns) ≡ (number + 1) + length ns = omega arith in e) unfit) first.there))
@@ -103,11 +102,11 @@ module _ (bytes now : List ℕ → Option (List ℕ)) (same : (other : List ℕ)
   split : take i names ++ name ∷ drop (suc i) names ≡ names
   split = ap (λ n. take i names ++ n ∷ drop (suc i) names) is ∙ ap (λ d. take i names ++ d) (sym (drop-cons names i name inside)) ∙ take-append-drop i names
 
-  pub unfit_here : (status at : ℕ) → IfSome (now name) (λ text. IsUnfit text status × (at ≡ about status (i + 1))) → IfSome (told bytes names) (λ texts. IsFirstUnfit 1 texts status at)
+  pub unfit_here : (status at : ℕ) → IfSome (now name) (λ text. IsUnfit text status × (at ≡ i + 1)) → IfSome (told bytes names) (λ texts. IsFirstUnfit 1 texts status at)
   unfit_here status at unfit =
-      let Q : Option (List ℕ) → Type 0 = λ b. IfSome b (λ text. IsUnfit text status × (at ≡ about status (i + 1))) in
+      let Q : Option (List ℕ) → Type 0 = λ b. IfSome b (λ text. IsUnfit text status × (at ≡ i + 1)) in
       let here = subst Q (same name) unfit in
-      let R : ℕ → Type 0 = λ n. IfSome (bytes name) (λ text. IsUnfit text status × (at ≡ about status n)) in
+      let R : ℕ → Type 0 = λ n. IfSome (bytes name) (λ text. IsUnfit text status × (at ≡ n)) in
       let long : length (take i names) ≡ i = length-take-le i names (omega arith) in
       let counted = subst R (let e : i + 1 ≡ 1 + length (take i names) = omega (arith, long) in e) here in
       if_some (told bytes names) (λ texts. IsFirstUnfit 1 texts status at)
@@ -128,8 +127,7 @@ all_fit number (text ∷ texts) status at fit (inl unfit) = runs unfit.0
     runs : IsUnfit text status → ⊥
     runs (TooLong long is) = absurd (omega (arith, fit.0.short, long))
     runs (NotText short bad is) = bad fit.0.text
-    runs (Marked short good marked is) = let wrong : true ≡ false = sym marked ∙ fit.0.plain in cc
-    runs (TooMany short good plain many is) = absurd (omega (arith, fit.0.few, many))
+    runs (TooMany short good many is) = absurd (omega (arith, fit.0.few, many))
 all_fit number (text ∷ texts) status at fit (inr unfit) = all_fit (number + 1) texts status at fit.1 unfit.1
 
 -- no script has too many statements
@@ -165,14 +163,14 @@ few_pieces bytes (n ∷ ns) (s ∷ ss) are = omega (arith, few_pieces bytes ns s
 
 -- ## What a run of them serves
 
-read_of : (texts : List (List ℕ)) (readings : List (List (Result Stmt Refusal))) → AreAllRead (map pieces_of texts) readings → AreRead texts readings
+read_of : (texts : List (List ℕ)) (readings : List (List (Result StmtTree Refusal))) → AreAllRead (map pieces_of texts) readings → AreRead texts readings
 read_of [] [] are = tt
 read_of [] (r ∷ rs) are = absurd are
 read_of (t ∷ ts) [] are = absurd are
 read_of (t ∷ ts) (r ∷ rs) are = (are.0, read_of ts rs are.1)
 
 module _ (bytes : List ℕ → Option (List ℕ)) (names : List (List ℕ)) (scripts : List Script) (texts : List (List ℕ)) (are : AreCut bytes names scripts) (e : told bytes names ≡ Some texts)
-    (log : List Event) (text : List ℕ) (work : ℕ) (produced : Produces (names_of scripts) (pieces_in scripts) log text work) where
+    (log : List EventTree) (text : List ℕ) (work : ℕ) (produced : Produces (names_of scripts) (pieces_in scripts) log text work) where
   all_read : AreRead texts produced.readings
   all_read =
       let P : List (List (List ℕ)) → Type 0 = λ ps. AreAllRead ps produced.readings in
@@ -202,9 +200,9 @@ lifted bytes words names P found f =
 -- scripts that can all be run, from a source without a fault, leave want of memory alone
 pub complete_of : (failure : Failure) (texts : List (List ℕ)) (Rises : Type 0)
     → (is_by_bytes (status_of failure) ≡ true → IsFirstUnfit 1 texts (status_of failure) (at_of failure)) → (status_of failure ≡ 2 → Rises)
-    → AreRunnable texts → (Rises → ⊥) → (status_of failure ≡ 0) ⊎ (status_of failure ≡ 5)
-complete_of Words texts Rises unfit fault fit calm = absurd (all_fit 1 texts 1 0 fit (unfit refl))
-complete_of (Fault n) texts Rises unfit fault fit calm = absurd (calm (fault refl))
-complete_of (failure.TooLong n) texts Rises unfit fault fit calm = absurd (all_fit 1 texts 4 n fit (unfit refl))
-complete_of (failure.NotText n) texts Rises unfit fault fit calm = absurd (all_fit 1 texts 6 n fit (unfit refl))
-complete_of Memory texts Rises unfit fault fit calm = inr refl
+    → (status_of failure ≡ 1 → ⊥) → AreRunnable texts → (Rises → ⊥) → (status_of failure ≡ 0) ⊎ (status_of failure ≡ 5)
+complete_of Words texts Rises unfit fault bytes fit calm = absurd (bytes refl)
+complete_of (Fault n) texts Rises unfit fault bytes fit calm = absurd (calm (fault refl))
+complete_of (failure.TooLong n) texts Rises unfit fault bytes fit calm = absurd (all_fit 1 texts 4 n fit (unfit refl))
+complete_of (failure.NotText n) texts Rises unfit fault bytes fit calm = absurd (all_fit 1 texts 6 n fit (unfit refl))
+complete_of Memory texts Rises unfit fault bytes fit calm = inr refl

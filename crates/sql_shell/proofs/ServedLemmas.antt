@@ -1,65 +1,62 @@
 -- A run that has served scripts, and one statement or one script more.
-use Rattle.std.proofs.Common.{◌≡◌, ℕ, ◌+◌, ◌<◌, List, [], ◌∷◌, ◌++◌, length, take, map, slice_index_or, refl, ap, sym, ◌∙◌, subst, arith, append_assoc, append-nil, Option, Some, None, Ok, Err, Result}
+use Rattle.std.proofs.Common.{◌≡◌, ℕ, ◌+◌, ◌<◌, List, [], ◌∷◌, ◌++◌, length, take, map, slice_index_or, refl, ap, sym, ◌∙◌, subst, arith, true, append_assoc, append-nil, Option, Some, None, Ok, Err, Result}
 use Rattle.std.proofs.lemmas.List.{take_more, length-take-le, length-map, map-append}
-use Rattle.cell_core.specs.declared.cell.Cell.{Cell}
 use Rattle.cell_core.specs.declared.table.Db.{Db}
-use Rattle.cell_core.specs.Order.{is_row_below}
-use Rattle.cell_core.specs.Sorted.{sorted_by}
-use Rattle.sql_core.specs.Answer.{tables_of, query_rows}
-use Rattle.sql_core.specs.Effect.{query_refusal}
-use Rattle.sql_core.specs.Reading.{IsReadAs}
-use Rattle.sql_core.specs.declared.tree.Query.{Query}
-use Rattle.sql_core.specs.declared.tree.Stmt.{Stmt}
-use Rattle.sql_core.specs.declared.tree.Stmt.TheVariants as stmt
-use Rattle.sql_core.specs.declared.refusal.Refusal.{Refusal}
-use Rattle.answer_text.specs.declared.event.Event.{Event}
-use Rattle.answer_text.specs.declared.event.Act.TheVariants.{Begin, End}
+use Rattle.sql_parse.specs.Answered.{Reads}
+use Rattle.sql_semantics.specs.Effect.{effect}
+use Rattle.sql_semantics.specs.Refusals.{refusal_number}
+use Rattle.sql_semantics.specs.declared.refusal.Refusal.{Refusal}
+use Rattle.sql_semantics.specs.declared.refusal.Reply.{Reply}
+use Rattle.sql_tree.specs.Tree.{QueryTree, StmtTree}
+use Rattle.sql_tree.specs.Tree.StmtTree.{CreateTable, DropTable, InsertInto, DeleteFrom, UpdateTable, Select, ExplainSelect}
 use Rattle.answer_text.specs.declared.event.Shown.{Shown}
-use Rattle.answer_text.specs.Log.{acts_over, shown_over, shown_query, code_of, begin_code, IsOrdered}
+use Rattle.answer_text.specs.declared.event.Shown.TheVariants as shown
+use Rattle.answer_text.specs.Log.{ActTree, EventTree, Begins, Writes, Ends, log_tree, acts_over, refusal_over, explain_refusal, shown_over, shown_reply, code_of, count_of, begin_code, IsOrdered}
 use Rattle.answer_text.specs.Layout.{reply_text, session_line, history_text, printed}
 use Rattle.sql_shell.specs.declared.session.Run.{Run}
-use Rattle.sql_shell.specs.Session.{no_tables, events_of, db_after, run_db, run_log, run_text, work_from, all_db, all_log, all_text, all_work, Follows, Serves, ServesPieces, HasServed, Notes, Counts, Produces}
+use Rattle.sql_shell.specs.Session.{no_tables, events_of, db_after, run_db, run_log, run_text, work_from, all_db, all_log, all_text, all_work, is_change, is_explain, Follows, Serves, ServesPieces, HasServed, Changes, Notes, Tells, TellsRead, Counts, Produces}
 use Rattle.sql_shell.specs.Work.{statement_work, run_work}
+use Rattle.sql_shell.proofs.CommitLemmas.{select_keeps, explain_keeps}
 use Rattle.sql_shell.proofs.SessionLemmas.{sessions_ordered, sessions_printed, sessions_work}
 use Rattle.sql_shell.specs.Readings.{AreReadings, AreAllRead}
 use Rattle.sql_shell.specs.Scripts.{names_of, pieces_in}
 use Rattle.sql_shell.specs.declared.scripts.Script.{Script}
 
-more_readings : (pieces : List (List ℕ)) (readings : List (Result Stmt Refusal)) (text : List ℕ) (reading : Result Stmt Refusal) → AreReadings pieces readings → IsReadAs text reading → AreReadings (pieces ++ text ∷ []) (readings ++ reading ∷ [])
+more_readings : (pieces : List (List ℕ)) (readings : List (Result StmtTree Refusal)) (text : List ℕ) (reading : Result StmtTree Refusal) → AreReadings pieces readings → Reads text reading → AreReadings (pieces ++ text ∷ []) (readings ++ reading ∷ [])
 more_readings [] [] text reading are is = (is, tt)
 more_readings [] (r ∷ rs) text reading are is = absurd are
 more_readings (p ∷ ps) [] text reading are is = absurd are
 more_readings (p ∷ ps) (r ∷ rs) text reading are is = (are.0, more_readings ps rs text reading are.1 is)
 
-as_many : (pieces : List (List ℕ)) (readings : List (Result Stmt Refusal)) → AreReadings pieces readings → length readings ≡ length pieces
+as_many : (pieces : List (List ℕ)) (readings : List (Result StmtTree Refusal)) → AreReadings pieces readings → length readings ≡ length pieces
 as_many [] [] are = refl
 as_many [] (r ∷ rs) are = absurd are
 as_many (p ∷ ps) [] are = absurd are
 as_many (p ∷ ps) (r ∷ rs) are = omega (arith, as_many ps rs are.1)
 
-more_db : (db : Db) (readings : List (Result Stmt Refusal)) (reading : Result Stmt Refusal) → run_db db (readings ++ reading ∷ []) ≡ db_after (run_db db readings) reading
+more_db : (db : Db) (readings : List (Result StmtTree Refusal)) (reading : Result StmtTree Refusal) → run_db db (readings ++ reading ∷ []) ≡ db_after (run_db db readings) reading
 more_db db [] reading = refl
 more_db db (r ∷ rs) reading = more_db (db_after db r) rs reading
 
-more_log : (s : ℕ) (db : Db) (k j : ℕ) (readings : List (Result Stmt Refusal)) (reading : Result Stmt Refusal) → j ≡ k + length readings → run_log s db k (readings ++ reading ∷ []) ≡ run_log s db k readings ++ events_of s j (acts_over (run_db db readings) reading)
+more_log : (s : ℕ) (db : Db) (k j : ℕ) (readings : List (Result StmtTree Refusal)) (reading : Result StmtTree Refusal) → j ≡ k + length readings → run_log s db k (readings ++ reading ∷ []) ≡ run_log s db k readings ++ events_of s j (acts_over (run_db db readings) reading)
 more_log s db k j [] reading is = append-nil _ ∙ ap (λ n. events_of s n (acts_over db reading)) (let same : k ≡ j = omega arith in same)
 more_log s db k j (r ∷ rs) reading is =
     ap (λ later. events_of s k (acts_over db r) ++ later) (more_log s (db_after db r) (k + 1) j rs reading (omega arith))
     ∙ sym (append_assoc (events_of s k (acts_over db r)) (run_log s (db_after db r) (k + 1) rs) (events_of s j (acts_over (run_db (db_after db r) rs) reading)))
 
-more_text : (db : Db) (k j : ℕ) (readings : List (Result Stmt Refusal)) (reading : Result Stmt Refusal) → j ≡ k + length readings → run_text db k (readings ++ reading ∷ []) ≡ run_text db k readings ++ reply_text j (shown_over (run_db db readings) reading)
+more_text : (db : Db) (k j : ℕ) (readings : List (Result StmtTree Refusal)) (reading : Result StmtTree Refusal) → j ≡ k + length readings → run_text db k (readings ++ reading ∷ []) ≡ run_text db k readings ++ reply_text j (shown_over (run_db db readings) reading)
 more_text db k j [] reading is = append-nil _ ∙ ap (λ n. reply_text n (shown_over db reading)) (let same : k ≡ j = omega arith in same)
 more_text db k j (r ∷ rs) reading is =
     ap (λ later. reply_text k (shown_over db r) ++ later) (more_text (db_after db r) (k + 1) j rs reading (omega arith))
     ∙ sym (append_assoc (reply_text k (shown_over db r)) (run_text (db_after db r) (k + 1) rs) (reply_text j (shown_over (run_db (db_after db r) rs) reading)))
 
-more_work : (db : Db) (readings : List (Result Stmt Refusal)) (reading : Result Stmt Refusal) → work_from db (readings ++ reading ∷ []) ≡ work_from db readings + statement_work (run_db db readings) reading
+more_work : (db : Db) (readings : List (Result StmtTree Refusal)) (reading : Result StmtTree Refusal) → work_from db (readings ++ reading ∷ []) ≡ work_from db readings + statement_work (run_db db readings) reading
 more_work db [] reading = omega arith
 more_work db (r ∷ rs) reading = omega (arith, more_work (db_after db r) rs reading)
 
 -- no statement yet
 pub serves_none : (run : Run) (s : ℕ) → ServesPieces run run s []
-serves_none run s = record { readings = []; read = tt; db = refl; log = sym (append-nil run.log.items); text = sym (append-nil run.text.items); work = omega arith }
+serves_none run s = record { readings = []; read = tt; db = refl; log = sym (append-nil (log_tree run.log.items)); text = sym (append-nil run.text.items); work = omega arith }
 
 -- one piece more
 pub serves_more : (first old new : Run) (s : ℕ) (pieces : List (List ℕ)) (k : ℕ) (text : List ℕ) → k ≡ length pieces + 1 → ServesPieces first old s pieces → Serves old new s k text → ServesPieces first new s (pieces ++ text ∷ [])
@@ -72,9 +69,9 @@ serves_more first old new s pieces k text is served serves =
       read = more_readings pieces readings text reading served.read serves.read;
       db = serves.follows.db ∙ ap (λ db. db_after db reading) served.db ∙ sym (more_db first.db readings reading);
       log = serves.follows.log ∙ ap (λ log. log ++ events_of s k (acts_over old.db reading)) served.log
-          ∙ ap (λ db. (first.log.items ++ run_log s first.db 1 readings) ++ events_of s k (acts_over db reading)) served.db
-          ∙ append_assoc first.log.items (run_log s first.db 1 readings) (events_of s k (acts_over (run_db first.db readings) reading))
-          ∙ ap (λ log. first.log.items ++ log) (sym (more_log s first.db 1 k readings reading count));
+          ∙ ap (λ db. (log_tree first.log.items ++ run_log s first.db 1 readings) ++ events_of s k (acts_over db reading)) served.db
+          ∙ append_assoc (log_tree first.log.items) (run_log s first.db 1 readings) (events_of s k (acts_over (run_db first.db readings) reading))
+          ∙ ap (λ log. log_tree first.log.items ++ log) (sym (more_log s first.db 1 k readings reading count));
       text = serves.follows.text ∙ ap (λ out. out ++ reply_text k (shown_over old.db reading)) served.text
           ∙ ap (λ db. (first.text.items ++ run_text first.db 1 readings) ++ reply_text k (shown_over db reading)) served.db
           ∙ append_assoc first.text.items (run_text first.db 1 readings) (reply_text k (shown_over (run_db first.db readings) reading))
@@ -86,29 +83,29 @@ serves_more first old new s pieces k text is served serves =
 
 -- ## Scripts
 
-all_more_read : (scripts : List (List (List ℕ))) (readings : List (List (Result Stmt Refusal))) (pieces : List (List ℕ)) (more : List (Result Stmt Refusal)) → AreAllRead scripts readings → AreReadings pieces more → AreAllRead (scripts ++ pieces ∷ []) (readings ++ more ∷ [])
+all_more_read : (scripts : List (List (List ℕ))) (readings : List (List (Result StmtTree Refusal))) (pieces : List (List ℕ)) (more : List (Result StmtTree Refusal)) → AreAllRead scripts readings → AreReadings pieces more → AreAllRead (scripts ++ pieces ∷ []) (readings ++ more ∷ [])
 all_more_read [] [] pieces more are is = (is, tt)
 all_more_read [] (r ∷ rs) pieces more are is = absurd are
 all_more_read (p ∷ ps) [] pieces more are is = absurd are
 all_more_read (p ∷ ps) (r ∷ rs) pieces more are is = (are.0, all_more_read ps rs pieces more are.1 is)
 
-all_as_many : (scripts : List (List (List ℕ))) (readings : List (List (Result Stmt Refusal))) → AreAllRead scripts readings → length readings ≡ length scripts
+all_as_many : (scripts : List (List (List ℕ))) (readings : List (List (Result StmtTree Refusal))) → AreAllRead scripts readings → length readings ≡ length scripts
 all_as_many [] [] are = refl
 all_as_many [] (r ∷ rs) are = absurd are
 all_as_many (p ∷ ps) [] are = absurd are
 all_as_many (p ∷ ps) (r ∷ rs) are = omega (arith, all_as_many ps rs are.1)
 
-all_more_db : (db : Db) (scripts : List (List (Result Stmt Refusal))) (more : List (Result Stmt Refusal)) → all_db db (scripts ++ more ∷ []) ≡ run_db (all_db db scripts) more
+all_more_db : (db : Db) (scripts : List (List (Result StmtTree Refusal))) (more : List (Result StmtTree Refusal)) → all_db db (scripts ++ more ∷ []) ≡ run_db (all_db db scripts) more
 all_more_db db [] more = refl
 all_more_db db (r ∷ rs) more = all_more_db (run_db db r) rs more
 
-all_more_log : (s t : ℕ) (db : Db) (scripts : List (List (Result Stmt Refusal))) (more : List (Result Stmt Refusal)) → t ≡ s + length scripts → all_log s db (scripts ++ more ∷ []) ≡ all_log s db scripts ++ run_log t (all_db db scripts) 1 more
+all_more_log : (s t : ℕ) (db : Db) (scripts : List (List (Result StmtTree Refusal))) (more : List (Result StmtTree Refusal)) → t ≡ s + length scripts → all_log s db (scripts ++ more ∷ []) ≡ all_log s db scripts ++ run_log t (all_db db scripts) 1 more
 all_more_log s t db [] more is = append-nil _ ∙ ap (λ n. run_log n db 1 more) (let same : s ≡ t = omega arith in same)
 all_more_log s t db (r ∷ rs) more is =
     ap (λ later. run_log s db 1 r ++ later) (all_more_log (s + 1) t (run_db db r) rs more (omega arith))
     ∙ sym (append_assoc (run_log s db 1 r) (all_log (s + 1) (run_db db r) rs) (run_log t (all_db (run_db db r) rs) 1 more))
 
-all_more_text : (s t : ℕ) (db : Db) (names : List (List ℕ)) (scripts : List (List (Result Stmt Refusal))) (name : List ℕ) (more : List (Result Stmt Refusal)) → length names ≡ length scripts → t ≡ s + length scripts → all_text s db (names ++ name ∷ []) (scripts ++ more ∷ []) ≡ all_text s db names scripts ++ (session_line t name ++ run_text (all_db db scripts) 1 more)
+all_more_text : (s t : ℕ) (db : Db) (names : List (List ℕ)) (scripts : List (List (Result StmtTree Refusal))) (name : List ℕ) (more : List (Result StmtTree Refusal)) → length names ≡ length scripts → t ≡ s + length scripts → all_text s db (names ++ name ∷ []) (scripts ++ more ∷ []) ≡ all_text s db names scripts ++ (session_line t name ++ run_text (all_db db scripts) 1 more)
 all_more_text s t db [] [] name more long is = append-nil _ ∙ ap (λ n. session_line n name ++ run_text db 1 more) (let same : s ≡ t = omega arith in same)
 all_more_text s t db [] (r ∷ rs) name more long is = grind arith
 all_more_text s t db (n ∷ ns) [] name more long is = grind arith
@@ -116,7 +113,7 @@ all_more_text s t db (n ∷ ns) (r ∷ rs) name more long is =
     ap (λ later. session_line s n ++ run_text db 1 r ++ later) (all_more_text (s + 1) t (run_db db r) ns rs name more (omega (arith, long)) (omega arith))
     ∙ sym (append_assoc (session_line s n ++ run_text db 1 r) (all_text (s + 1) (run_db db r) ns rs) (session_line t name ++ run_text (all_db (run_db db r) rs) 1 more))
 
-all_more_work : (db : Db) (scripts : List (List (Result Stmt Refusal))) (more : List (Result Stmt Refusal)) → all_work db (scripts ++ more ∷ []) ≡ all_work db scripts + work_from (all_db db scripts) more
+all_more_work : (db : Db) (scripts : List (List (Result StmtTree Refusal))) (more : List (Result StmtTree Refusal)) → all_work db (scripts ++ more ∷ []) ≡ all_work db scripts + work_from (all_db db scripts) more
 all_more_work db [] more = omega arith
 all_more_work db (r ∷ rs) more = omega (arith, all_more_work (run_db db r) rs more)
 
@@ -135,7 +132,7 @@ served_more names scripts old begun new s name pieces long count served db log w
       readings = all ++ more ∷ [];
       read = all_more_read scripts all pieces more served.read serves.read;
       db = serves.db ∙ ap (λ d. run_db d more) before ∙ sym (all_more_db no_tables all more);
-      log = serves.log ∙ ap (λ l. l ++ run_log s begun.db 1 more) (log ∙ served.log) ∙ ap (λ d. all_log 1 no_tables all ++ run_log s d 1 more) before ∙ sym (all_more_log 1 s no_tables all more number);
+      log = serves.log ∙ ap (λ l. l ++ run_log s begun.db 1 more) (ap log_tree log ∙ served.log) ∙ ap (λ d. all_log 1 no_tables all ++ run_log s d 1 more) before ∙ sym (all_more_log 1 s no_tables all more number);
       text = serves.text ∙ ap (λ t. t ++ run_text begun.db 1 more) (text ∙ ap (λ t. t ++ session_line s name) served.text)
           ∙ ap (λ d. (all_text 1 no_tables names all ++ session_line s name) ++ run_text d 1 more) before
           ∙ append_assoc (all_text 1 no_tables names all) (session_line s name) (run_text (all_db no_tables all) 1 more)
@@ -161,43 +158,110 @@ scripts_more scripts i script old begun new inside is served db log work text se
     subst P more (subst R (sym (map-append (λ (s : Script). s.pieces) done (script ∷ []))) (subst Q (sym (map-append (λ (s : Script). s.name) done (script ∷ []))) all))
 
 -- what the scripts log and print
-pub produces : (names : List (List ℕ)) (scripts : List (List (List ℕ))) (run : Run) (text : List ℕ) → HasServed names scripts run → text ≡ run.text.items ++ history_text run.log.items → Produces names scripts run.log.items text run.work
+pub produces : (names : List (List ℕ)) (scripts : List (List (List ℕ))) (run : Run) (text : List ℕ) → HasServed names scripts run → text ≡ run.text.items ++ history_text (log_tree run.log.items) → Produces names scripts (log_tree run.log.items) text run.work
 produces names scripts run text served is =
     let readings = served.readings in
-    let P : List Event → Type 0 = λ log. IsOrdered readings log in
+    let P : List EventTree → Type 0 = λ log. IsOrdered readings log in
     record {
       readings = readings;
       read = served.read;
       ordered = subst P (sym served.log) (sessions_ordered readings);
       printed_is = is
-          ∙ ap (λ out. out ++ history_text run.log.items) served.text
+          ∙ ap (λ out. out ++ history_text (log_tree run.log.items)) served.text
           ∙ ap (λ log. all_text 1 no_tables names readings ++ history_text log) served.log
           ∙ sym (sessions_printed names readings)
           ∙ ap (λ log. printed names readings log) (sym served.log);
       work_is = served.work ∙ sym (sessions_work readings) ∙ ap (λ log. run_work readings log) (sym served.log);
     }
 
--- ## A query
+-- ## Statements
 
-same_code : (refusal : Option Refusal) (rows : List (List Cell)) → code_of (shown_query refusal (Some rows)) ≡ begin_code refusal
-same_code None rows = refl
-same_code (Some refusal) rows = refl
+-- a Begin logged, and then an End with its reply
+pub tells_read : (old begun new : Run) (s k begin code : ℕ) (shown : Shown) → Notes old begun s k (Begins begin) → Tells begun new s k (Ends code) shown → code ≡ code_of shown → TellsRead old new s k begin shown
+tells_read old begun new s k begin code shown notes tells codes =
+    record {
+      log = tells.log ∙ ap (λ l. l ++ record { session = s; statement = k; act = Ends code } ∷ []) notes.log
+          ∙ append_assoc (log_tree old.log.items) (record { session = s; statement = k; act = Begins begin } ∷ []) (record { session = s; statement = k; act = Ends code } ∷ [])
+          ∙ ap (λ (e : ℕ). log_tree old.log.items ++ events_of s k (Begins begin ∷ Ends e ∷ [])) codes;
+      db = tells.db ∙ notes.db;
+      text = tells.text ∙ ap (λ t. t ++ reply_text k shown) notes.text;
+      work = tells.work ∙ notes.work;
+    }
 
 -- a query's work counted, its two acts logged, and its reply written
-pub query_served : (old counted begun ended new : Run) (s k work code : ℕ) (shown : Shown) (query : Query)
-    → Counts old counted work → Notes counted begun s k (Begin code) → Notes begun ended s k (End code)
-    → new.db ≡ ended.db → new.log.items ≡ ended.log.items → new.work ≡ ended.work → new.text.items ≡ ended.text.items ++ reply_text k shown
-    → shown ≡ shown_over old.db (Ok (stmt.Query query)) → work ≡ statement_work old.db (Ok (stmt.Query query)) → code ≡ code_of shown
-    → Follows old new s k (Ok (stmt.Query query))
-query_served old counted begun ended new s k work code shown query counts begins ends db log total replies shows works codes =
-    let is : code ≡ code_of (shown_over old.db (Ok (stmt.Query query))) = codes ∙ ap code_of shows in
-    let events = λ (b e : ℕ). let es : List Event = record { session = s; statement = k; act = Begin b } ∷ record { session = s; statement = k; act = End e } ∷ [] in es in
+pub query_served : (old counted new : Run) (s k work begin : ℕ) (shown : Shown) (query : QueryTree)
+    → Counts old counted work → TellsRead counted new s k begin shown
+    → shown ≡ shown_over old.db (Ok (Select query)) → work ≡ statement_work old.db (Ok (Select query)) → begin ≡ begin_code (refusal_over old.db (Select query))
+    → Follows old new s k (Ok (Select query))
+query_served old counted new s k work begin shown query counts tells shows works begin_is =
     record {
-      db = db ∙ ends.db ∙ begins.db ∙ counts.db;
-      log = log ∙ ends.log ∙ ap (λ l. l ++ record { session = s; statement = k; act = End code } ∷ []) (begins.log ∙ ap (λ l. l ++ record { session = s; statement = k; act = Begin code } ∷ []) counts.log)
-          ∙ append_assoc old.log.items (record { session = s; statement = k; act = Begin code } ∷ []) (record { session = s; statement = k; act = End code } ∷ [])
-          ∙ ap (λ (b : ℕ). old.log.items ++ events b code) (is ∙ same_code (query_refusal query old.db) (sorted_by is_row_below (query_rows query (tables_of query old.db))))
-          ∙ ap (λ (e : ℕ). old.log.items ++ events (begin_code (query_refusal query old.db)) e) is;
-      text = replies ∙ ap (λ t. t ++ reply_text k shown) (ends.text ∙ begins.text ∙ counts.text) ∙ ap (λ s. old.text.items ++ reply_text k s) shows;
-      work = total ∙ ends.work ∙ begins.work ∙ counts.work ∙ ap (λ n. old.work + n) works;
+      db = tells.db ∙ counts.db ∙ sym (select_keeps query old.db);
+      log = tells.log ∙ ap (λ l. l ++ events_of s k (Begins begin ∷ Ends (code_of shown) ∷ [])) (ap log_tree counts.log)
+          ∙ ap (λ (b : ℕ). log_tree old.log.items ++ events_of s k (Begins b ∷ Ends (code_of shown) ∷ [])) begin_is
+          ∙ ap (λ (sh : Shown). log_tree old.log.items ++ events_of s k (Begins (begin_code (refusal_over old.db (Select query))) ∷ Ends (code_of sh) ∷ [])) shows;
+      text = tells.text ∙ ap (λ t. t ++ reply_text k shown) counts.text ∙ ap (λ sh. old.text.items ++ reply_text k sh) shows;
+      work = tells.work ∙ counts.work ∙ ap (λ n. old.work + n) works;
+    }
+
+explained : (statement : StmtTree) → is_explain statement ≡ true → (query : QueryTree) × (statement ≡ ExplainSelect query)
+explained (ExplainSelect query) h = (query, refl)
+explained (CreateTable table columns) h = cc
+explained (DropTable table) h = cc
+explained (InsertInto table listed rows) h = cc
+explained (DeleteFrom table cond) h = cc
+explained (UpdateTable table sets cond) h = cc
+explained (Select query) h = cc
+
+explain_follows : (old new : Run) (s k begin : ℕ) (refusal : Refusal) (query : QueryTree)
+    → TellsRead old new s k begin (shown.Refused refusal)
+    → refusal ≡ explain_refusal (refusal_over old.db (ExplainSelect query)) → begin ≡ refusal_number refusal
+    → Follows old new s k (Ok (ExplainSelect query))
+explain_follows old new s k begin refusal query tells is begin_is =
+    record {
+      db = tells.db ∙ sym (explain_keeps query old.db);
+      log = tells.log ∙ ap (λ (n : ℕ). log_tree old.log.items ++ events_of s k (Begins n ∷ Ends (refusal_number refusal) ∷ [])) begin_is
+          ∙ ap (λ (r : Refusal). log_tree old.log.items ++ events_of s k (Begins (refusal_number r) ∷ Ends (refusal_number r) ∷ [])) is;
+      text = tells.text ∙ ap (λ r. old.text.items ++ reply_text k (shown.Refused r)) is;
+      work = tells.work ∙ omega arith;
+    }
+
+-- an EXPLAIN refused, its two acts logged, and its reply written
+pub explain_served : (old new : Run) (s k begin : ℕ) (refusal : Refusal) (statement : StmtTree) → is_explain statement ≡ true
+    → TellsRead old new s k begin (shown.Refused refusal)
+    → refusal ≡ explain_refusal (refusal_over old.db statement) → begin ≡ refusal_number refusal
+    → Follows old new s k (Ok statement)
+explain_served old new s k begin refusal statement explains tells is begin_is =
+    let query = explained statement explains in
+    let P : StmtTree → Type 0 = λ stmt. Follows old new s k (Ok stmt) in
+    subst P (sym query.1) (explain_follows old new s k begin refusal query.0 tells (is ∙ ap (λ stmt. explain_refusal (refusal_over old.db stmt)) query.1) begin_is)
+
+-- what is logged and shown of a change, which takes no work
+record IsWritten (db : Db) (statement : StmtTree) : Type 0 where
+  acts : acts_over db (Ok statement) ≡ Writes (Some statement) (code_of (shown_reply (effect statement db).1)) (count_of (shown_reply (effect statement db).1)) ∷ []
+  shows : shown_over db (Ok statement) ≡ shown_reply (effect statement db).1
+  no_work : statement_work db (Ok statement) ≡ 0
+
+is_written : (db : Db) (statement : StmtTree) → is_change statement ≡ true → IsWritten db statement
+is_written db (CreateTable table columns) h = record { acts = refl; shows = refl; no_work = refl }
+is_written db (DropTable table) h = record { acts = refl; shows = refl; no_work = refl }
+is_written db (InsertInto table listed rows) h = record { acts = refl; shows = refl; no_work = refl }
+is_written db (DeleteFrom table cond) h = record { acts = refl; shows = refl; no_work = refl }
+is_written db (UpdateTable table sets cond) h = record { acts = refl; shows = refl; no_work = refl }
+is_written db (Select query) h = cc
+is_written db (ExplainSelect query) h = cc
+
+-- a change done, its act logged, and its reply written
+pub change_served : (old done new : Run) (s k : ℕ) (shown : Shown) (statement written : StmtTree) → is_change statement ≡ true
+    → Changes old done statement shown → written ≡ statement → Tells done new s k (Writes (Some written) (code_of shown) (count_of shown)) shown
+    → Follows old new s k (Ok statement)
+change_served old done new s k shown statement written changes does same tells =
+    let is = is_written old.db statement changes in
+    record {
+      db = tells.db ∙ does.db;
+      log = tells.log ∙ ap (λ l. l ++ events_of s k (Writes (Some written) (code_of shown) (count_of shown) ∷ [])) (ap log_tree does.log)
+          ∙ ap (λ (stmt : StmtTree). log_tree old.log.items ++ events_of s k (Writes (Some stmt) (code_of shown) (count_of shown) ∷ [])) same
+          ∙ ap (λ (sh : Shown). log_tree old.log.items ++ events_of s k (Writes (Some statement) (code_of sh) (count_of sh) ∷ [])) does.shows
+          ∙ ap (λ more. log_tree old.log.items ++ events_of s k more) (sym is.acts);
+      text = tells.text ∙ ap (λ t. t ++ reply_text k shown) does.text ∙ ap (λ sh. old.text.items ++ reply_text k sh) (does.shows ∙ sym is.shows);
+      work = tells.work ∙ does.work ∙ omega (arith, is.no_work);
     }

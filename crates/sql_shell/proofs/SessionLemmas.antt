@@ -8,14 +8,11 @@ use Rattle.std.proofs.lemmas.List.{map-append}
 use Rattle.std.proofs.lemmas.List.Elements.{filter-append}
 use Rattle.std.proofs.lemmas.List.Sums.{sum_by-cons}
 use Rattle.cell_core.specs.declared.table.Db.{Db}
-use Rattle.sql_core.specs.Effect.{replay, replay_from}
-use Rattle.sql_core.specs.declared.tree.Stmt.{Stmt}
-use Rattle.sql_core.specs.declared.tree.Stmt.TheVariants as stmt
-use Rattle.sql_core.specs.declared.refusal.Refusal.{Refusal}
-use Rattle.answer_text.specs.declared.event.Event.{Event}
-use Rattle.answer_text.specs.declared.event.Act.{Act}
-use Rattle.answer_text.specs.declared.event.Act.TheVariants.{Begin, Write, End}
-use Rattle.answer_text.specs.Log.{commits, tables_at, is_opening, is_place, place_in, tables_met, acts_over, acts_of, logged_of, shown_over, IsOrdered}
+use Rattle.sql_semantics.specs.Effect.{replay, replay_from}
+use Rattle.sql_semantics.specs.declared.refusal.Refusal.{Refusal}
+use Rattle.sql_tree.specs.Tree.{StmtTree}
+use Rattle.sql_tree.specs.Tree.StmtTree.{CreateTable, DropTable, InsertInto, DeleteFrom, UpdateTable, Select, ExplainSelect}
+use Rattle.answer_text.specs.Log.{ActTree, EventTree, commits, tables_at, is_opening, is_place, place_in, tables_met, acts_over, acts_of, logged_of, shown_over, IsOrdered}
 use Rattle.answer_text.specs.Layout.{reply_text, replies_text, session_line, session_text, history_text, printed}
 use Rattle.sql_shell.specs.Session.{no_tables, events_of, db_after, run_db, run_log, run_text, work_from, all_db, all_log, all_text, all_work}
 use Rattle.sql_shell.specs.Work.{statement_work, session_work, run_work}
@@ -24,10 +21,10 @@ use Rattle.sql_shell.proofs.CommitLemmas.{commits_lead, commits-append, replay_f
 -- ## Places
 
 -- an event of an earlier session, or of an earlier statement of this one
-abbrev IsEarlier : ℕ → ℕ → Event → Type 0
+abbrev IsEarlier : ℕ → ℕ → EventTree → Type 0
 IsEarlier s k event = (event.session < s) ⊎ ((event.session ≡ s) × (event.statement < k))
 
-abbrev AreBefore : ℕ → ℕ → List Event → Type 0
+abbrev AreBefore : ℕ → ℕ → List EventTree → Type 0
 AreBefore s k [] = Unit {0}
 AreBefore s k (event ∷ log) = IsEarlier s k event × AreBefore s k log
 
@@ -40,7 +37,7 @@ later_number a b h = grind (arith, nat_tests)
 itself : (k : ℕ) → (k == k) ≡ true
 itself k = grind (arith, nat_tests)
 
-not_here : (s k : ℕ) (event : Event) → IsEarlier s k event → is_place s k event ≡ false
+not_here : (s k : ℕ) (event : EventTree) → IsEarlier s k event → is_place s k event ≡ false
 not_here s k event (inl h) = ap (λ b. b && (event.statement == k) && is_opening event.act) (other_number event.session s h)
 not_here s k event (inr h) =
     ap (λ n. (n == s) && (event.statement == k) && is_opening event.act) h.0
@@ -48,7 +45,7 @@ not_here s k event (inr h) =
     ∙ ap (λ b. b && is_opening event.act) (other_number event.statement k h.1)
 
 -- behind such events the place of statement k is where it begins
-place_behind : (s k : ℕ) (log : List Event) (act : Act) (more : List Event) → AreBefore s k log → is_opening act ≡ true → place_in s k (log ++ record { session = s; statement = k; act = act } ∷ more) ≡ suc (length log)
+place_behind : (s k : ℕ) (log : List EventTree) (act : ActTree) (more : List EventTree) → AreBefore s k log → is_opening act ≡ true → place_in s k (log ++ record { session = s; statement = k; act = act } ∷ more) ≡ suc (length log)
 place_behind s k [] act more before opening =
     ap (λ b. cond (b && (k == k) && is_opening act) 1 (suc (place_in s k more))) (itself s)
     ∙ ap (λ b. cond (b && is_opening act) 1 (suc (place_in s k more))) (itself k)
@@ -59,21 +56,25 @@ place_behind s k (event ∷ log) act more before opening =
     ∙ ap suc (place_behind s k log act more before.1 opening)
 
 -- the tables at the place behind a log are those that its commits lead to
-tables_behind : (log more : List Event) → tables_at (log ++ more) (suc (length log)) ≡ replay (commits log)
+tables_behind : (log more : List EventTree) → tables_at (log ++ more) (suc (length log)) ≡ replay (commits log)
 tables_behind log more = ap (λ xs. replay (commits xs)) (ap (λ n. take n (log ++ more)) (sub-suc (length log)) ∙ take-append_seam log more)
   where
     sub-suc : (n : ℕ) → suc n - 1 ≡ n
     sub-suc n = omega arith
 
 -- a statement's first act opens it
-opened : (db : Db) (reading : Result Stmt Refusal) → (act : Act) × (acts : List Act) × (acts_over db reading ≡ act ∷ acts) × (is_opening act ≡ true)
+opened : (db : Db) (reading : Result StmtTree Refusal) → (act : ActTree) × (acts : List ActTree) × (acts_over db reading ≡ act ∷ acts) × (is_opening act ≡ true)
 opened db (Err r) = (_, _, refl, refl)
-opened db (Ok (stmt.Create table columns)) = (_, _, refl, refl)
-opened db (Ok (stmt.Insert table columns rows)) = (_, _, refl, refl)
-opened db (Ok (stmt.Query query)) = (_, _, refl, refl)
+opened db (Ok (CreateTable table columns)) = (_, _, refl, refl)
+opened db (Ok (DropTable table)) = (_, _, refl, refl)
+opened db (Ok (InsertInto table listed rows)) = (_, _, refl, refl)
+opened db (Ok (DeleteFrom table cond)) = (_, _, refl, refl)
+opened db (Ok (UpdateTable table sets cond)) = (_, _, refl, refl)
+opened db (Ok (Select query)) = (_, _, refl, refl)
+opened db (Ok (ExplainSelect query)) = (_, _, refl, refl)
 
 -- so the statement meets the database that the log behind it leads to
-met : (s k : ℕ) (log : List Event) (db : Db) (reading : Result Stmt Refusal) (more : List Event) → replay (commits log) ≡ db → AreBefore s k log → tables_met (log ++ (events_of s k (acts_over db reading) ++ more)) s k ≡ db
+met : (s k : ℕ) (log : List EventTree) (db : Db) (reading : Result StmtTree Refusal) (more : List EventTree) → replay (commits log) ≡ db → AreBefore s k log → tables_met (log ++ (events_of s k (acts_over db reading) ++ more)) s k ≡ db
 met s k log db reading more leads before =
     let open_ = opened db reading in
     let here : events_of s k (acts_over db reading) ++ more ≡ record { session = s; statement = k; act = open_.0 } ∷ (events_of s k open_.1 ++ more) =
@@ -83,41 +84,41 @@ met s k log db reading more leads before =
 
 -- ## What goes on behind a statement
 
-before-append : (s k : ℕ) (xs ys : List Event) → AreBefore s k xs → AreBefore s k ys → AreBefore s k (xs ++ ys)
+before-append : (s k : ℕ) (xs ys : List EventTree) → AreBefore s k xs → AreBefore s k ys → AreBefore s k (xs ++ ys)
 before-append s k [] ys a b = b
 before-append s k (x ∷ xs) ys a b = (a.0, before-append s k xs ys a.1 b)
 
-earlier-later : (s k : ℕ) (event : Event) → IsEarlier s k event → IsEarlier s (k + 1) event
+earlier-later : (s k : ℕ) (event : EventTree) → IsEarlier s k event → IsEarlier s (k + 1) event
 earlier-later s k event (inl h) = inl h
 earlier-later s k event (inr h) = inr (h.0, omega (arith, h.1))
 
-before-later : (s k : ℕ) (xs : List Event) → AreBefore s k xs → AreBefore s (k + 1) xs
+before-later : (s k : ℕ) (xs : List EventTree) → AreBefore s k xs → AreBefore s (k + 1) xs
 before-later s k [] a = tt
 before-later s k (x ∷ xs) a = (earlier-later s k x a.0, before-later s k xs a.1)
 
-before-events : (s k : ℕ) (acts : List Act) → AreBefore s (k + 1) (events_of s k acts)
+before-events : (s k : ℕ) (acts : List ActTree) → AreBefore s (k + 1) (events_of s k acts)
 before-events s k [] = tt
 before-events s k (act ∷ acts) = (inr (refl, omega arith), before-events s k acts)
 
-leads_on : (s k : ℕ) (log : List Event) (db : Db) (reading : Result Stmt Refusal) → replay (commits log) ≡ db → replay (commits (log ++ events_of s k (acts_over db reading))) ≡ db_after db reading
+leads_on : (s k : ℕ) (log : List EventTree) (db : Db) (reading : Result StmtTree Refusal) → replay (commits log) ≡ db → replay (commits (log ++ events_of s k (acts_over db reading))) ≡ db_after db reading
 leads_on s k log db reading leads =
     ap replay (commits-append log (events_of s k (acts_over db reading)))
     ∙ replay_from-append _ (commits log) (commits (events_of s k (acts_over db reading)))
     ∙ ap (λ d. replay_from d (commits (events_of s k (acts_over db reading)))) leads
     ∙ commits_lead s db reading k
 
-goes_on : (s k : ℕ) (log : List Event) (db : Db) (reading : Result Stmt Refusal) → AreBefore s k log → AreBefore s (k + 1) (log ++ events_of s k (acts_over db reading))
+goes_on : (s k : ℕ) (log : List EventTree) (db : Db) (reading : Result StmtTree Refusal) → AreBefore s k log → AreBefore s (k + 1) (log ++ events_of s k (acts_over db reading))
 goes_on s k log db reading before = before-append s (k + 1) log _ (before-later s k log before) (before-events s k (acts_over db reading))
 
 -- behind all statements of a session its log leads to its database
-run_leads : (s k : ℕ) (log : List Event) (db : Db) (readings : List (Result Stmt Refusal)) → replay (commits log) ≡ db → replay (commits (log ++ run_log s db k readings)) ≡ run_db db readings
+run_leads : (s k : ℕ) (log : List EventTree) (db : Db) (readings : List (Result StmtTree Refusal)) → replay (commits log) ≡ db → replay (commits (log ++ run_log s db k readings)) ≡ run_db db readings
 run_leads s k log db [] leads = ap (λ l. replay (commits l)) (append-nil log) ∙ leads
 run_leads s k log db (reading ∷ readings) leads =
     ap (λ l. replay (commits l)) (sym (append_assoc log (events_of s k (acts_over db reading)) (run_log s (db_after db reading) (k + 1) readings)))
     ∙ run_leads s (k + 1) (log ++ events_of s k (acts_over db reading)) (db_after db reading) readings (leads_on s k log db reading leads)
 
 -- all its events are earlier than those of the next session
-before-next : (s k : ℕ) (xs : List Event) → AreBefore s k xs → AreBefore (s + 1) 0 xs
+before-next : (s k : ℕ) (xs : List EventTree) → AreBefore s k xs → AreBefore (s + 1) 0 xs
 before-next s k [] a = tt
 before-next s k (x ∷ xs) a = (next a.0, before-next s k xs a.1)
   where
@@ -125,27 +126,27 @@ before-next s k (x ∷ xs) a = (next a.0, before-next s k xs a.1)
     next (inl h) = inl (omega (arith, h))
     next (inr h) = inl (omega (arith, h.0))
 
-session_events : (s k : ℕ) (acts : List Act) → AreBefore (s + 1) 0 (events_of s k acts)
+session_events : (s k : ℕ) (acts : List ActTree) → AreBefore (s + 1) 0 (events_of s k acts)
 session_events s k [] = tt
 session_events s k (act ∷ acts) = (inl (omega arith), session_events s k acts)
 
-session_before : (s k : ℕ) (db : Db) (readings : List (Result Stmt Refusal)) → AreBefore (s + 1) 0 (run_log s db k readings)
+session_before : (s k : ℕ) (db : Db) (readings : List (Result StmtTree Refusal)) → AreBefore (s + 1) 0 (run_log s db k readings)
 session_before s k db [] = tt
 session_before s k db (reading ∷ readings) = before-append (s + 1) 0 _ _ (session_events s k (acts_over db reading)) (session_before s (k + 1) (db_after db reading) readings)
 
 -- ## One session in the log
 
-named_acts : (s k : ℕ) (acts : List Act) → map {B = ℕ × Act} (λ act. (k, act)) acts ≡ map {B = ℕ × Act} (λ (event : Event). (event.statement, event.act)) (events_of s k acts)
+named_acts : (s k : ℕ) (acts : List ActTree) → map {B = ℕ × ActTree} (λ act. (k, act)) acts ≡ map {B = ℕ × ActTree} (λ (event : EventTree). (event.statement, event.act)) (events_of s k acts)
 named_acts s k [] = refl
 named_acts s k (act ∷ acts) = ap (λ more. (k, act) ∷ more) (named_acts s k acts)
 
 -- the log goes on from here by these statements of a session, whatever follows
-record Goes (log front : List Event) (s k : ℕ) (db : Db) (readings : List (Result Stmt Refusal)) (more : List Event) : Type 0 where
+record Goes (log front : List EventTree) (s k : ℕ) (db : Db) (readings : List (Result StmtTree Refusal)) (more : List EventTree) : Type 0 where
   is : log ≡ front ++ (run_log s db k readings ++ more)
   leads : replay (commits front) ≡ db
   before : AreBefore s k front
 
-goes_next : (log front : List Event) (s k : ℕ) (db : Db) (reading : Result Stmt Refusal) (readings : List (Result Stmt Refusal)) (more : List Event) → Goes log front s k db (reading ∷ readings) more → Goes log (front ++ events_of s k (acts_over db reading)) s (k + 1) (db_after db reading) readings more
+goes_next : (log front : List EventTree) (s k : ℕ) (db : Db) (reading : Result StmtTree Refusal) (readings : List (Result StmtTree Refusal)) (more : List EventTree) → Goes log front s k db (reading ∷ readings) more → Goes log (front ++ events_of s k (acts_over db reading)) s (k + 1) (db_after db reading) readings more
 goes_next log front s k db reading readings more goes =
     let events = events_of s k (acts_over db reading) in
     let rest = run_log s (db_after db reading) (k + 1) readings in
@@ -155,28 +156,28 @@ goes_next log front s k db reading readings more goes =
       before = goes_on s k front db reading goes.before;
     }
 
-goes_here : (log front : List Event) (s k : ℕ) (db : Db) (reading : Result Stmt Refusal) (readings : List (Result Stmt Refusal)) (more : List Event) → Goes log front s k db (reading ∷ readings) more → tables_met log s k ≡ db
+goes_here : (log front : List EventTree) (s k : ℕ) (db : Db) (reading : Result StmtTree Refusal) (readings : List (Result StmtTree Refusal)) (more : List EventTree) → Goes log front s k db (reading ∷ readings) more → tables_met log s k ≡ db
 goes_here log front s k db reading readings more goes =
     let events = events_of s k (acts_over db reading) in
     let rest = run_log s (db_after db reading) (k + 1) readings in
     ap (λ l. tables_met l s k) (goes.is ∙ ap (λ l. front ++ l) (append_assoc events rest more)) ∙ met s k front db reading (rest ++ more) goes.leads goes.before
 
 -- the acts of the statements from k on are what the log has of them
-acts_from : (log front : List Event) (s k : ℕ) (db : Db) (readings : List (Result Stmt Refusal)) (more : List Event) → Goes log front s k db readings more → flat_map {A = ℕ × Act} (λ (j, reading). map (λ act. (j, act)) (acts_over (tables_met log s j) reading)) (enumerate_from k readings) ≡ map {B = ℕ × Act} (λ (event : Event). (event.statement, event.act)) (run_log s db k readings)
+acts_from : (log front : List EventTree) (s k : ℕ) (db : Db) (readings : List (Result StmtTree Refusal)) (more : List EventTree) → Goes log front s k db readings more → flat_map {A = ℕ × ActTree} (λ (j, reading). map (λ act. (j, act)) (acts_over (tables_met log s j) reading)) (enumerate_from k readings) ≡ map {B = ℕ × ActTree} (λ (event : EventTree). (event.statement, event.act)) (run_log s db k readings)
 acts_from log front s k db [] more goes = refl
 acts_from log front s k db (reading ∷ readings) more goes =
     let events = events_of s k (acts_over db reading) in
     let rest = run_log s (db_after db reading) (k + 1) readings in
     let later = acts_from log (front ++ events) s (k + 1) (db_after db reading) readings more (goes_next log front s k db reading readings more goes) in
-    let pair = λ (event : Event). let p : ℕ × Act = (event.statement, event.act) in p in
-    let tail = flat_map {A = ℕ × Act} (λ (j, reading). map (λ act. (j, act)) (acts_over (tables_met log s j) reading)) (enumerate_from (k + 1) readings) in
-    ap (λ d. map {B = ℕ × Act} (λ act. (k, act)) (acts_over d reading) ++ tail) (goes_here log front s k db reading readings more goes)
+    let pair = λ (event : EventTree). let p : ℕ × ActTree = (event.statement, event.act) in p in
+    let tail = flat_map {A = ℕ × ActTree} (λ (j, reading). map (λ act. (j, act)) (acts_over (tables_met log s j) reading)) (enumerate_from (k + 1) readings) in
+    ap (λ d. map {B = ℕ × ActTree} (λ act. (k, act)) (acts_over d reading) ++ tail) (goes_here log front s k db reading readings more goes)
     ∙ ap (λ acts. acts ++ tail) (named_acts s k (acts_over db reading))
     ∙ ap (λ acts. map pair events ++ acts) later
     ∙ sym (map-append pair events rest)
 
 -- so with the replies
-texts_from : (log front : List Event) (s k : ℕ) (db : Db) (readings : List (Result Stmt Refusal)) (more : List Event) → Goes log front s k db readings more → flat_map {A = ℕ} (λ (j, reading). reply_text j (shown_over (tables_met log s j) reading)) (enumerate_from k readings) ≡ run_text db k readings
+texts_from : (log front : List EventTree) (s k : ℕ) (db : Db) (readings : List (Result StmtTree Refusal)) (more : List EventTree) → Goes log front s k db readings more → flat_map {A = ℕ} (λ (j, reading). reply_text j (shown_over (tables_met log s j) reading)) (enumerate_from k readings) ≡ run_text db k readings
 texts_from log front s k db [] more goes = refl
 texts_from log front s k db (reading ∷ readings) more goes =
     let later = texts_from log (front ++ events_of s k (acts_over db reading)) s (k + 1) (db_after db reading) readings more (goes_next log front s k db reading readings more goes) in
@@ -185,26 +186,26 @@ texts_from log front s k db (reading ∷ readings) more goes =
     ∙ ap (λ text. reply_text k (shown_over db reading) ++ text) later
 
 -- and with the work
-works_from : (log front : List Event) (s k : ℕ) (db : Db) (readings : List (Result Stmt Refusal)) (more : List Event) → Goes log front s k db readings more → sum_by {X = ℕ × Result Stmt Refusal} (λ (j, reading). statement_work (tables_met log s j) reading) (enumerate_from k readings) ≡ work_from db readings
+works_from : (log front : List EventTree) (s k : ℕ) (db : Db) (readings : List (Result StmtTree Refusal)) (more : List EventTree) → Goes log front s k db readings more → sum_by {X = ℕ × Result StmtTree Refusal} (λ (j, reading). statement_work (tables_met log s j) reading) (enumerate_from k readings) ≡ work_from db readings
 works_from log front s k db [] more goes = refl
 works_from log front s k db (reading ∷ readings) more goes =
     let later = works_from log (front ++ events_of s k (acts_over db reading)) s (k + 1) (db_after db reading) readings more (goes_next log front s k db reading readings more goes) in
-    sum_by-cons {X = ℕ × Result Stmt Refusal} (λ (j, reading). statement_work (tables_met log s j) reading) (k, reading) (enumerate_from (k + 1) readings)
-    ∙ ap (λ d. statement_work d reading + sum_by {X = ℕ × Result Stmt Refusal} (λ (j, reading). statement_work (tables_met log s j) reading) (enumerate_from (k + 1) readings)) (goes_here log front s k db reading readings more goes)
+    sum_by-cons {X = ℕ × Result StmtTree Refusal} (λ (j, reading). statement_work (tables_met log s j) reading) (k, reading) (enumerate_from (k + 1) readings)
+    ∙ ap (λ d. statement_work d reading + sum_by {X = ℕ × Result StmtTree Refusal} (λ (j, reading). statement_work (tables_met log s j) reading) (enumerate_from (k + 1) readings)) (goes_here log front s k db reading readings more goes)
     ∙ ap (λ n. statement_work db reading + n) later
 
 -- ## All sessions in the log
 
 -- the log goes on from here by these sessions
-record GoesAll (log front : List Event) (s : ℕ) (db : Db) (scripts : List (List (Result Stmt Refusal))) : Type 0 where
+record GoesAll (log front : List EventTree) (s : ℕ) (db : Db) (scripts : List (List (Result StmtTree Refusal))) : Type 0 where
   is : log ≡ front ++ all_log s db scripts
   leads : replay (commits front) ≡ db
   before : AreBefore s 0 front
 
-goes_first : (log front : List Event) (s : ℕ) (db : Db) (readings : List (Result Stmt Refusal)) (others : List (List (Result Stmt Refusal))) → GoesAll log front s db (readings ∷ others) → Goes log front s 1 db readings (all_log (s + 1) (run_db db readings) others)
+goes_first : (log front : List EventTree) (s : ℕ) (db : Db) (readings : List (Result StmtTree Refusal)) (others : List (List (Result StmtTree Refusal))) → GoesAll log front s db (readings ∷ others) → Goes log front s 1 db readings (all_log (s + 1) (run_db db readings) others)
 goes_first log front s db readings others goes = record { is = goes.is; leads = goes.leads; before = before-later s 0 front goes.before }
 
-goes_others : (log front : List Event) (s : ℕ) (db : Db) (readings : List (Result Stmt Refusal)) (others : List (List (Result Stmt Refusal))) → GoesAll log front s db (readings ∷ others) → GoesAll log (front ++ run_log s db 1 readings) (s + 1) (run_db db readings) others
+goes_others : (log front : List EventTree) (s : ℕ) (db : Db) (readings : List (Result StmtTree Refusal)) (others : List (List (Result StmtTree Refusal))) → GoesAll log front s db (readings ∷ others) → GoesAll log (front ++ run_log s db 1 readings) (s + 1) (run_db db readings) others
 goes_others log front s db readings others goes = record {
   is = goes.is ∙ sym (append_assoc front (run_log s db 1 readings) (all_log (s + 1) (run_db db readings) others));
   leads = run_leads s 1 front db readings goes.leads;
@@ -214,15 +215,15 @@ goes_others log front s db readings others goes = record {
 -- ## The events of a session are its own
 
 -- the events are of other sessions
-abbrev AreOthers : ℕ → List Event → Type 0
-AreOthers s log = AllByRecursion (λ (event : Event). (event.session == s) ≡ false) log
+abbrev AreOthers : ℕ → List EventTree → Type 0
+AreOthers s log = AllByRecursion (λ (event : EventTree). (event.session == s) ≡ false) log
 
-none_kept : (s : ℕ) (log : List Event) → AreOthers s log → filter (λ (event : Event). event.session == s) log ≡ []
+none_kept : (s : ℕ) (log : List EventTree) → AreOthers s log → filter (λ (event : EventTree). event.session == s) log ≡ []
 none_kept s [] a = refl
 none_kept s (event ∷ log) a =
-    ap (λ b. cond b (event ∷ filter (λ (e : Event). e.session == s) log) (filter (λ (e : Event). e.session == s) log)) a.0 ∙ none_kept s log a.1
+    ap (λ b. cond b (event ∷ filter (λ (e : EventTree). e.session == s) log) (filter (λ (e : EventTree). e.session == s) log)) a.0 ∙ none_kept s log a.1
 
-front_others : (s j : ℕ) (log : List Event) → s ≤ j → AreBefore s 0 log → AreOthers j log
+front_others : (s j : ℕ) (log : List EventTree) → s ≤ j → AreBefore s 0 log → AreOthers j log
 front_others s j [] h a = tt
 front_others s j (event ∷ log) h a = (other a.0, front_others s j log h a.1)
   where
@@ -230,39 +231,39 @@ front_others s j (event ∷ log) h a = (other a.0, front_others s j log h a.1)
     other (inl e) = other_number event.session j (omega (arith, e))
     other (inr e) = absurd (omega (arith, e.1))
 
-events_others : (s j k : ℕ) (acts : List Act) → (s == j) ≡ false → AreOthers j (events_of s k acts)
+events_others : (s j k : ℕ) (acts : List ActTree) → (s == j) ≡ false → AreOthers j (events_of s k acts)
 events_others s j k [] h = tt
 events_others s j k (act ∷ acts) h = (h, events_others s j k acts h)
 
-others-append : (j : ℕ) (xs ys : List Event) → AreOthers j xs → AreOthers j ys → AreOthers j (xs ++ ys)
+others-append : (j : ℕ) (xs ys : List EventTree) → AreOthers j xs → AreOthers j ys → AreOthers j (xs ++ ys)
 others-append j [] ys a b = b
 others-append j (x ∷ xs) ys a b = (a.0, others-append j xs ys a.1 b)
 
-run_others : (s j k : ℕ) (db : Db) (readings : List (Result Stmt Refusal)) → (s == j) ≡ false → AreOthers j (run_log s db k readings)
+run_others : (s j k : ℕ) (db : Db) (readings : List (Result StmtTree Refusal)) → (s == j) ≡ false → AreOthers j (run_log s db k readings)
 run_others s j k db [] h = tt
 run_others s j k db (reading ∷ readings) h = others-append j _ _ (events_others s j k (acts_over db reading) h) (run_others s j (k + 1) (db_after db reading) readings h)
 
-later_others : (s j : ℕ) (db : Db) (scripts : List (List (Result Stmt Refusal))) → j < s → AreOthers j (all_log s db scripts)
+later_others : (s j : ℕ) (db : Db) (scripts : List (List (Result StmtTree Refusal))) → j < s → AreOthers j (all_log s db scripts)
 later_others s j db [] h = tt
 later_others s j db (readings ∷ others) h = others-append j _ _ (run_others s j 1 db readings (later_number j s h)) (later_others (s + 1) j (run_db db readings) others (omega arith))
 
-own_events : (s k : ℕ) (acts : List Act) → filter (λ (event : Event). event.session == s) (events_of s k acts) ≡ events_of s k acts
+own_events : (s k : ℕ) (acts : List ActTree) → filter (λ (event : EventTree). event.session == s) (events_of s k acts) ≡ events_of s k acts
 own_events s k [] = refl
 own_events s k (act ∷ acts) =
-    ap (λ b. cond b (record { session = s; statement = k; act = act } ∷ filter (λ (e : Event). e.session == s) (events_of s k acts)) (filter (λ (e : Event). e.session == s) (events_of s k acts))) (itself s)
+    ap (λ b. cond b (record { session = s; statement = k; act = act } ∷ filter (λ (e : EventTree). e.session == s) (events_of s k acts)) (filter (λ (e : EventTree). e.session == s) (events_of s k acts))) (itself s)
     ∙ ap (λ more. record { session = s; statement = k; act = act } ∷ more) (own_events s k acts)
 
-all_kept : (s k : ℕ) (db : Db) (readings : List (Result Stmt Refusal)) → filter (λ (event : Event). event.session == s) (run_log s db k readings) ≡ run_log s db k readings
+all_kept : (s k : ℕ) (db : Db) (readings : List (Result StmtTree Refusal)) → filter (λ (event : EventTree). event.session == s) (run_log s db k readings) ≡ run_log s db k readings
 all_kept s k db [] = refl
 all_kept s k db (reading ∷ readings) =
-    filter-append (λ (event : Event). event.session == s) (events_of s k (acts_over db reading)) (run_log s (db_after db reading) (k + 1) readings)
-    ∙ ap (λ xs. xs ++ filter (λ (event : Event). event.session == s) (run_log s (db_after db reading) (k + 1) readings)) (own_events s k (acts_over db reading))
+    filter-append (λ (event : EventTree). event.session == s) (events_of s k (acts_over db reading)) (run_log s (db_after db reading) (k + 1) readings)
+    ∙ ap (λ xs. xs ++ filter (λ (event : EventTree). event.session == s) (run_log s (db_after db reading) (k + 1) readings)) (own_events s k (acts_over db reading))
     ∙ ap (λ ys. events_of s k (acts_over db reading) ++ ys) (all_kept s (k + 1) (db_after db reading) readings)
 
 -- what the log has of session s is what it logs
-logged_is : (log front : List Event) (s : ℕ) (db : Db) (readings : List (Result Stmt Refusal)) (others : List (List (Result Stmt Refusal))) → GoesAll log front s db (readings ∷ others) → filter (λ (event : Event). event.session == s) log ≡ run_log s db 1 readings
+logged_is : (log front : List EventTree) (s : ℕ) (db : Db) (readings : List (Result StmtTree Refusal)) (others : List (List (Result StmtTree Refusal))) → GoesAll log front s db (readings ∷ others) → filter (λ (event : EventTree). event.session == s) log ≡ run_log s db 1 readings
 logged_is log front s db readings others goes =
-    let own = λ (event : Event). event.session == s in
+    let own = λ (event : EventTree). event.session == s in
     let later = all_log (s + 1) (run_db db readings) others in
     ap (filter own) goes.is
     ∙ filter-append own front (run_log s db 1 readings ++ later)
@@ -274,12 +275,12 @@ logged_is log front s db readings others goes =
 
 -- ## The theorem
 
-statements_from : (log front : List Event) (s : ℕ) (db : Db) (scripts : List (List (Result Stmt Refusal))) → GoesAll log front s db scripts → (i : ℕ) (readings : List (Result Stmt Refusal)) → slice_get scripts i ≡ Some readings → logged_of (i + s) log ≡ acts_of log (i + s) readings
+statements_from : (log front : List EventTree) (s : ℕ) (db : Db) (scripts : List (List (Result StmtTree Refusal))) → GoesAll log front s db scripts → (i : ℕ) (readings : List (Result StmtTree Refusal)) → slice_get scripts i ≡ Some readings → logged_of (i + s) log ≡ acts_of log (i + s) readings
 statements_from log front s db [] goes i readings e = cc
 statements_from log front s db (first ∷ others) goes zero readings e =
     let same : first ≡ readings = cc in
     ap (λ n. logged_of n log) (let n : 0 + s ≡ s = omega arith in n)
-    ∙ ap (map {B = ℕ × Act} (λ (event : Event). (event.statement, event.act))) (logged_is log front s db first others goes)
+    ∙ ap (map {B = ℕ × ActTree} (λ (event : EventTree). (event.statement, event.act))) (logged_is log front s db first others goes)
     ∙ sym (acts_from log front s 1 db first _ (goes_first log front s db first others goes))
     ∙ ap (acts_of log s) same
     ∙ ap (λ n. acts_of log n readings) (let n : s ≡ 0 + s = omega arith in n)
@@ -289,36 +290,36 @@ statements_from log front s db (first ∷ others) goes (suc i) readings e =
     ∙ ap (λ n. acts_of log n readings) (let n : i + (s + 1) ≡ suc i + s = omega arith in n)
 
 -- each event is of one of the sessions
-abbrev AreWithin : ℕ → ℕ → List Event → Type 0
-AreWithin low high log = AllByRecursion (λ (event : Event). (low ≤ event.session) × (event.session ≤ high)) log
+abbrev AreWithin : ℕ → ℕ → List EventTree → Type 0
+AreWithin low high log = AllByRecursion (λ (event : EventTree). (low ≤ event.session) × (event.session ≤ high)) log
 
-within-append : (low high : ℕ) (xs ys : List Event) → AreWithin low high xs → AreWithin low high ys → AreWithin low high (xs ++ ys)
+within-append : (low high : ℕ) (xs ys : List EventTree) → AreWithin low high xs → AreWithin low high ys → AreWithin low high (xs ++ ys)
 within-append low high [] ys a b = b
 within-append low high (x ∷ xs) ys a b = (a.0, within-append low high xs ys a.1 b)
 
-within-events : (low high s k : ℕ) (acts : List Act) → low ≤ s → s ≤ high → AreWithin low high (events_of s k acts)
+within-events : (low high s k : ℕ) (acts : List ActTree) → low ≤ s → s ≤ high → AreWithin low high (events_of s k acts)
 within-events low high s k [] a b = tt
 within-events low high s k (act ∷ acts) a b = ((a, b), within-events low high s k acts a b)
 
-within-run : (low high s k : ℕ) (db : Db) (readings : List (Result Stmt Refusal)) → low ≤ s → s ≤ high → AreWithin low high (run_log s db k readings)
+within-run : (low high s k : ℕ) (db : Db) (readings : List (Result StmtTree Refusal)) → low ≤ s → s ≤ high → AreWithin low high (run_log s db k readings)
 within-run low high s k db [] a b = tt
 within-run low high s k db (reading ∷ readings) a b = within-append low high _ _ (within-events low high s k (acts_over db reading) a b) (within-run low high s (k + 1) (db_after db reading) readings a b)
 
-within-all : (low high s : ℕ) (db : Db) (scripts : List (List (Result Stmt Refusal))) → low ≤ s → s + length scripts ≤ high + 1 → AreWithin low high (all_log s db scripts)
+within-all : (low high s : ℕ) (db : Db) (scripts : List (List (Result StmtTree Refusal))) → low ≤ s → s + length scripts ≤ high + 1 → AreWithin low high (all_log s db scripts)
 within-all low high s db [] a b = tt
 within-all low high s db (readings ∷ others) a b = within-append low high _ _ (within-run low high s 1 db readings a (omega arith)) (within-all low high (s + 1) (run_db db readings) others (omega arith) (omega arith))
 
-goes_from_none : (scripts : List (List (Result Stmt Refusal))) → GoesAll (all_log 1 no_tables scripts) [] 1 no_tables scripts
+goes_from_none : (scripts : List (List (Result StmtTree Refusal))) → GoesAll (all_log 1 no_tables scripts) [] 1 no_tables scripts
 goes_from_none scripts = record { is = refl; leads = refl; before = tt }
 
 -- the log of the sessions is in order
-pub sessions_ordered : (scripts : List (List (Result Stmt Refusal))) → IsOrdered scripts (all_log 1 no_tables scripts)
+pub sessions_ordered : (scripts : List (List (Result StmtTree Refusal))) → IsOrdered scripts (all_log 1 no_tables scripts)
 sessions_ordered scripts = record {
   sessions = within-all 1 (length scripts) 1 no_tables scripts (omega arith) (omega arith);
   statements = statements_from (all_log 1 no_tables scripts) [] 1 no_tables scripts (goes_from_none scripts);
 }
 
-texts_of : (log front : List Event) (s : ℕ) (db : Db) (names : List (List ℕ)) (scripts : List (List (Result Stmt Refusal))) → GoesAll log front s db scripts → flat_map {A = ℕ} (λ (j, script). session_text log j script.0 script.1) (enumerate_from s (zip names scripts)) ≡ all_text s db names scripts
+texts_of : (log front : List EventTree) (s : ℕ) (db : Db) (names : List (List ℕ)) (scripts : List (List (Result StmtTree Refusal))) → GoesAll log front s db scripts → flat_map {A = ℕ} (λ (j, script). session_text log j script.0 script.1) (enumerate_from s (zip names scripts)) ≡ all_text s db names scripts
 texts_of log front s db [] scripts goes = refl
 texts_of log front s db (name ∷ names) [] goes = refl
 texts_of log front s db (name ∷ names) (readings ∷ others) goes =
@@ -327,18 +328,18 @@ texts_of log front s db (name ∷ names) (readings ∷ others) goes =
     ∙ ap (λ text. session_line s name ++ run_text db 1 readings ++ text) later
 
 -- and the replies are printed of it
-pub sessions_printed : (names : List (List ℕ)) (scripts : List (List (Result Stmt Refusal))) → printed names scripts (all_log 1 no_tables scripts) ≡ all_text 1 no_tables names scripts ++ history_text (all_log 1 no_tables scripts)
+pub sessions_printed : (names : List (List ℕ)) (scripts : List (List (Result StmtTree Refusal))) → printed names scripts (all_log 1 no_tables scripts) ≡ all_text 1 no_tables names scripts ++ history_text (all_log 1 no_tables scripts)
 sessions_printed names scripts =
     ap (λ text. text ++ history_text (all_log 1 no_tables scripts)) (texts_of (all_log 1 no_tables scripts) [] 1 no_tables names scripts (goes_from_none scripts))
 
-works_of : (log front : List Event) (s : ℕ) (db : Db) (scripts : List (List (Result Stmt Refusal))) → GoesAll log front s db scripts → sum_by {X = ℕ × List (Result Stmt Refusal)} (λ (j, readings). session_work log j readings) (enumerate_from s scripts) ≡ all_work db scripts
+works_of : (log front : List EventTree) (s : ℕ) (db : Db) (scripts : List (List (Result StmtTree Refusal))) → GoesAll log front s db scripts → sum_by {X = ℕ × List (Result StmtTree Refusal)} (λ (j, readings). session_work log j readings) (enumerate_from s scripts) ≡ all_work db scripts
 works_of log front s db [] goes = refl
 works_of log front s db (readings ∷ others) goes =
     let later = works_of log (front ++ run_log s db 1 readings) (s + 1) (run_db db readings) others (goes_others log front s db readings others goes) in
-    sum_by-cons {X = ℕ × List (Result Stmt Refusal)} (λ (j, readings). session_work log j readings) (s, readings) (enumerate_from (s + 1) others)
-    ∙ ap (λ n. n + sum_by {X = ℕ × List (Result Stmt Refusal)} (λ (j, readings). session_work log j readings) (enumerate_from (s + 1) others)) (works_from log front s 1 db readings _ (goes_first log front s db readings others goes))
+    sum_by-cons {X = ℕ × List (Result StmtTree Refusal)} (λ (j, readings). session_work log j readings) (s, readings) (enumerate_from (s + 1) others)
+    ∙ ap (λ n. n + sum_by {X = ℕ × List (Result StmtTree Refusal)} (λ (j, readings). session_work log j readings) (enumerate_from (s + 1) others)) (works_from log front s 1 db readings _ (goes_first log front s db readings others goes))
     ∙ ap (λ n. work_from db readings + n) later
 
 -- and the work is that of the statements one after the other
-pub sessions_work : (scripts : List (List (Result Stmt Refusal))) → run_work scripts (all_log 1 no_tables scripts) ≡ all_work no_tables scripts
+pub sessions_work : (scripts : List (List (Result StmtTree Refusal))) → run_work scripts (all_log 1 no_tables scripts) ≡ all_work no_tables scripts
 sessions_work scripts = works_of (all_log 1 no_tables scripts) [] 1 no_tables scripts (goes_from_none scripts)

@@ -20,4 +20,4 @@ at_of Memory = 0
 
 -- a status that a script's bytes decide
 abbrev pub is_by_bytes : ℕ → Bool
-is_by_bytes status = (status == 1) || (status == 4) || (status == 6)
+is_by_bytes status = (status == 4) || (status == 6)

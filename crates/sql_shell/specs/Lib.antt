@@ -1,9 +1,6 @@
 pub mod Failures
-pub mod Ints
-pub mod Missing
 pub mod Readings
 pub mod Scripts
 pub mod Served
 pub mod Session
-pub mod Words
 pub mod Work

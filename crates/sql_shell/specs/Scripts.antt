@@ -1,35 +1,28 @@
 -- Scripts that were read: their names and the texts of their statements.
-use Rattle.std.specs.Prelude.{◌≡◌, ℕ, ◌+◌, ◌==◌, ◌≤◌, ◌<◌, ◌⊎◌, List, [], ◌∷◌, length, map, Bool, true, false, if◌then◌else◌, Option, Some, None, IfSome, IsUtf8}
+use Rattle.std.specs.Prelude.{◌≡◌, ℕ, ◌+◌, ◌≤◌, ◌<◌, ◌⊎◌, List, [], ◌∷◌, length, map, Option, Some, None, IfSome, IsUtf8}
 use Rattle.std.specs.List.{AllByRecursion}
 use Rattle.causes.specs.declared.reading.TheConstants.{MOST_BYTES}
-use Rattle.sql_core.specs.Reading.{pieces_of}
-use Rattle.sql_parse.specs.Marks.{holds_marks}
-use Rattle.sql_parse.specs.declared.pieces.TheConstants.{MOST_STATEMENTS}
+use Rattle.sql_tokens.specs.declared.pieces.TheConstants.{MOST_STATEMENTS}
+use Rattle.sql_tree.specs.Pieces.{pieces_of}
 use Rattle.sql_shell.specs.declared.scripts.Script.{Script}
 
--- a script that this stage runs: not too long, UTF-8, not too many statements, and without strings, quoted names and comments
+-- a script that is run: not too long, UTF-8, and without too many statements
 pub record IsRunnable (script : List ℕ) : Type 0 where
   pub short : length script ≤ MOST_BYTES
   pub text : IsUtf8 script
   pub few : length (pieces_of script) ≤ MOST_STATEMENTS
-  pub plain : holds_marks script ≡ false
 
 -- why a script isn't run, and the status that tells it
 pub data IsUnfit (script : List ℕ) (status : ℕ) : Type 0 where
   TooLong : MOST_BYTES < length script → status ≡ 4 → IsUnfit script status
   NotText : length script ≤ MOST_BYTES → (IsUtf8 script → ⊥) → status ≡ 6 → IsUnfit script status
-  Marked : length script ≤ MOST_BYTES → IsUtf8 script → holds_marks script ≡ true → status ≡ 1 → IsUnfit script status
-  TooMany : length script ≤ MOST_BYTES → IsUtf8 script → holds_marks script ≡ false → MOST_STATEMENTS < length (pieces_of script) → status ≡ 4 → IsUnfit script status
-
--- the file that a status is about: that of this number, but for status 1, which is about none
-abbrev pub about : ℕ → ℕ → ℕ
-about status number = if status == 1 then 0 else number
+  TooMany : length script ≤ MOST_BYTES → IsUtf8 script → MOST_STATEMENTS < length (pieces_of script) → status ≡ 4 → IsUnfit script status
 
 -- the first of the scripts that isn't run, counted from a number, has this status
 abbrev pub IsFirstUnfit : ℕ → List (List ℕ) → ℕ → ℕ → Type 0
 IsFirstUnfit number [] status at = ⊥
 IsFirstUnfit number (script ∷ scripts) status at =
-    (IsUnfit script status × (at ≡ about status number)) ⊎ (IsRunnable script × IsFirstUnfit (number + 1) scripts status at)
+    (IsUnfit script status × (at ≡ number)) ⊎ (IsRunnable script × IsFirstUnfit (number + 1) scripts status at)
 
 abbrev pub AreRunnable : List (List ℕ) → Type 0
 AreRunnable scripts = AllByRecursion IsRunnable scripts

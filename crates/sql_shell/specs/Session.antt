@@ -1,16 +1,15 @@
 -- What sessions log and print that run one after the other, statement after statement.
 use Rattle.std.specs.Prelude.{◌≡◌, ℕ, ◌+◌, List, [], ◌∷◌, ◌++◌, map, Bool, true, false, Result, Ok, Err}
 use Rattle.cell_core.specs.declared.table.Db.{Db}
-use Rattle.sql_core.specs.Effect.{effect}
-use Rattle.sql_core.specs.declared.tree.Stmt.{Stmt}
-use Rattle.sql_core.specs.declared.tree.Stmt.TheVariants as stmt
-use Rattle.sql_core.specs.declared.refusal.Refusal.{Refusal}
-use Rattle.sql_core.specs.Reading.{IsReadAs}
+use Rattle.sql_parse.specs.Answered.{Reads}
+use Rattle.sql_semantics.specs.Effect.{effect}
+use Rattle.sql_semantics.specs.declared.refusal.Refusal.{Refusal}
+use Rattle.sql_tree.specs.Tree.{StmtTree}
+use Rattle.sql_tree.specs.Tree.StmtTree.{Select, ExplainSelect}
 use Rattle.sql_shell.specs.Readings.{AreReadings, AreAllRead}
 use Rattle.sql_shell.specs.declared.session.Run.{Run}
-use Rattle.answer_text.specs.declared.event.Event.{Event}
-use Rattle.answer_text.specs.declared.event.Act.{Act}
-use Rattle.answer_text.specs.Log.{acts_over, shown_over, IsOrdered}
+use Rattle.answer_text.specs.declared.event.Shown.{Shown}
+use Rattle.answer_text.specs.Log.{ActTree, EventTree, Begins, Ends, log_tree, code_of, acts_over, shown_over, shown_reply, IsOrdered}
 use Rattle.answer_text.specs.Layout.{reply_text, session_line, printed}
 use Rattle.sql_shell.specs.Work.{statement_work, run_work}
 
@@ -21,99 +20,127 @@ no_tables = record { tables = [] }
 -- ## One session
 
 -- the events of statement k of a session
-abbrev pub events_of : ℕ → ℕ → List Act → List Event
+abbrev pub events_of : ℕ → ℕ → List ActTree → List EventTree
 events_of s k acts = map (λ act. record { session = s; statement = k; act = act }) acts
 
 -- the database behind a statement
-abbrev pub db_after : Db → Result Stmt Refusal → Db
+abbrev pub db_after : Db → Result StmtTree Refusal → Db
 db_after db (Err refusal) = db
 db_after db (Ok statement) = (effect statement db).0
 
 -- the database behind the statements
-abbrev pub run_db : Db → List (Result Stmt Refusal) → Db
+abbrev pub run_db : Db → List (Result StmtTree Refusal) → Db
 run_db db [] = db
 run_db db (reading ∷ readings) = run_db (db_after db reading) readings
 
 -- the events of a session's statements, which count from k
-abbrev pub run_log : ℕ → Db → ℕ → List (Result Stmt Refusal) → List Event
+abbrev pub run_log : ℕ → Db → ℕ → List (Result StmtTree Refusal) → List EventTree
 run_log s db k [] = []
 run_log s db k (reading ∷ readings) = events_of s k (acts_over db reading) ++ run_log s (db_after db reading) (k + 1) readings
 
 -- the replies to the statements
-abbrev pub run_text : Db → ℕ → List (Result Stmt Refusal) → List ℕ
+abbrev pub run_text : Db → ℕ → List (Result StmtTree Refusal) → List ℕ
 run_text db k [] = []
 run_text db k (reading ∷ readings) = reply_text k (shown_over db reading) ++ run_text (db_after db reading) (k + 1) readings
 
 -- the work of the statements
-abbrev pub work_from : Db → List (Result Stmt Refusal) → ℕ
+abbrev pub work_from : Db → List (Result StmtTree Refusal) → ℕ
 work_from db [] = 0
 work_from db (reading ∷ readings) = statement_work db reading + work_from (db_after db reading) readings
 
 -- ## Sessions one after the other
 
 -- the database behind the sessions
-abbrev pub all_db : Db → List (List (Result Stmt Refusal)) → Db
+abbrev pub all_db : Db → List (List (Result StmtTree Refusal)) → Db
 all_db db [] = db
 all_db db (readings ∷ others) = all_db (run_db db readings) others
 
 -- the events of the sessions, which count from s
-abbrev pub all_log : ℕ → Db → List (List (Result Stmt Refusal)) → List Event
+abbrev pub all_log : ℕ → Db → List (List (Result StmtTree Refusal)) → List EventTree
 all_log s db [] = []
 all_log s db (readings ∷ others) = run_log s db 1 readings ++ all_log (s + 1) (run_db db readings) others
 
 -- what the sessions print under these names
-abbrev pub all_text : ℕ → Db → List (List ℕ) → List (List (Result Stmt Refusal)) → List ℕ
+abbrev pub all_text : ℕ → Db → List (List ℕ) → List (List (Result StmtTree Refusal)) → List ℕ
 all_text s db (name ∷ names) (readings ∷ others) = session_line s name ++ run_text db 1 readings ++ all_text (s + 1) (run_db db readings) names others
 all_text s db _ _ = []
 
 -- the work of the sessions
-abbrev pub all_work : Db → List (List (Result Stmt Refusal)) → ℕ
+abbrev pub all_work : Db → List (List (Result StmtTree Refusal)) → ℕ
 all_work db [] = 0
 all_work db (readings ∷ others) = work_from db readings + all_work (run_db db readings) others
 
 -- ## What the code keeps, which no public clause names
 
--- a statement that is no query
-abbrev pub is_change : Stmt → Bool
-is_change (stmt.Query query) = false
+-- an EXPLAIN
+abbrev pub is_explain : StmtTree → Bool
+is_explain (ExplainSelect query) = true
+is_explain _ = false
+
+-- a statement that is neither a query nor an EXPLAIN
+abbrev pub is_change : StmtTree → Bool
+is_change (Select query) = false
+is_change (ExplainSelect query) = false
 is_change _ = true
 
 -- the run goes on by statement k of session s, which was read so
-pub record Follows (old new : Run) (s k : ℕ) (reading : Result Stmt Refusal) : Type 0 where
+pub record Follows (old new : Run) (s k : ℕ) (reading : Result StmtTree Refusal) : Type 0 where
   pub db : new.db ≡ db_after old.db reading
-  pub log : new.log.items ≡ old.log.items ++ events_of s k (acts_over old.db reading)
+  pub log : log_tree new.log.items ≡ log_tree old.log.items ++ events_of s k (acts_over old.db reading)
   pub text : new.text.items ≡ old.text.items ++ reply_text k (shown_over old.db reading)
   pub work : new.work ≡ old.work + statement_work old.db reading
 
 -- the run goes on by statement k of session s, whatever its text reads as
 pub record Serves (old new : Run) (s k : ℕ) (text : List ℕ) : Type 0 where
-  pub reading : Result Stmt Refusal
-  pub read : IsReadAs text reading
+  pub reading : Result StmtTree Refusal
+  pub read : Reads text reading
   pub follows : Follows old new s k reading
 
 -- the run goes on by these statements of session s, from its first on
 pub record ServesPieces (old new : Run) (s : ℕ) (pieces : List (List ℕ)) : Type 0 where
-  pub readings : List (Result Stmt Refusal)
+  pub readings : List (Result StmtTree Refusal)
   pub read : AreReadings pieces readings
   pub db : new.db ≡ run_db old.db readings
-  pub log : new.log.items ≡ old.log.items ++ run_log s old.db 1 readings
+  pub log : log_tree new.log.items ≡ log_tree old.log.items ++ run_log s old.db 1 readings
   pub text : new.text.items ≡ old.text.items ++ run_text old.db 1 readings
   pub work : new.work ≡ old.work + work_from old.db readings
 
 -- the run has served scripts of these names and pieces, from no tables on
 pub record HasServed (names : List (List ℕ)) (scripts : List (List (List ℕ))) (run : Run) : Type 0 where
-  pub readings : List (List (Result Stmt Refusal))
+  pub readings : List (List (Result StmtTree Refusal))
   pub read : AreAllRead scripts readings
   pub db : run.db ≡ all_db no_tables readings
-  pub log : run.log.items ≡ all_log 1 no_tables readings
+  pub log : log_tree run.log.items ≡ all_log 1 no_tables readings
   pub text : run.text.items ≡ all_text 1 no_tables names readings
   pub work : run.work ≡ all_work no_tables readings
 
+-- the database is changed by the statement, which shows this, and nothing else changes
+pub record Changes (old new : Run) (statement : StmtTree) (shown : Shown) : Type 0 where
+  pub db : new.db ≡ (effect statement old.db).0
+  pub shows : shown ≡ shown_reply (effect statement old.db).1
+  pub log : new.log.items ≡ old.log.items
+  pub text : new.text.items ≡ old.text.items
+  pub work : new.work ≡ old.work
+
 -- one act of statement k of session s is logged, and nothing else changes
-pub record Notes (old new : Run) (s k : ℕ) (act : Act) : Type 0 where
-  pub log : new.log.items ≡ old.log.items ++ record { session = s; statement = k; act = act } ∷ []
+pub record Notes (old new : Run) (s k : ℕ) (act : ActTree) : Type 0 where
+  pub log : log_tree new.log.items ≡ log_tree old.log.items ++ record { session = s; statement = k; act = act } ∷ []
   pub db : new.db ≡ old.db
   pub text : new.text.items ≡ old.text.items
+  pub work : new.work ≡ old.work
+
+-- the same, and the reply is written
+pub record Tells (old new : Run) (s k : ℕ) (act : ActTree) (shown : Shown) : Type 0 where
+  pub log : log_tree new.log.items ≡ log_tree old.log.items ++ record { session = s; statement = k; act = act } ∷ []
+  pub db : new.db ≡ old.db
+  pub text : new.text.items ≡ old.text.items ++ reply_text k shown
+  pub work : new.work ≡ old.work
+
+-- the Begin and the End of statement k of session s are logged, its reply is written, and nothing else changes
+pub record TellsRead (old new : Run) (s k begin : ℕ) (shown : Shown) : Type 0 where
+  pub log : log_tree new.log.items ≡ log_tree old.log.items ++ events_of s k (Begins begin ∷ Ends (code_of shown) ∷ [])
+  pub db : new.db ≡ old.db
+  pub text : new.text.items ≡ old.text.items ++ reply_text k shown
   pub work : new.work ≡ old.work
 
 -- work is added, and nothing else changes
@@ -124,8 +151,8 @@ pub record Counts (old new : Run) (more : ℕ) : Type 0 where
   pub work : new.work ≡ old.work + more
 
 -- the log, the text and the work of scripts with these names and pieces
-pub record Produces (names : List (List ℕ)) (scripts : List (List (List ℕ))) (log : List Event) (text : List ℕ) (work : ℕ) : Type 0 where
-  pub readings : List (List (Result Stmt Refusal))
+pub record Produces (names : List (List ℕ)) (scripts : List (List (List ℕ))) (log : List EventTree) (text : List ℕ) (work : ℕ) : Type 0 where
+  pub readings : List (List (Result StmtTree Refusal))
   pub read : AreAllRead scripts readings
   pub ordered : IsOrdered readings log
   pub printed_is : text ≡ printed names readings log

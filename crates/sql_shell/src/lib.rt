@@ -1,20 +1,22 @@
 //! The program as one call, `top`: it reads scripts, runs them one after the other as sessions over one
 //! database, and writes the replies and the history of accepted changes.
 //!
-//! It stands on `causes` for reading and writing, on `sql_parse` for text, on `sql_core` for what SQL
-//! means, on `sql_to_mal` and `mal_exec` for queries as plans, and on `answer_text` for the layouts.
-//! Its clause `served` is the project's headline, and `work` tells the stated work of the plans.
+//! It stands on `command_words` for the words, on `causes` for reading and writing, on `sql_parse` for
+//! text, on `sql_semantics` for what SQL means, on `sql_check` for the refusals by the tables, on
+//! `sql_changes` for changes, on `sql_to_mal` and `mal_exec` for queries as plans, on `sql_meaning` for
+//! those that have no plan yet, on `sql_kinds` for what every statement keeps, and on `answer_text` for
+//! the layouts. Its clause `served` is the project's headline, and `work`
+//! tells the stated work of the plans.
 #![tactic(auto)]
 
 mod columns;
 mod effect;
 mod produce;
-mod refuse;
+mod schema;
 mod scripts;
 mod served;
 mod session;
 mod show;
-mod words;
 
 pub use answer_text::{Act, Event};
 pub use served::{Served, top};

@@ -1,13 +1,13 @@
 //! Reading the scripts of a run.
 ghost use Rattle.std.specs.Prelude.{◌≡◌, ◌≢◌, ◌≤◌, ℕ, List, true, length, IfOk, IfSome, MatchResult};
 ghost use Rattle.causes.specs.Faults.{Rose};
-ghost use Rattle.sql_core.specs.Reading.{pieces_of};
+ghost use Rattle.sql_tree.specs.Pieces.{pieces_of};
 ghost use Rattle.sql_shell.specs.Failures.{status_of, at_of, is_by_bytes};
-ghost use Rattle.sql_shell.specs.Scripts.{IsRunnable, IsCut, AreCut, IsUnfit, IsFirstUnfit, about, told};
+ghost use Rattle.sql_shell.specs.Scripts.{IsRunnable, IsCut, AreCut, IsUnfit, IsFirstUnfit, told};
 
 use causes::{ReadError, Scripts, read_all};
 use cell_core::{Memory, Sequence, Word};
-use sql_parse::{SplitError, has_marks, split};
+use sql_parse::{SplitError, split};
 use std::alloc::{AllocFailed, Global};
 
 /// A script that was read, cut into its statements.
@@ -22,7 +22,7 @@ pub struct Script {
 /// Why a run ends before its first statement. Files are counted from 1.
 #[derive(Clone, Copy, Debug, PartialEq, Eq, Drop)]
 pub enum Failure {
-    /// The words, or the bytes of a script, are outside what is run.
+    /// The words are outside the grammar.
     Words,
     /// This file can't be read.
     Fault(u64),
@@ -90,6 +90,7 @@ pub fn read_scripts<S: Scripts>(
     ensures unfit { MatchResult result (λ scripts. Unit {0}) (λ e. is_by_bytes (status_of e) ≡ true →
         IfSome (told (S.bytes_of source.old) names.now) (λ scripts. IsFirstUnfit 1 scripts (status_of e) (at_of e))) }
     ensures fault { MatchResult result (λ scripts. Unit {0}) (λ e. status_of e ≡ 2 → Rose (S.faults source.old) (S.faults source.new)) }
+    ensures bytes { MatchResult result (λ scripts. Unit {0}) (λ e. status_of e ≢ 1) }
     ensures within { MatchResult result (λ scripts. Unit {0}) (λ e. at_of e ≤ length names.now) }
 {
     let mut read = Vec::new(alloc);
@@ -111,8 +112,9 @@ fn read_script<S: Scripts>(
 ) -> Result<Script, Failure>
     ensures cut { IfOk result (λ script. IsCut (S.bytes_of source.old) name.now script) }
     ensures unfit { MatchResult result (λ script. Unit {0}) (λ e. is_by_bytes (status_of e) ≡ true →
-        IfSome (S.bytes_of source.old name.now) (λ text. IsUnfit text (status_of e) × (at_of e ≡ about (status_of e) number))) }
+        IfSome (S.bytes_of source.old name.now) (λ text. IsUnfit text (status_of e) × (at_of e ≡ number))) }
     ensures fault { MatchResult result (λ script. Unit {0}) (λ e. status_of e ≡ 2 → Rose (S.faults source.old) (S.faults source.new)) }
+    ensures bytes { MatchResult result (λ script. Unit {0}) (λ e. status_of e ≢ 1) }
     ensures within { MatchResult result (λ script. Unit {0}) (λ e. at_of e ≤ number) }
     ensures later { S.faults source.old ≤ S.faults source.new }
     ensures same { (other : List ℕ) → S.bytes_of source.new other ≡ S.bytes_of source.old other }
@@ -130,13 +132,11 @@ fn read_script<S: Scripts>(
 fn cut(alloc: Global, name: &Word, text: &str, number: u64) -> Result<Script, Failure>
     requires { length text.now ≤ 1048576 }
     ensures cut { IfOk result (λ script. (script.name ≡ name.now) × IsRunnable text.now × (script.pieces ≡ pieces_of text.now)) }
-    ensures unfit { MatchResult result (λ script. Unit {0}) (λ e. is_by_bytes (status_of e) ≡ true → IsUnfit text.now (status_of e) × (at_of e ≡ about (status_of e) number)) }
+    ensures unfit { MatchResult result (λ script. Unit {0}) (λ e. is_by_bytes (status_of e) ≡ true → IsUnfit text.now (status_of e) × (at_of e ≡ number)) }
     ensures told { MatchResult result (λ script. Unit {0}) (λ e. status_of e ≢ 2) }
+    ensures bytes { MatchResult result (λ script. Unit {0}) (λ e. status_of e ≢ 1) }
     ensures within { MatchResult result (λ script. Unit {0}) (λ e. at_of e ≤ number) }
 {
-    if has_marks(text) {
-        return Err(Failure::Words);
-    }
     match split(alloc, text) {
         Ok(pieces) => {
             let name = name.share()?;

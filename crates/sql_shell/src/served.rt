@@ -1,29 +1,30 @@
 ghost use Rattle.std.specs.Prelude.{◌≡◌, ◌≤◌, ◌⊎◌, ◌+◌, ℕ, List, [], ◌∷◌, length, All, IfSome, None, true};
 ghost use Rattle.std.specs.Io.KnownBytes.{Appends};
 ghost use Rattle.causes.specs.Faults.{AppendsPrefix, Rose};
+ghost use Rattle.answer_text.specs.Log.{log_tree};
 ghost use Rattle.sql_shell.specs.Failures.{status_of, at_of};
 ghost use Rattle.sql_shell.specs.Scripts.{AreRunnable, IsFirstUnfit, told, names_of, pieces_in};
 ghost use Rattle.sql_shell.specs.Served.{IsServed, is_status};
 ghost use Rattle.sql_shell.specs.Session.{Produces};
-ghost use Rattle.sql_shell.specs.Words.{run_files};
+ghost use Rattle.command_words.specs.Words.{run_files};
 ghost use Rattle.sql_shell.specs.Work.{HasWork};
 
 use crate::produce::produce;
 use crate::scripts::{Failure, Script, read_scripts};
-use crate::words::files_of;
 use answer_text::Event;
 use bat_core::Operate;
 use causes::{Scripts, Sink, write_all};
 use cell_core::{Memory, Sequence, Steps, Word};
+use command_words::files_of;
 use std::alloc::Global;
 use std::sync::ledger::Ledger;
 
 /// What the program answers.
 #[derive(Debug, Drop)]
 pub struct Served {
-    /// 0: served; 1: the words, or what a script holds, are outside what is run; 2: a script can't be
-    /// read; 3: the answer can't be written; 4: a script has too many bytes or statements; 5: memory
-    /// ran out; 6: a script isn't UTF-8.
+    /// 0: served; 1: the words are outside the grammar; 2: a script can't be read; 3: the answer
+    /// can't be written; 4: a script has too many bytes or statements; 5: memory ran out; 6: a script
+    /// isn't UTF-8.
     pub status: u8,
     /// The file that the status is about, from 1 in the order of the words, or 0.
     pub at: u64,
@@ -46,13 +47,14 @@ pub fn top<S: Scripts, K: Sink, E: Operate, L: Ledger>(
 ) -> Served
     // The headline: what is written is the meaning of the scripts, by the log of this run.
     ensures served { result.status ≡ 0 → IfSome (run_files words.now) (λ names. IfSome (told (S.bytes_of scripts.old) names) (λ texts.
-        (text : List ℕ) × Appends (K.contents out.old) (K.contents out.new) text × IsServed names texts text result.log)) }
+        (text : List ℕ) × Appends (K.contents out.old) (K.contents out.new) text × IsServed names texts text (log_tree result.log))) }
     ensures prefix { result.status ≡ 3 → IfSome (run_files words.now) (λ names. IfSome (told (S.bytes_of scripts.old) names) (λ texts.
-        (text : List ℕ) × AppendsPrefix (K.contents out.old) (K.contents out.new) text × IsServed names texts text result.log)) }
+        (text : List ℕ) × AppendsPrefix (K.contents out.old) (K.contents out.new) text × IsServed names texts text (log_tree result.log))) }
 
     // When each other status comes, and which file it is about.
     ensures words { run_files words.now ≡ None → (result.status ≡ 1) × (result.at ≡ 0) ⊎ (result.status ≡ 5) }
-    ensures bytes { (result.status ≡ 1) ⊎ (result.status ≡ 4) ⊎ (result.status ≡ 6) → IfSome (run_files words.now) (λ names. IfSome (told (S.bytes_of scripts.old) names) (λ texts.
+    ensures other_words { result.status ≡ 1 → run_files words.now ≡ None }
+    ensures bytes { (result.status ≡ 4) ⊎ (result.status ≡ 6) → IfSome (run_files words.now) (λ names. IfSome (told (S.bytes_of scripts.old) names) (λ texts.
         IsFirstUnfit 1 texts result.status result.at)) }
     ensures read_fault { result.status ≡ 2 → Rose (S.faults scripts.old) (S.faults scripts.new) }
     ensures write_fault { result.status ≡ 3 → Rose (K.faults out.old) (K.faults out.new) }
@@ -67,7 +69,7 @@ pub fn top<S: Scripts, K: Sink, E: Operate, L: Ledger>(
     ensures silent { (result.status ≡ 1) ⊎ (result.status ≡ 2) ⊎ (result.status ≡ 4) ⊎ (result.status ≡ 5) ⊎ (result.status ≡ 6) → (K.contents out.new ≡ K.contents out.old) × (result.log ≡ []) × (result.work ≡ 0) }
 
     // The work of the run's plans, which is counted.
-    ensures work { (result.status ≡ 0) ⊎ (result.status ≡ 3) → IfSome (run_files words.now) (λ names. IfSome (told (S.bytes_of scripts.old) names) (λ texts. HasWork texts result.log result.work)) }
+    ensures work { (result.status ≡ 0) ⊎ (result.status ≡ 3) → IfSome (run_files words.now) (λ names. IfSome (told (S.bytes_of scripts.old) names) (λ texts. HasWork texts (log_tree result.log) result.work)) }
     ensures counted { (result.status ≡ 0) ⊎ (result.status ≡ 3) → steps.new ≡ steps.old + result.work }
     ensures idle { (result.status ≡ 1) ⊎ (result.status ≡ 2) ⊎ (result.status ≡ 4) ⊎ (result.status ≡ 6) → steps.new ≡ steps.old }
 {
@@ -107,8 +109,8 @@ fn serve<K: Sink, E: Operate, L: Ledger>(
 ) -> Served
     requires few { length scripts.now ≤ 16 }
     requires short { All (λ script. length script.pieces ≤ 256) scripts.now }
-    ensures served { result.status ≡ 0 → (text : List ℕ) × Appends (K.contents out.old) (K.contents out.new) text × Produces (names_of scripts.now) (pieces_in scripts.now) result.log text result.work }
-    ensures prefix { result.status ≡ 3 → (text : List ℕ) × AppendsPrefix (K.contents out.old) (K.contents out.new) text × Produces (names_of scripts.now) (pieces_in scripts.now) result.log text result.work }
+    ensures served { result.status ≡ 0 → (text : List ℕ) × Appends (K.contents out.old) (K.contents out.new) text × Produces (names_of scripts.now) (pieces_in scripts.now) (log_tree result.log) text result.work }
+    ensures prefix { result.status ≡ 3 → (text : List ℕ) × AppendsPrefix (K.contents out.old) (K.contents out.new) text × Produces (names_of scripts.now) (pieces_in scripts.now) (log_tree result.log) text result.work }
     ensures write_fault { result.status ≡ 3 → Rose (K.faults out.old) (K.faults out.new) }
     ensures known { (result.status ≡ 0) ⊎ (result.status ≡ 3) ⊎ (result.status ≡ 5) }
     ensures silent { result.status ≡ 5 → (K.contents out.new ≡ K.contents out.old) × (result.log ≡ []) × (result.work ≡ 0) }

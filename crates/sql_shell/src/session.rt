@@ -1,18 +1,21 @@
-ghost use Rattle.std.specs.Prelude.{◌≡◌, ◌≤◌, ◌+◌, true, length, All, OnOk, IfOk, Ok, Err};
-ghost use Rattle.sql_core.specs.declared.tree.Stmt.TheVariants as stmt;
-ghost use Rattle.sql_to_mal.specs.Translation.{IsRange};
-ghost use Rattle.sql_shell.specs.Ints.{HasInts};
+ghost use Rattle.std.specs.Prelude.{◌≡◌, ◌≤◌, ◌+◌, true, length, All, OnOk, IfOk, Ok, Err, Some};
+ghost use Rattle.sql_kinds.specs.HoldsKinds.{HoldsKinds};
+ghost use Rattle.sql_tree.specs.Tree.{query_tree, stmt_tree};
+ghost use Rattle.sql_tree.specs.Tree.StmtTree.{Select};
+ghost use Rattle.answer_text.specs.Log.{Writes, act_tree, code_of, count_of};
 ghost use Rattle.sql_shell.specs.Scripts.{names_of, pieces_in};
-ghost use Rattle.sql_shell.specs.Session.{is_change, Follows, Serves, ServesPieces, HasServed, Notes, Counts};
+ghost use Rattle.sql_shell.specs.Session.{is_change, is_explain, Follows, Serves, ServesPieces, HasServed, Changes, Notes, Tells, TellsRead, Counts};
 
 use crate::effect::apply;
 use crate::scripts::Script;
-use crate::show::{Answered, code, count, show_query, show_reply};
+use crate::show::{code, count, refuse_explain, show_query, show_reply};
 use answer_text::{Act, Event, Shown, write_reply, write_session_line};
 use bat_core::Operate;
 use cell_core::{Db, Memory, Sequence, Steps, Word};
-use sql_core::{Query, Refusal, Stmt};
+use sql_kinds::statements_keep_kinds;
 use sql_parse::{ParseError, parse};
+use sql_semantics::Refusal;
+use sql_tree::{Query, Stmt};
 use std::alloc::Global;
 use std::sync::ledger::Ledger;
 
@@ -49,6 +52,7 @@ pub fn run_scripts<E: Operate, L: Ledger>(
         text: Vec::new(alloc),
         work: 0,
     };
+    statements_keep_kinds();
     'scripts: for i in 0..scripts.len() {
         let number = i as u32 + 1;
         let script = &scripts[i];
@@ -69,10 +73,11 @@ impl Run {
         steps: &mut Steps<L>,
     ) -> Result<(), Memory>
         requires short { length pieces.now ≤ 256 }
-        requires ints { HasInts self.old.db }
+        requires kinds { HoldsKinds self.old.db }
         ensures served { OnOk result (ServesPieces self.old self.new s pieces.now) }
         ensures counted { OnOk result (steps.new + self.old.work ≡ steps.old + self.new.work) }
     {
+        statements_keep_kinds();
         'pieces: for i in 0..pieces.len() {
             self.serve(alloc, s, i as u32 + 1, pieces[i].text(), kernel, steps)?;
         }
@@ -89,39 +94,68 @@ impl Run {
         kernel: &E,
         steps: &mut Steps<L>,
     ) -> Result<(), Memory>
-        requires { HasInts self.old.db }
+        requires { HoldsKinds self.old.db }
         ensures served { OnOk result (Serves self.old self.new s k text.now) }
         ensures counted { OnOk result (steps.new + self.old.work ≡ steps.old + self.new.work) }
     {
         match parse(alloc, text) {
-            Ok(Stmt::Query(query)) => self.serve_query(alloc, s, k, &query, kernel, steps),
-            Ok(stmt) => self.serve_change(alloc, s, k, stmt),
+            Ok(stmt) => self.serve_stmt(alloc, s, k, stmt, kernel, steps),
             Err(ParseError::Refused(refusal)) => self.serve_refused(alloc, s, k, refusal),
             Err(ParseError::Memory) => Err(Memory),
         }
     }
 
-    /// Serves a query of one table.
+    /// Serves a statement.
+    fn serve_stmt<E: Operate, L: Ledger>(
+        &mut self,
+        alloc: Global,
+        s: u32,
+        k: u32,
+        stmt: Stmt,
+        kernel: &E,
+        steps: &mut Steps<L>,
+    ) -> Result<(), Memory>
+        requires { HoldsKinds self.old.db }
+        ensures follows { OnOk result (Follows self.old self.new s k (Ok (stmt_tree stmt))) }
+        ensures counted { OnOk result (steps.new + self.old.work ≡ steps.old + self.new.work) }
+    {
+        match &stmt {
+            Stmt::Query(query) => self.serve_query(alloc, s, k, &stmt, query, kernel, steps),
+            Stmt::Explain(_) => self.serve_explain(alloc, s, k, &stmt),
+            _ => self.serve_change(alloc, s, k, &stmt),
+        }
+    }
+
+    /// Serves a query. `stmt` is its statement.
     fn serve_query<E: Operate, L: Ledger>(
         &mut self,
         alloc: Global,
         s: u32,
         k: u32,
+        stmt: &Stmt,
         query: &Query,
         kernel: &E,
         steps: &mut Steps<L>,
     ) -> Result<(), Memory>
-        requires form { IsRange query.now }
-        requires ints { HasInts self.old.db }
-        ensures follows { OnOk result (Follows self.old self.new s k (Ok (stmt.Query query.now))) }
+        requires select { stmt_tree stmt.now ≡ Select (query_tree query.now) }
+        requires kinds { HoldsKinds self.old.db }
+        ensures follows { OnOk result (Follows self.old self.new s k (Ok (Select (query_tree query.now)))) }
         ensures counted { OnOk result (steps.new + self.old.work ≡ steps.old + self.new.work) }
     {
-        let Answered { shown, work } = show_query(alloc, query, &self.db, kernel, steps)?;
-        self.count(work)?;
-        let code = code(&shown);
-        self.note(s, k, Act::Begin { code })?;
-        self.note(s, k, Act::End { code })?;
-        write_reply(alloc, k, &shown, &mut self.text)
+        let answered = show_query(alloc, stmt, query, &self.db, kernel, steps)?;
+        self.count(answered.work)?;
+        self.tell_read(alloc, s, k, answered.begin, &answered.shown)
+    }
+
+    /// Serves an EXPLAIN.
+    fn serve_explain(&mut self, alloc: Global, s: u32, k: u32, stmt: &Stmt) -> Result<(), Memory>
+        requires { is_explain (stmt_tree stmt.now) ≡ true }
+        ensures follows { OnOk result (Follows self.old self.new s k (Ok (stmt_tree stmt.now))) }
+        ensures work { OnOk result (self.new.work ≡ self.old.work) }
+    {
+        let refusal = refuse_explain(alloc, stmt, &self.db)?;
+        let begin = refusal.number();
+        self.tell_read(alloc, s, k, begin, &Shown::Refused(refusal))
     }
 
     /// Adds work. A sum past 128 bits is want of memory.
@@ -132,21 +166,37 @@ impl Run {
         Ok(())
     }
 
-    /// Serves a statement that is no query.
-    fn serve_change(&mut self, alloc: Global, s: u32, k: u32, stmt: Stmt) -> Result<(), Memory>
-        requires { is_change stmt ≡ true }
-        ensures follows { OnOk result (Follows self.old self.new s k (Ok stmt)) }
+    /// Serves a statement that is neither a query nor an EXPLAIN.
+    fn serve_change(&mut self, alloc: Global, s: u32, k: u32, stmt: &Stmt) -> Result<(), Memory>
+        requires { is_change (stmt_tree stmt.now) ≡ true }
+        ensures follows { OnOk result (Follows self.old self.new s k (Ok (stmt_tree stmt.now))) }
         ensures work { OnOk result (self.new.work ≡ self.old.work) }
     {
-        let reply = apply(alloc, &stmt, &mut self.db)?;
-        let shown = show_reply(reply);
-        let act = Act::Write {
-            stmt: Some(stmt),
-            code: code(&shown),
-            count: count(&shown),
-        };
-        self.note(s, k, act)?;
-        write_reply(alloc, k, &shown, &mut self.text)
+        let shown = self.apply_change(alloc, stmt)?;
+        let written = stmt.copy(alloc)?;
+        self.tell_change(alloc, s, k, written, &shown)
+    }
+
+    /// Does a change, and gives what it shows.
+    fn apply_change(&mut self, alloc: Global, stmt: &Stmt) -> Result<Shown, Memory>
+        ensures { IfOk result (λ shown. Changes self.old self.new (stmt_tree stmt.now) shown) }
+    {
+        let reply = apply(alloc, stmt, &mut self.db)?;
+        Ok(show_reply(reply))
+    }
+
+    /// Logs a change that shows this, and writes its reply.
+    fn tell_change(
+        &mut self,
+        alloc: Global,
+        s: u32,
+        k: u32,
+        stmt: Stmt,
+        shown: &Shown,
+    ) -> Result<(), Memory>
+        ensures { OnOk result (Tells self.old self.new s k (Writes (Some (stmt_tree stmt)) (code_of shown.now) (count_of shown.now)) shown.now) }
+    {
+        self.tell(alloc, s, k, change_act(stmt, shown), shown)
     }
 
     /// Serves a text that is refused.
@@ -169,9 +219,32 @@ impl Run {
         write_reply(alloc, k, &Shown::Refused(refusal), &mut self.text)
     }
 
+    /// Logs the Begin and the End of statement k of session s, and writes its reply.
+    fn tell_read(
+        &mut self,
+        alloc: Global,
+        s: u32,
+        k: u32,
+        begin: u8,
+        shown: &Shown,
+    ) -> Result<(), Memory>
+        ensures { OnOk result (TellsRead self.old self.new s k begin shown.now) }
+    {
+        self.note(s, k, Act::Begin { code: begin })?;
+        self.tell(alloc, s, k, Act::End { code: code(shown) }, shown)
+    }
+
+    /// Logs an act of statement k of session s, and writes its reply.
+    fn tell(&mut self, alloc: Global, s: u32, k: u32, act: Act, shown: &Shown) -> Result<(), Memory>
+        ensures { OnOk result (Tells self.old self.new s k (act_tree act) shown.now) }
+    {
+        self.note(s, k, act)?;
+        write_reply(alloc, k, shown, &mut self.text)
+    }
+
     /// Logs one act of statement k of session s.
     fn note(&mut self, s: u32, k: u32, act: Act) -> Result<(), Memory>
-        ensures { OnOk result (Notes self.old self.new s k act) }
+        ensures { OnOk result (Notes self.old self.new s k (act_tree act)) }
     {
         self.log.push(Event {
             session: s,
@@ -179,5 +252,16 @@ impl Run {
             act,
         })?;
         Ok(())
+    }
+}
+
+/// The act of a change that shows this.
+fn change_act(stmt: Stmt, shown: &Shown) -> Act
+    ensures { act_tree result ≡ Writes (Some (stmt_tree stmt)) (code_of shown.now) (count_of shown.now) }
+{
+    Act::Write {
+        stmt: Some(stmt),
+        code: code(shown),
+        count: count(shown),
     }
 }

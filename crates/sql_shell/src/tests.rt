@@ -11,6 +11,8 @@ use std::marker::Brand;
 use std::sync::ledger::{Blank, Ledger};
 use std::test::Fail;
 
+mod rows;
+
 /// The status of a run, the file that it is about, and what is written.
 type Outcome = (u8, u64, Vec<u8>);
 
@@ -64,33 +66,56 @@ const THREE: &str = "CREATE TABLE t (a INT); INSERT INTO t VALUES (3), (1), (2);
 const THREE_SERVED: &str = "session 1 a.sql\n1 ok\n2 ok 3\n3 rows 2\n2\n3\nhistory 2\n\
     1 1 1 CREATE TABLE t (a INT);\n2 1 2 INSERT INTO t VALUES (3), (1), (2);\n";
 
+/// Scripts, and what is written of them.
+const SCRIPTS: [(&str, &str); 15] = [
+    ("", "session 1 a.sql\nhistory 0\n"),
+    (" ;\n\t; -- ;\n/* ; */", "session 1 a.sql\nhistory 0\n"),
+    (THREE, THREE_SERVED),
+    (rows::CHECKS, rows::CHECKS_PRINTED),
+    (rows::ANSWERS, rows::ANSWERS_PRINTED),
+    (rows::EFFECTS, rows::EFFECTS_PRINTED),
+    (
+        "CREATE TABLE t (s TEXT, k INT); INSERT INTO t VALUES ('\\N', 1), ('', 2); SELECT s, k FROM t; SELECT MIN(s), COUNT(*) FROM t WHERE k > 5;",
+        "session 1 a.sql\n1 ok\n2 ok 2\n3 rows 2\n,2\n\\\\N,1\n4 rows 1\n\\N,0\nhistory 2\n1 1 1 CREATE TABLE t (s TEXT, k INT);\n2 1 2 INSERT INTO t VALUES ('\\N', 1), ('', 2);\n",
+    ),
+    (
+        "CREATE TABLE t (a INT); INSERT INTO t VALUES (3037000500), (2); SELECT a * a FROM t WHERE a < 10; SELECT a * a FROM t;",
+        "session 1 a.sql\n1 ok\n2 ok 2\n3 rows 1\n4\n4 refused 10 overflow\nhistory 2\n1 1 1 CREATE TABLE t (a INT);\n2 1 2 INSERT INTO t VALUES (3037000500), (2);\n",
+    ),
+    (
+        "CREATE TABLE t (a INT); INSERT INTO t VALUES (-9223372036854775808); INSERT INTO t VALUES (9223372036854775808); SELECT -a FROM t;",
+        "session 1 a.sql\n1 ok\n2 ok 1\n3 refused 11 limit literal\n4 refused 10 overflow\nhistory 2\n1 1 1 CREATE TABLE t (a INT);\n2 1 2 INSERT INTO t VALUES (-9223372036854775808);\n",
+    ),
+    (
+        "CREATE TABLE t (a INT); INSERT INTO t VALUES (1); INSERT INTO t VALUES ('ab",
+        "session 1 a.sql\n1 ok\n2 ok 1\n3 refused 1 syntax\nhistory 2\n1 1 1 CREATE TABLE t (a INT);\n2 1 2 INSERT INTO t VALUES (1);\n",
+    ),
+    (
+        "CREATE TABLE p (s VARCHAR(2)); INSERT INTO p VALUES ('äb'); INSERT INTO p VALUES ('abc'); SELECT x FROM p; DROP TABLE q; CREATE TABLE p (s TEXT); INSERT INTO p VALUES (1); INSERT INTO p VALUES ('a', 'b');",
+        "session 1 a.sql\n1 ok\n2 ok 1\n3 refused 9 text too long\n4 refused 5 no such column x\n5 refused 3 no such table q\n6 refused 4 table exists p\n7 refused 7 kinds differ\n8 refused 8 wrong number of values\nhistory 2\n1 1 1 CREATE TABLE p (s VARCHAR(2));\n2 1 2 INSERT INTO p VALUES ('äb');\n",
+    ),
+    (
+        "CREATE TABLE u (k INT, v INT); CREATE TABLE w (k INT, n TEXT); INSERT INTO u VALUES (1, 10), (2, 20), (1, 30); INSERT INTO w VALUES (1, 'x'), (3, 'y'); SELECT w.n, SUM(u.v) FROM u JOIN w ON u.k = w.k GROUP BY w.n; SELECT k FROM u, w; SELECT v, COUNT(*) FROM u GROUP BY k;",
+        "session 1 a.sql\n1 ok\n2 ok\n3 ok 3\n4 ok 2\n5 rows 1\nx,40\n6 refused 6 ambiguous column k\n7 refused 14 not grouped v\nhistory 4\n1 1 1 CREATE TABLE u (k INT, v INT);\n2 1 2 CREATE TABLE w (k INT, n TEXT);\n3 1 3 INSERT INTO u VALUES (1, 10), (2, 20), (1, 30);\n4 1 4 INSERT INTO w VALUES (1, 'x'), (3, 'y');\n",
+    ),
+    (
+        "CREATE TABLE lineitem (l_orderkey BIGINT NOT NULL, l_quantity INTEGER NOT NULL, l_extendedprice BIGINT NOT NULL, l_discount INTEGER NOT NULL, l_shipdate DATE NOT NULL, l_comment VARCHAR(44));\nINSERT INTO lineitem VALUES (1, 17, 2116823, 4, DATE '1996-03-13', 'a'), (2, 20, 1000000, 6, DATE '1994-05-01', 'b'), (3, 23, 500000, 5, DATE '1994-12-31', 'c'), (4, 24, 700000, 6, DATE '1994-06-01', 'd');\nSELECT SUM(l_extendedprice * l_discount) AS revenue FROM lineitem WHERE l_shipdate >= DATE '1994-01-01' AND l_shipdate < DATE '1995-01-01' AND l_discount BETWEEN 5 AND 7 AND l_quantity < 24;\nSELECT l_discount, COUNT(*) FROM lineitem GROUP BY l_discount HAVING COUNT(*) >= 1 ORDER BY 2 DESC, 1 LIMIT 2;\nUPDATE lineitem SET l_quantity = l_quantity + 1 WHERE l_orderkey <> 1;\nDELETE FROM lineitem WHERE l_quantity IN (17, 25);\nSELECT l_orderkey, l_shipdate FROM lineitem;\n",
+        "session 1 a.sql\n1 ok\n2 ok 4\n3 rows 1\n8500000\n4 rows 2\n6,2\n4,1\n5 ok 3\n6 ok 2\n7 rows 2\n2,1994-05-01\n3,1994-12-31\nhistory 4\n1 1 1 CREATE TABLE lineitem (l_orderkey INT NOT NULL, l_quantity INT NOT NULL, l_extendedprice INT NOT NULL, l_discount INT NOT NULL, l_shipdate DATE NOT NULL, l_comment VARCHAR(44));\n2 1 2 INSERT INTO lineitem VALUES (1, 17, 2116823, 4, DATE '1996-03-13', 'a'), (2, 20, 1000000, 6, DATE '1994-05-01', 'b'), (3, 23, 500000, 5, DATE '1994-12-31', 'c'), (4, 24, 700000, 6, DATE '1994-06-01', 'd');\n3 1 5 UPDATE lineitem SET l_quantity = l_quantity + 1 WHERE l_orderkey <> 1;\n4 1 6 DELETE FROM lineitem WHERE (l_quantity = 17) OR (l_quantity = 25);\n",
+    ),
+    (
+        "CREATE TABLE t (a INT); INSERT INTO t VALUES (1); SELECT a FROM t WHERE a < 5; DROP TABLE t; CREATE TABLE t (a INT); INSERT INTO t VALUES (2); SELECT a FROM t WHERE a < 5;",
+        "session 1 a.sql\n1 ok\n2 ok 1\n3 rows 1\n1\n4 ok\n5 ok\n6 ok 1\n7 rows 1\n2\nhistory 5\n1 1 1 CREATE TABLE t (a INT);\n2 1 2 INSERT INTO t VALUES (1);\n3 1 4 DROP TABLE t;\n4 1 5 CREATE TABLE t (a INT);\n5 1 6 INSERT INTO t VALUES (2);\n",
+    ),
+    (
+        "CREATE TABLE t (a INT); EXPLAIN SELECT a FROM t; EXPLAIN SELECT b FROM t; EXPLAIN DROP TABLE t",
+        "session 1 a.sql\n1 ok\n2 refused 2 unsupported NOT BUILT\n3 refused 5 no such column b\n4 refused 1 syntax\nhistory 1\n1 1 1 CREATE TABLE t (a INT);\n",
+    ),
+];
+
 #[test]
 fn scripts_and_what_is_written(rt: HostRuntime) -> Result<(), Fail> {
     let alloc = rt.alloc();
-    for (script, want) in [
-        ("", "session 1 a.sql\nhistory 0\n"),
-        (" ;\n\t; ", "session 1 a.sql\nhistory 0\n"),
-        (THREE, THREE_SERVED),
-        (
-            "insert into T values (1); create table T (A int); create table t (b int); \
-             select b from t where a between 1 and 2; select a from t where b between 1 and 2; \
-             select a from u where a between 1 and 2; Select A From T Where A Between -1 And 1",
-            "session 1 a.sql\n1 refused 3 no such table t\n2 ok\n3 refused 4 table exists t\n\
-             4 refused 5 no such column b\n5 refused 5 no such column b\n\
-             6 refused 3 no such table u\n7 rows 0\nhistory 1\n1 1 2 CREATE TABLE t (a INT);\n",
-        ),
-        (
-            "CREATE TABLE t (a INT); INSERT INTO t VALUES (- 5), (007), (-9223372036854775808); \
-             INSERT INTO t VALUES (9223372036854775808); DROP TABLE t; \
-             SELECT a FROM t WHERE a BETWEEN -9223372036854775808 AND 9223372036854775807; \
-             INSERT INTO t VALUES (7); SELECT a FROM t WHERE a BETWEEN 7 AND 7",
-            "session 1 a.sql\n1 ok\n2 ok 3\n3 refused 2 unsupported NOT BUILT\n\
-             4 refused 2 unsupported NOT BUILT\n5 rows 3\n-9223372036854775808\n-5\n7\n6 ok 1\n\
-             7 rows 2\n7\n7\nhistory 3\n1 1 1 CREATE TABLE t (a INT);\n\
-             2 1 2 INSERT INTO t VALUES (-5), (7), (-9223372036854775808);\n\
-             3 1 6 INSERT INTO t VALUES (7);\n",
-        ),
-    ] {
+    for (script, want) in SCRIPTS {
         let (status, at, text) = run(alloc, &["run", "a.sql"], script.as_bytes(), (0, 0))?;
         assert_eq!(rt; (status, at), (0, 0), "{script}");
         assert_eq!(rt; text.as_slice(), want.as_bytes(), "{script}");
@@ -174,10 +199,6 @@ fn statuses_and_what_they_are_about(rt: HostRuntime) -> Result<(), Fail> {
             1,
             "",
         ),
-        ("a string", run_a, b"'", (0, 0), 1, 0, ""),
-        ("a quoted name", run_a, b"\"", (0, 0), 1, 0, ""),
-        ("a comment", run_a, b"a --", (0, 0), 1, 0, ""),
-        ("a long comment", run_a, b"/*", (0, 0), 1, 0, ""),
     ] {
         let (got, about, text) = run(alloc, texts, script, failing)?;
         assert_eq!(rt; (got, about), (status, at), "{name}");

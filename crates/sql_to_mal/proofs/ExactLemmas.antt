@@ -1,6 +1,6 @@
 -- The plan of a range means what its query answers, and whatever it reaches fits.
-use Rattle.std.proofs.Common.{◌≡◌, ℕ, ℤ, List, [], ◌∷◌, map, filter, Bool, true, false, cond, Option, Some, refl, ap, sym, subst, ◌∙◌}
-use Rattle.std.specs.Prelude.{bytes_eq, slice_index_or}
+use Rattle.std.proofs.Common.{◌≡◌, ℕ, ℤ, List, [], ◌∷◌, map, filter, Bool, true, false, cond, Option, Some, refl, ap, sym, ◌∙◌, subst}
+use Rattle.std.specs.Prelude.{bytes_eq, slice_index_or, IsSome}
 use Rattle.std.proofs.lemmas.Slice.Eq.{bytes_eq-Decides}
 use Rattle.cell_core.specs.declared.cell.Cell.{Cell}
 use Rattle.cell_core.specs.declared.cell.Cell.TheVariants.{Nil, Int}
@@ -10,20 +10,19 @@ use Rattle.cell_core.specs.Sorted.{sorted_by}
 use Rattle.cell_core.specs.Pairs.{numbered}
 use Rattle.cell_core.specs.Relations.{column_cells}
 use Rattle.cell_core.specs.Tables.{column_place}
-use Rattle.sql_core.specs.Answer.{answer}
-use Rattle.mal_meaning.specs.declared.plan.Plan.{Plan}
+use Rattle.sql_semantics.specs.Answer.{answer}
 use Rattle.mal_meaning.specs.Meaning.{plan_rows}
 use Rattle.mal_meaning.specs.Runs.{Runs}
-use Rattle.sql_to_mal.specs.Translation.{range_query, range_plan, shared_plan, separate_plan, IsRange, Serves}
-use Rattle.sql_core.specs.declared.tree.Query.{Query}
+use Rattle.sql_to_mal.specs.Translation.{range_plan, shared_plan, separate_plan}
+use Rattle.sql_to_mal.proofs.Serves.{Serves}
 use Rattle.sql_to_mal.proofs.RangeLemmas.{joined_rows}
-use Rattle.sql_to_mal.proofs.AnswerLemmas.{lies, answer_is}
+use Rattle.sql_to_mal.proofs.AnswerLemmas.{range_query, lies, answer_is}
 use Rattle.sql_to_mal.proofs.PlanLemmas.{bound_is, shared_rows, separate_rows}
 use Rattle.sql_to_mal.proofs.FitLemmas.{numbered_fit, shared_runs, separate_runs}
 
 module _ (item name of : List ℕ) (low high : ℤ) (db : Db) (s : Serves item name of db) where
   abbrev kept : List Cell → Bool
-  kept row = lies item name of low high s.table s.item_place s.of_place s.item_is s.of_is row
+  kept row = lies low high s.of_in.place row
 
   abbrev rows_of_cells : List Cell → Option (List (List Cell))
   rows_of_cells cells = Some (sorted_by is_row_below (map (λ c. c ∷ []) cells))
@@ -31,18 +30,25 @@ module _ (item name of : List ℕ) (low high : ℤ) (db : Db) (s : Serves item n
   abbrev cells_at : ℕ → List Cell
   cells_at place = map (λ row. slice_index_or row place Nil) (filter kept s.table.rows)
 
+  answered : answer (range_query item name of low high) db ≡ rows_of_cells (cells_at s.item_in.place)
+  answered = answer_is item name of low high s.table s.item_in.place s.of_in.place s.item_in.meant s.of_in.meant db s.named
+
+  -- no number is computed, so there is an answer
+  pub has_answer : IsSome (answer (range_query item name of low high) db)
+  has_answer = subst (λ o. IsSome o) (sym answered) refl
+
   separate_exact : plan_rows (separate_plan item name of low high) db ≡ answer (range_query item name of low high) db
   separate_exact =
-      separate_rows item name of low high db s.table s.item_place s.of_place kept s.named s.item_is s.of_is
-      ∙ ap rows_of_cells (joined_rows (Int low) (Int high) (λ row. slice_index_or row s.of_place Nil) (λ row. slice_index_or row s.item_place Nil) s.table.rows)
-      ∙ sym (answer_is item name of low high s.table s.item_place s.of_place s.item_is s.of_is db s.named)
+      separate_rows item name of low high db s.table s.item_in.place s.of_in.place kept s.named s.item_in.is s.of_in.is
+      ∙ ap rows_of_cells (joined_rows (Int low) (Int high) (λ row. slice_index_or row s.of_in.place Nil) (λ row. slice_index_or row s.item_in.place Nil) s.table.rows)
+      ∙ sym answered
 
   shared_exact : item ≡ of → plan_rows (shared_plan name of low high) db ≡ answer (range_query item name of low high) db
   shared_exact e =
-      shared_rows item name of low high db s.table s.item_place s.of_place kept s.named s.item_is s.of_is
-      ∙ ap rows_of_cells (joined_rows (Int low) (Int high) (λ row. slice_index_or row s.of_place Nil) (λ row. slice_index_or row s.of_place Nil) s.table.rows)
-      ∙ ap (λ place. rows_of_cells (cells_at place)) (same_place (sym s.of_is ∙ ap (λ c. column_place c s.table.columns) (sym e) ∙ s.item_is))
-      ∙ sym (answer_is item name of low high s.table s.item_place s.of_place s.item_is s.of_is db s.named)
+      shared_rows item name of low high db s.table s.item_in.place s.of_in.place kept s.named s.item_in.is s.of_in.is
+      ∙ ap rows_of_cells (joined_rows (Int low) (Int high) (λ row. slice_index_or row s.of_in.place Nil) (λ row. slice_index_or row s.of_in.place Nil) s.table.rows)
+      ∙ ap (λ place. rows_of_cells (cells_at place)) (same_place (sym s.of_in.is ∙ ap (λ c. column_place c s.table.columns) (sym e) ∙ s.item_in.is))
+      ∙ sym answered
     where
       same_place : {a b : ℕ} → Some a ≡ Some b → a ≡ b
       same_place h = cc
@@ -55,16 +61,9 @@ module _ (item name of : List ℕ) (low high : ℤ) (db : Db) (s : Serves item n
 
   pub runs : Runs (range_plan item name of low high) db
   runs = elim (bytes_eq item of) as (λ b. Runs (cond b (shared_plan name of low high) (separate_plan item name of low high)) db) [
-    | true ↦ shared_runs db low high (numbered (column_cells s.of_place s.table.rows)) (numbered_fit (column_cells s.of_place s.table.rows) s.ofs) name of
-        (bound_is name of db s.table s.of_place s.named s.of_is)
-    | false ↦ separate_runs db low high (numbered (column_cells s.of_place s.table.rows)) (numbered_fit (column_cells s.of_place s.table.rows) s.ofs) name item of
-        (numbered (column_cells s.item_place s.table.rows)) (numbered_fit (column_cells s.item_place s.table.rows) s.items)
-        (bound_is name of db s.table s.of_place s.named s.of_is) (bound_is name item db s.table s.item_place s.named s.item_is)
+    | true ↦ shared_runs db low high (numbered (column_cells s.of_in.place s.table.rows)) (numbered_fit (column_cells s.of_in.place s.table.rows) s.of_in.cells) name of
+        (bound_is name of db s.table s.of_in.place s.named s.of_in.is)
+    | false ↦ separate_runs db low high (numbered (column_cells s.of_in.place s.table.rows)) (numbered_fit (column_cells s.of_in.place s.table.rows) s.of_in.cells) name item of
+        (numbered (column_cells s.item_in.place s.table.rows)) (numbered_fit (column_cells s.item_in.place s.table.rows) s.item_in.cells)
+        (bound_is name of db s.table s.of_in.place s.named s.of_in.is) (bound_is name item db s.table s.item_in.place s.named s.item_in.is)
   ]
-
--- the same for the query that has the form
-pub meaning : (query : Query) (plan : Plan) (r : IsRange query) (db : Db) → plan ≡ range_plan r.item r.table r.of r.low r.high → Serves r.item r.table r.of db → plan_rows plan db ≡ answer query db
-meaning query plan r db e s = ap (λ p. plan_rows p db) e ∙ exact r.item r.table r.of r.low r.high db s ∙ ap (λ q. answer q db) (sym r.is)
-
-pub can_run : (query : Query) (plan : Plan) (r : IsRange query) (db : Db) → plan ≡ range_plan r.item r.table r.of r.low r.high → Serves r.item r.table r.of db → Runs plan db
-can_run query plan r db e s = subst (λ p. Runs p db) (sym e) (runs r.item r.table r.of r.low r.high db s)

@@ -1,5 +1,5 @@
 -- That each instruction of a range's plan has arguments that fit it.
-use Rattle.std.proofs.Common.{◌≡◌, ℕ, ℤ, ◌+◌, List, [], ◌∷◌, ◌++◌, map, filter, Bool, true, false, ◌&&◌, cond, Option, Some, None, IsTrue, refl, ap, sym, subst, ◌∙◌}
+use Rattle.std.proofs.Common.{◌≡◌, ℕ, ℤ, ◌+◌, List, [], ◌∷◌, ◌++◌, map, filter, Bool, true, false, ◌&&◌, cond, Option, Some, refl, ap, sym, subst, ◌∙◌}
 use Rattle.std.specs.Prelude.{IsSome}
 use Rattle.std.specs.List.{enumerate_from, list_all}
 use Rattle.std.specs.Option.{option_map}
@@ -10,7 +10,7 @@ use Rattle.cell_core.specs.declared.operator.Instr.{Instr}
 use Rattle.cell_core.specs.declared.operator.Op.TheVariants as op
 use Rattle.cell_core.specs.declared.operator.Arg.TheVariants.{Const, Var}
 use Rattle.cell_core.specs.declared.operator.Value.{Value}
-use Rattle.cell_core.specs.declared.operator.Value.TheVariants.{Bat, One}
+use Rattle.cell_core.specs.declared.operator.Value.TheVariants.{Bat}
 use Rattle.cell_core.specs.declared.table.Db.{Db}
 use Rattle.cell_core.specs.Pairs.{Pairs, numbered}
 use Rattle.cell_core.specs.Relations.{bound, selected, mirrored, marked, reversed, joined, counted_from}

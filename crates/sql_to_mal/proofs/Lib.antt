@@ -1,5 +1,9 @@
 pub mod AnswerLemmas
+pub mod Serves
 pub mod ExactLemmas
 pub mod FitLemmas
+pub mod FormLemmas
+pub mod MeaningLemmas
 pub mod PlanLemmas
 pub mod RangeLemmas
+pub mod ServesLemmas

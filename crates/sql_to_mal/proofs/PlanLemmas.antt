@@ -1,7 +1,7 @@
 -- What the plan of a range gives over a database.
-use Rattle.std.proofs.Common.{◌≡◌, ℕ, ℤ, List, [], ◌∷◌, ◌++◌, map, filter, length, Bool, true, false, cond, Option, Some, None, IsTrue, refl, ap, sym, subst, ◌∙◌}
-use Rattle.std.specs.Prelude.{bytes_eq, get_or, slice_index_or}
-use Rattle.std.specs.List.{range_with_len, list_all}
+use Rattle.std.proofs.Common.{◌≡◌, ℕ, ℤ, List, [], ◌∷◌, ◌++◌, map, length, Bool, true, Option, Some, refl, ap, sym, ◌∙◌}
+use Rattle.std.specs.Prelude.{get_or}
+use Rattle.std.specs.List.{range_with_len}
 use Rattle.std.specs.Option.{option_map, option_and_then}
 use Rattle.std.proofs.lemmas.List.{length-map}
 use Rattle.cell_core.specs.declared.cell.Cell.{Cell}
@@ -10,7 +10,7 @@ use Rattle.cell_core.specs.declared.operator.Instr.{Instr}
 use Rattle.cell_core.specs.declared.operator.Op.TheVariants as op
 use Rattle.cell_core.specs.declared.operator.Arg.TheVariants.{Var}
 use Rattle.cell_core.specs.declared.operator.Value.{Value}
-use Rattle.cell_core.specs.declared.operator.Value.TheVariants.{Bat, One}
+use Rattle.cell_core.specs.declared.operator.Value.TheVariants.{Bat}
 use Rattle.cell_core.specs.declared.table.Table.{Table}
 use Rattle.cell_core.specs.declared.table.Db.{Db}
 use Rattle.cell_core.specs.Order.{is_row_below}
@@ -18,12 +18,11 @@ use Rattle.cell_core.specs.Sorted.{sorted_by}
 use Rattle.cell_core.specs.Pairs.{Pairs, tails_of, numbered, rows_of}
 use Rattle.cell_core.specs.Relations.{column_cells, bound, selected, mirrored, marked, reversed, joined}
 use Rattle.cell_core.specs.Tables.{named_table, column_place}
-use Rattle.mal_meaning.specs.declared.plan.Plan.{Plan}
 use Rattle.mal_meaning.specs.Meaning.{instr_value, plan_rows}
 use Rattle.mal_meaning.specs.Output.{output_rows}
 use Rattle.mal_meaning.specs.Runs.{run_from, run_values, rows_of_run}
-use Rattle.sql_to_mal.specs.Translation.{instruction, bind_of, range_steps, rows_in_range, answers, range_plan}
-use Rattle.sql_to_mal.proofs.RangeLemmas.{joined_rows, row_by_row}
+use Rattle.sql_to_mal.specs.Translation.{instruction, bind_of, range_steps, rows_in_range, answers}
+use Rattle.sql_to_mal.proofs.RangeLemmas.{row_by_row}
 
 -- a column of a table that is there
 pub bound_is : (name column : List ℕ) (db : Db) (table : Table) (place : ℕ) → named_table name db ≡ Some table → column_place column table.columns ≡ Some place

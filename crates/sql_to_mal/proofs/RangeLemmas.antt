@@ -1,12 +1,12 @@
 -- On plain lists: the cells that a range's plan gathers are those of the rows whose cell lies in the range.
-use Rattle.std.proofs.Common.{◌≡◌, ℕ, suc, ◌+◌, ◌<◌, ◌≤◌, ◌==◌, List, [], ◌∷◌, ◌++◌, map, filter, length, Bool, true, false, not, ◌&&◌, cond, Option, Some, None, refl, ap, sym, subst, ◌∙◌, arith}
-use Rattle.std.specs.Prelude.{flat_map, get_or}
+use Rattle.std.proofs.Common.{◌≡◌, ℕ, ◌+◌, ◌<◌, ◌==◌, List, [], ◌∷◌, ◌++◌, map, filter, length, Bool, true, false, cond, refl, ap, sym, ◌∙◌, arith}
+use Rattle.std.specs.Prelude.{get_or}
 use Rattle.std.specs.List.{enumerate_from, range_with_len}
 use Rattle.std.proofs.Math.Seq.{get_or-append_seam}
 use Rattle.std.proofs.lemmas.List.{append_assoc, map-append, length-map, length-append}
 use Rattle.cell_core.specs.declared.cell.Cell.{Cell}
 use Rattle.cell_core.specs.declared.cell.Cell.TheVariants.{Nil, Oid}
-use Rattle.cell_core.specs.Pairs.{Pairs, heads_of, tails_of, numbered}
+use Rattle.cell_core.specs.Pairs.{Pairs, tails_of, numbered}
 use Rattle.cell_core.specs.Relations.{is_within, selected, reversed, mirrored, marked, counted_from, meets, matches, joined}
 
 from_zero : (n : ℕ) → n ≡ 0 + n

@@ -1,7 +1,6 @@
 -- The plan of a query that asks for one column of one table, where one of its columns lies in a range.
-use Rattle.std.specs.Prelude.{◌≡◌, ℕ, ℤ, List, [], ◌∷◌, ◌++◌, true, if◌then◌else◌, bytes_eq, codes, Option, Some, None, IsTrue}
-use Rattle.std.specs.List.{list_all}
-use Rattle.cell_core.specs.declared.cell.Cell.{Cell}
+use Rattle.std.specs.Prelude.{◌≡◌, ℕ, ℤ, List, [], ◌∷◌, ◌++◌, length, Bool, true, false, not, ◌&&◌, ◌==◌, if◌then◌else◌, bytes_eq, codes, Option, Some, None, is_none}
+use Rattle.std.specs.Option.{option_map_or}
 use Rattle.cell_core.specs.declared.cell.Cell.TheVariants.{Int, Text, Bit, Oid}
 use Rattle.cell_core.specs.declared.cell.Kind.TheVariants as kind
 use Rattle.cell_core.specs.declared.operator.Op.{Op}
@@ -9,55 +8,23 @@ use Rattle.cell_core.specs.declared.operator.Op.TheVariants as op
 use Rattle.cell_core.specs.declared.operator.Arg.{Arg}
 use Rattle.cell_core.specs.declared.operator.Arg.TheVariants.{Const, Var}
 use Rattle.cell_core.specs.declared.operator.Instr.{Instr}
+use Rattle.cell_core.specs.declared.table.Column.{Column}
 use Rattle.cell_core.specs.declared.table.Db.{Db}
-use Rattle.cell_core.specs.declared.table.Table.{Table}
-use Rattle.cell_core.specs.Kinds.{is_of_kind}
-use Rattle.cell_core.specs.Relations.{column_cells}
-use Rattle.cell_core.specs.Tables.{named_table, column_place}
-use Rattle.sql_core.specs.declared.tree.Expr.{Expr}
-use Rattle.sql_core.specs.declared.tree.Expr.TheVariants.{Lit, Col}
-use Rattle.sql_core.specs.declared.tree.Cond.{Cond}
-use Rattle.sql_core.specs.declared.tree.Cond.TheVariants.{Between}
-use Rattle.sql_core.specs.declared.tree.FromItem.{FromItem}
-use Rattle.sql_core.specs.declared.tree.Item.{Item}
-use Rattle.sql_core.specs.declared.tree.Query.{Query}
+use Rattle.cell_core.specs.Kinds.{same_kind}
+use Rattle.sql_tree.specs.Tree.{ExprTree, CondTree, ItemTree, QueryTree}
+use Rattle.sql_tree.specs.Tree.ExprTree.{Literal, ColumnOf}
+use Rattle.sql_tree.specs.Tree.CondTree.{Within}
+use Rattle.sql_tree.specs.Tree.StmtTree.{Select}
+use Rattle.sql_tree.specs.declared.tree.FromItem.{FromItem}
+use Rattle.sql_semantics.specs.declared.source.Source.{Source}
+use Rattle.sql_semantics.specs.Sources.{schema_of}
+use Rattle.sql_semantics.specs.Check.{column_named, sources_named, tables_of}
+use Rattle.sql_kinds.specs.HoldsKinds.{HoldsKinds}
 use Rattle.mal_meaning.specs.declared.plan.Plan.{Plan}
 
--- a query of the form SELECT item FROM table WHERE of BETWEEN low AND high
-abbrev pub column_named : List ℕ → Expr
-column_named name = Col (record { table = None; column = name })
+-- ## Plans
 
-abbrev pub range_query : List ℕ → List ℕ → List ℕ → ℤ → ℤ → Query
-range_query item table of low high = record {
-  items = record { expr = column_named item } ∷ [];
-  froms = record { table = table } ∷ [];
-  cond = Some (Between (column_named of) (Lit (Int low)) (Lit (Int high)));
-}
-
--- the query has that form
-pub record IsRange (query : Query) : Type 0 where
-  pub item : List ℕ
-  pub table : List ℕ
-  pub of : List ℕ
-  pub low : ℤ
-  pub high : ℤ
-  pub is : query ≡ range_query item table of low high
-
--- the cells at a place of the rows are numbers or Nil
-abbrev pub AreInts : ℕ → List (List Cell) → Type 0
-AreInts place rows = IsTrue (list_all (is_of_kind (Some kind.Int)) (column_cells place rows))
-
--- the database has the table with both columns, and these are columns of numbers
-pub record Serves (item name of : List ℕ) (db : Db) : Type 0 where
-  pub table : Table
-  pub item_place : ℕ
-  pub of_place : ℕ
-  pub named : named_table name db ≡ Some table
-  pub item_is : column_place item table.columns ≡ Some item_place
-  pub of_is : column_place of table.columns ≡ Some of_place
-  pub items : AreInts item_place table.rows
-  pub ofs : AreInts of_place table.rows
-
+-- an operator with these arguments
 abbrev pub instruction : Op → List Arg → Instr
 instruction operator args = record { op = operator; args = args }
 
@@ -93,15 +60,66 @@ shared_plan table of low high = answers (rows_in_range table of low high ++ inst
 abbrev pub range_plan : List ℕ → List ℕ → List ℕ → ℤ → ℤ → Plan
 range_plan item table of low high = if bytes_eq item of then shared_plan table of low high else separate_plan item table of low high
 
--- the plan of one item over one table, which has to be a column
-abbrev pub planned_item : Expr → List ℕ → List ℕ → ℤ → ℤ → Option Plan
-planned_item (Col item) table of low high = Some (range_plan item.column table of low high)
-planned_item (Lit cell) table of low high = None
+-- ## Queries of the form SELECT item FROM table WHERE of BETWEEN low AND high
 
-abbrev pub planned_parts : List Item → List FromItem → Option Cond → Option Plan
-planned_parts (item ∷ []) (from ∷ []) (Some (Between (Col of) (Lit (Int low)) (Lit (Int high)))) = planned_item item.expr from.table of.column low high
-planned_parts _ _ _ = None
+-- the name of an expression that is a column without a table's name
+abbrev pub bare_name : ExprTree → Option (List ℕ)
+bare_name (ColumnOf ref) = if is_none ref.table then Some ref.column else None
+bare_name _ = None
 
--- the plan of a query of that form; another query has none yet
-abbrev pub planned : Query → Option Plan
-planned query = planned_parts query.items query.froms query.cond
+-- the number that an expression is
+abbrev pub number_in : ExprTree → Option ℤ
+number_in (Literal (Int n)) = Some n
+number_in _ = None
+
+-- the column of the only item, which has no alias
+abbrev pub only_item : List ItemTree → Option (List ℕ)
+only_item (item ∷ []) = if is_none item.alias then bare_name item.expr else None
+only_item _ = None
+
+-- the only table, which has no alias
+abbrev pub only_table : List FromItem → Option (List ℕ)
+only_table (from ∷ []) = if is_none from.alias then Some from.table else None
+only_table _ = None
+
+-- a column, a low and a high bound, where all of them are there
+abbrev pub range_parts : Option (List ℕ) → Option ℤ → Option ℤ → Option (List ℕ × ℤ × ℤ)
+range_parts (Some of) (Some low) (Some high) = Some (of, low, high)
+range_parts _ _ _ = None
+
+-- the column, the low and the high bound of a BETWEEN over a column and two numbers
+abbrev pub range_in : Option CondTree → Option (List ℕ × ℤ × ℤ)
+range_in (Some (Within of low high)) = range_parts (bare_name of) (number_in low) (number_in high)
+range_in _ = None
+
+-- the query has none of DISTINCT, GROUP BY, HAVING, ORDER BY and LIMIT
+abbrev pub is_plain : QueryTree → Bool
+is_plain query = not query.distinct && (length query.groups == 0) && is_none query.having && (length query.keys == 0) && is_none query.limit
+
+-- ## Their plans
+
+-- the first column of this name is one of numbers
+abbrev pub holds_numbers : List Column → List ℕ → Bool
+holds_numbers columns name = option_map_or (λ (column : Column). same_kind column.kind kind.Int) (column_named columns name) false
+
+-- the plan over the one table, whose two columns have to be of numbers
+abbrev pub planned_over : List ℕ → List ℕ → List ℕ × ℤ × ℤ → List Source → Option Plan
+planned_over item table range (source ∷ []) =
+    if holds_numbers source.columns item && holds_numbers source.columns range.0
+    then Some (range_plan item table range.0 range.1 range.2) else None
+planned_over item table range _ = None
+
+-- the plan of a query of these parts, where all of them are there
+abbrev pub planned_parts : Option (List ℕ) → Option (List ℕ) → Option (List ℕ × ℤ × ℤ) → List Source → Option Plan
+planned_parts (Some item) (Some table) (Some range) sources = planned_over item table range sources
+planned_parts _ _ _ sources = None
+
+-- the plan of a query of that form over its tables; another query has none yet
+abbrev pub planned : QueryTree → List Source → Option Plan
+planned query sources =
+    if is_plain query then planned_parts (only_item query.items) (only_table query.froms) (range_in query.cond) sources else None
+
+-- the database holds kinds, and these are the tables of the query in it
+pub record HoldsQuery (query : QueryTree) (sources : List Source) (db : Db) : Type 0 where
+  pub kinds : HoldsKinds db
+  pub tables : sources ≡ sources_named (tables_of (Select query)) (schema_of db)

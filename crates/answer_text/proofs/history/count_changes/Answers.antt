@@ -2,11 +2,11 @@ use Rattle.std.proofs.Common.{◌≡◌, ◌∙◌, rules}
 use Rattle.std.specs.Prelude.{is_some}
 use Rattle.std.specs.List.{count_by}
 use Rattle.answer_text.specs.declared.event.Event.{Event}
-use Rattle.answer_text.specs.Log.{committed}
+use Rattle.answer_text.specs.Log.{act_tree, committed}
 use Rattle.answer_text.proofs.ChangeLemmas.{count_by-committed}
 use Rattle.answer_text.proofs.history.count_changes.Goals as goal
 
 pub returns : goal.returns
 returns c =
-    let counted : c.count.result ≡ count_by (λ (event : Event). is_some (committed event.act)) c.args.log.now = search rules in
+    let counted : c.count.result ≡ count_by (λ (event : Event). is_some (committed (act_tree event.act))) c.args.log.now = search rules in
     counted ∙ count_by-committed c.args.log.now

@@ -2,11 +2,12 @@ use Rattle.std.proofs.Common.{◌≡◌, ◌≤◌, ◌++◌, take, length}
 use Rattle.std.specs.Prelude.{flat_map}
 use Rattle.std.specs.List.{enumerate_from}
 use Rattle.answer_text.specs.Layout.{changes_of, change_line}
+use Rattle.answer_text.specs.Log.{log_tree}
 use Rattle.answer_text.proofs.history.write_changes.Given as goal
 
 abbrev pub invariant-loop-event : goal.invariant-loop-event
 invariant-loop-event l = record {
-  counted : l.count ≡ length (changes_of (take l.event-index l.log));
+  counted : l.count ≡ length (changes_of (log_tree (take l.event-index l.log)));
   few : l.count ≤ l.event-index;
-  so_far : l.out.items ≡ l.initial.out.items ++ flat_map (λ (i, change). change_line i change) (enumerate_from 1 (changes_of (take l.event-index l.log)));
+  so_far : l.out.items ≡ l.initial.out.items ++ flat_map (λ (i, change). change_line i change) (enumerate_from 1 (changes_of (log_tree (take l.event-index l.log))));
 }

@@ -1,5 +1,5 @@
-use Rattle.sql_parse.proofs.TextRead.{one_reading_of}
+use Rattle.sql_parse.proofs.TextsRead.{each_reads_as_one}
 use Rattle.sql_parse.proofs.laws.one_reading.Goals as goal
 
 pub returns : goal.returns
-returns c = one_reading_of
+returns c = each_reads_as_one c.one_list.ensures c.one_stmt.ensures

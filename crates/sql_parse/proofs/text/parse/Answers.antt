@@ -1,11 +1,13 @@
-use Rattle.std.proofs.Common.{Err, ap}
-use Rattle.sql_core.specs.declared.refusal.Refusal.TheVariants.{Unsupported}
-use Rattle.sql_parse.proofs.TextRead.{reads_found, refused_of}
+use Rattle.std.proofs.Common.{Err}
+use Rattle.sql_parse.proofs.ErrorLemmas.{error_made, refused_tokens}
+use Rattle.sql_parse.proofs.TextsRead.{by_tokens, if_answered}
 use Rattle.sql_parse.proofs.text.parse.Goals as goal
 
-pub returns-in-Ok-clause-read : goal.returns-in-Ok-clause-read
-returns-in-Ok-clause-read c = reads_found c.args.text.now c.in-Ok.statement c.in-Ok.ensures.found
+pub returns-in_err-tokens-clause-refused : goal.returns-in_err-tokens-clause-refused
+returns-in_err-tokens-clause-refused c = λ refusal is. refused_tokens c.args.text.now c.in_err-tokens.field-0.0 c.in_err-tokens.ensures.none refusal (error_made _ _ _ c.from_residual.ensures.1 is)
 
-pub returns-in_ok-name-in-Err-NotBuilt-clause-refused : goal.returns-in_ok-name-in-Err-NotBuilt-clause-refused
-returns-in_ok-name-in-Err-NotBuilt-clause-refused c =
-    (ap Unsupported c.in_ok-name-in-Err-NotBuilt.ensures, (refused_of c.args.text.now (c.in-Err-NotBuilt.ensures.none (ap Err c.in-Err-NotBuilt.field-0-is))).1)
+pub returns-clause-read : goal.returns-clause-read
+returns-clause-read c = if_answered c.args.text.now c.as_slice.result.now (rw c.as_slice.ensures c.in_ok-tokens.ensures.tokens) c.parse_tokens.result c.parse_tokens.ensures.read
+
+pub returns-clause-refused : goal.returns-clause-refused
+returns-clause-refused c = λ refusal is. by_tokens c.args.text.now c.as_slice.result.now (rw c.as_slice.ensures c.in_ok-tokens.ensures.tokens) (Err refusal) (c.parse_tokens.ensures.refused refusal is)

@@ -1,11 +1,12 @@
 use Rattle.std.proofs.Common.{◌≡◌, ℕ, ◌⊎◌, inl, inr, List, Some, sym, ◌∙◌, subst, arith, ap}
 use Rattle.std.specs.Prelude.{length}
 use Rattle.std.specs.Io.KnownBytes.{Appends}
+use Rattle.answer_text.specs.Log.{log_tree}
 use Rattle.causes.specs.Faults.{AppendsPrefix, Rose}
 use Rattle.sql_shell.specs.Failures.{status_of, at_of, is_by_bytes}
 use Rattle.sql_shell.specs.Scripts.{AreCut, AreRunnable, IsFirstUnfit, told}
 use Rattle.sql_shell.specs.Served.{IsServed}
-use Rattle.sql_shell.specs.Words.{run_files}
+use Rattle.command_words.specs.Words.{run_files}
 use Rattle.sql_shell.specs.Work.{HasWork}
 use Rattle.sql_shell.specs.declared.scripts.Script.{Script}
 use Rattle.sql_shell.proofs.ScriptLemmas.{some_of, few_named, few_pieces, all_short, lifted, served_of, work_of, complete_of}
@@ -33,8 +34,8 @@ returns-in-Ok-clause-served g c zero =
     let P : List Script → Type 0 = λ ss. AreCut bytes names ss in
     let are = subst P (sym c.as_slice-in-Ok.ensures.value) c.in-Ok.ensures.cut in
     let served = c.serve.ensures.served zero in
-    let Q : List (List ℕ) → List (List ℕ) → Type 0 = λ ns texts. (text : List ℕ) × Appends (g.K.Sink.contents c.args.out.now) (g.K.Sink.contents c.serve.new.out) text × IsServed ns texts text c.serve.result.log in
-    lifted bytes c.args.words.now names Q found (λ texts e. (served.0, served.1, served_of bytes names c.as_slice-in-Ok.result.now texts are e c.serve.result.log served.0 c.serve.result.work served.2))
+    let Q : List (List ℕ) → List (List ℕ) → Type 0 = λ ns texts. (text : List ℕ) × Appends (g.K.Sink.contents c.args.out.now) (g.K.Sink.contents c.serve.new.out) text × IsServed ns texts text (log_tree c.serve.result.log) in
+    lifted bytes c.args.words.now names Q found (λ texts e. (served.0, served.1, served_of bytes names c.as_slice-in-Ok.result.now texts are e (log_tree c.serve.result.log) served.0 c.serve.result.work served.2))
 
 pub returns-in-Ok-clause-prefix : goal.returns-in-Ok-clause-prefix
 returns-in-Ok-clause-prefix g c three =
@@ -44,8 +45,8 @@ returns-in-Ok-clause-prefix g c three =
     let P : List Script → Type 0 = λ ss. AreCut bytes names ss in
     let are = subst P (sym c.as_slice-in-Ok.ensures.value) c.in-Ok.ensures.cut in
     let served = c.serve.ensures.prefix three in
-    let Q : List (List ℕ) → List (List ℕ) → Type 0 = λ ns texts. (text : List ℕ) × AppendsPrefix (g.K.Sink.contents c.args.out.now) (g.K.Sink.contents c.serve.new.out) text × IsServed ns texts text c.serve.result.log in
-    lifted bytes c.args.words.now names Q found (λ texts e. (served.0, served.1, served_of bytes names c.as_slice-in-Ok.result.now texts are e c.serve.result.log served.0 c.serve.result.work served.2))
+    let Q : List (List ℕ) → List (List ℕ) → Type 0 = λ ns texts. (text : List ℕ) × AppendsPrefix (g.K.Sink.contents c.args.out.now) (g.K.Sink.contents c.serve.new.out) text × IsServed ns texts text (log_tree c.serve.result.log) in
+    lifted bytes c.args.words.now names Q found (λ texts e. (served.0, served.1, served_of bytes names c.as_slice-in-Ok.result.now texts are e (log_tree c.serve.result.log) served.0 c.serve.result.work served.2))
 
 pub returns-in-Ok-clause-work : goal.returns-in-Ok-clause-work
 returns-in-Ok-clause-work g c written =
@@ -54,10 +55,10 @@ returns-in-Ok-clause-work g c written =
     let found : run_files c.args.words.now ≡ Some names = cc (c.in-Ok-Some.ensures, c.as_slice.ensures) in
     let P : List Script → Type 0 = λ ss. AreCut bytes names ss in
     let are = subst P (sym c.as_slice-in-Ok.ensures.value) c.in-Ok.ensures.cut in
-    let Q : List (List ℕ) → List (List ℕ) → Type 0 = λ ns texts. HasWork texts c.serve.result.log c.serve.result.work in
+    let Q : List (List ℕ) → List (List ℕ) → Type 0 = λ ns texts. HasWork texts (log_tree c.serve.result.log) c.serve.result.work in
     lifted bytes c.args.words.now names Q found (λ texts e. elim written [
-      | inl zero ↦ let served = c.serve.ensures.served zero in work_of bytes names c.as_slice-in-Ok.result.now texts are e c.serve.result.log served.0 c.serve.result.work served.2
-      | inr three ↦ let served = c.serve.ensures.prefix three in work_of bytes names c.as_slice-in-Ok.result.now texts are e c.serve.result.log served.0 c.serve.result.work served.2
+      | inl zero ↦ let served = c.serve.ensures.served zero in work_of bytes names c.as_slice-in-Ok.result.now texts are e (log_tree c.serve.result.log) served.0 c.serve.result.work served.2
+      | inr three ↦ let served = c.serve.ensures.prefix three in work_of bytes names c.as_slice-in-Ok.result.now texts are e (log_tree c.serve.result.log) served.0 c.serve.result.work served.2
     ])
 
 pub returns-clause-complete : goal.returns-clause-complete
@@ -70,4 +71,4 @@ returns-clause-complete g c =
     let Settles : ℕ → Type 0 = λ s. (s ≡ 0) ⊎ (s ≡ 5) in
     let Q : List (List ℕ) → List (List ℕ) → Type 0 = λ ns texts. AreRunnable texts → (Rises → ⊥) → (Rose (g.K.Sink.faults c.args.out.now) (g.K.Sink.faults c.args.out.now) → ⊥) → Settles c.failed-in-Err-read_scripts.result.status in
     lifted bytes c.args.words.now names Q found (λ texts e fit calm quiet. subst Settles (sym c.failed-in-Err-read_scripts.ensures.status)
-    (complete_of failure texts Rises (λ by. some_of (told bytes names) (λ ts. IsFirstUnfit 1 ts (status_of failure) (at_of failure)) texts e (c.in-Err-read_scripts.ensures.unfit by)) c.in-Err-read_scripts.ensures.fault fit calm))
+    (complete_of failure texts Rises (λ by. some_of (told bytes names) (λ ts. IsFirstUnfit 1 ts (status_of failure) (at_of failure)) texts e (c.in-Err-read_scripts.ensures.unfit by)) c.in-Err-read_scripts.ensures.fault c.in-Err-read_scripts.ensures.bytes fit calm))
