@@ -78,6 +78,10 @@ deletion_stands_for = refl
 null_of_a_column : rule_at (Key word.Create ∷ Key word.Table ∷ Name (codes "t") ∷ sign symbol.Open ∷ Name (codes "a") ∷ Key word.Int ∷ Key word.Not ∷ Unsupported (codes "null") ∷ sign symbol.Close ∷ []) 7 ≡ None
 null_of_a_column = refl
 
+-- ORDER INT NOT NULL: ORDER is no name, so no column stands there
+null_without_a_column : rule_at (Key word.Create ∷ Key word.Table ∷ Name (codes "t") ∷ sign symbol.Open ∷ Key word.Order ∷ Key word.Int ∷ Key word.Not ∷ Unsupported (codes "null") ∷ sign symbol.Close ∷ []) 7 ≡ Some (codes "NULL")
+null_without_a_column = refl
+
 other_null : rule_at (Key word.Select ∷ Unsupported (codes "null") ∷ []) 1 ≡ Some (codes "NULL")
 other_null = refl
 

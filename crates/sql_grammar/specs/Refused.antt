@@ -71,6 +71,11 @@ is_type_word (Some (Key word.Text)) = true
 is_type_word (Some (Key word.Date)) = true
 is_type_word other = false
 
+abbrev pub is_name : Option Token → Bool
+is_name (Some (Name name)) = true
+is_name (Some (Quoted name)) = true
+is_name other = false
+
 -- a statement in which no function may be called
 abbrev pub has_expressions : Option Token → Bool
 has_expressions (Some (Key word.Select)) = true
@@ -83,15 +88,17 @@ has_expressions other = false
 abbrev pub leads : List Token → ℕ → Bool
 leads tokens i = (i == 0) || ((i == 1) && is_explain (slice_get tokens 0))
 
--- a type of a column definition ends before the place
-abbrev pub ends_type : List Token → ℕ → Bool
-ends_type tokens zero = false
-ends_type tokens (suc i) = is_type_word (slice_get tokens i) || (is_close (slice_get tokens i) && is_digits (before tokens i) && is_open (before tokens (i - 1)) && is_varchar (before tokens (i - 2)))
+-- a column's name and its type end before the place
+abbrev pub ends_column : List Token → ℕ → Bool
+ends_column tokens zero = false
+ends_column tokens (suc i) =
+    (is_type_word (slice_get tokens i) && is_name (before tokens i))
+    || (is_close (slice_get tokens i) && is_digits (before tokens i) && is_open (before tokens (i - 1)) && is_varchar (before tokens (i - 2)) && is_name (before tokens (i - 3)))
 
--- NOT stands before the place, and a type of a column definition before that
+-- NOT stands before the place, and a column's name and its type before that
 abbrev pub follows_not_of_column : List Token → ℕ → Bool
 follows_not_of_column tokens zero = false
-follows_not_of_column tokens (suc i) = is_create (slice_get tokens 0) && is_not (slice_get tokens i) && ends_type tokens i
+follows_not_of_column tokens (suc i) = is_create (slice_get tokens 0) && is_not (slice_get tokens i) && ends_column tokens i
 
 -- a word in upper case
 abbrev pub upper : List ℕ → List ℕ

@@ -1,10 +1,10 @@
 -- No rule of what the profile leaves out applies to the tokens of a derivation.
-use Rattle.std.proofs.Common.{◌≡◌, ℕ, zero, suc, List, [], ◌∷◌, Bool, true, false, ◌&&◌, Option, Some, None, refl, ap, arith}
+use Rattle.std.proofs.Common.{◌≡◌, ℕ, zero, suc, List, [], ◌∷◌, Bool, true, false, ◌&&◌, ◌||◌, Option, Some, None, refl, ap, arith}
 use Rattle.std.specs.Prelude.{slice_get}
 use Rattle.sql_grammar.specs.Grammar.{sign, write_some, write_enclosed, write_behind, NameRule, write_name, LiteralRule, write_literal, ColumnRule, write_column, ExprRule, write_expr, ValueRule, write_value, WhereRule, write_where, write_cond}
 use Rattle.sql_grammar.specs.Grammar.NameRule.{BareName, QuotedName}
 use Rattle.sql_grammar.specs.Grammar.LiteralRule.{PlainDigits, MinusDigits, StringLiteral, DateLiteral}
-use Rattle.sql_grammar.specs.Refused.{has_expressions, IsFirstRule}
+use Rattle.sql_grammar.specs.Refused.{is_name, has_expressions, IsFirstRule}
 use Rattle.sql_grammar.specs.Statements.{AliasRule, write_alias, write_item, ItemsRule, write_items, write_source, JoinRule, write_join, write_joins, PlaceRule, OrderRule, write_place, write_order, write_key, FromRule, QueryRule, write_digits, write_from, write_distinct, write_optional_from, TypeRule, write_type, write_not_null, ColdefRule, write_coldef, write_set, write_column_list, write_row, StmtRule, write_stmt}
 use Rattle.sql_grammar.specs.Statements.AliasRule.{NoAlias, BareAlias, AsAlias}
 use Rattle.sql_grammar.specs.Statements.ItemsRule.{AllColumns, SomeItems}
@@ -141,21 +141,29 @@ column_list_still : (columns : Option (NameRule × List NameRule)) (rest : List 
 column_list_still None rest h = h
 column_list_still (Some names) rest h = enclosed_still (Key word.Insert) write_name (λ n rest h. listed_still (Key word.Insert) refl n rest h.1) names rest h
 
--- NOT NULL behind a type
+-- NOT NULL behind a name and a type
 not_null_quiet : (past : List Token) → null_follows (Key word.Create) (Key word.Not ∷ past) ≡ true → (not_null : Bool) (rest : List Token) → Still (Key word.Create) rest → Quiet (Key word.Create) past (write_not_null not_null rest)
 not_null_quiet past follows true rest h = (tt, (follows, h _))
 not_null_quiet past follows false rest h = h past
 
-type_still : (k : TypeRule) (not_null : Bool) (rest : List Token) → Still (Key word.Create) rest → Still (Key word.Create) (write_type k (write_not_null not_null rest))
-type_still IntType not_null rest h = λ past. (tt, not_null_quiet (Key word.Int ∷ past) refl not_null rest h)
-type_still IntegerType not_null rest h = λ past. (tt, not_null_quiet (Key word.Integer ∷ past) refl not_null rest h)
-type_still BigintType not_null rest h = λ past. (tt, not_null_quiet (Key word.Bigint ∷ past) refl not_null rest h)
-type_still TextType not_null rest h = λ past. (tt, not_null_quiet (Key word.Text ∷ past) refl not_null rest h)
-type_still DateType not_null rest h = λ past. (tt, not_null_quiet (Key word.Date ∷ past) refl not_null rest h)
-type_still (VarcharType digits) not_null rest h = λ past. (tt, (tt, (tt, (tt, not_null_quiet (sign symbol.Close ∷ Digits digits ∷ sign symbol.Open ∷ Key word.Varchar ∷ past) refl not_null rest h))))
+module _ (name : Token) (named : is_name (Some name) ≡ true) (past : List Token) (not_null : Bool) (rest : List Token) (h : Still (Key word.Create) rest) where
+  word_follows : (is_name (Some name) || false) ≡ true
+  word_follows = ap (λ b. b || false) named
+
+  type_quiet : (k : TypeRule) → Quiet (Key word.Create) (name ∷ past) (write_type k (write_not_null not_null rest))
+  type_quiet IntType = (tt, not_null_quiet (Key word.Int ∷ name ∷ past) word_follows not_null rest h)
+  type_quiet IntegerType = (tt, not_null_quiet (Key word.Integer ∷ name ∷ past) word_follows not_null rest h)
+  type_quiet BigintType = (tt, not_null_quiet (Key word.Bigint ∷ name ∷ past) word_follows not_null rest h)
+  type_quiet TextType = (tt, not_null_quiet (Key word.Text ∷ name ∷ past) word_follows not_null rest h)
+  type_quiet DateType = (tt, not_null_quiet (Key word.Date ∷ name ∷ past) word_follows not_null rest h)
+  type_quiet (VarcharType digits) = (tt, (tt, (tt, (tt, not_null_quiet (sign symbol.Close ∷ Digits digits ∷ sign symbol.Open ∷ Key word.Varchar ∷ name ∷ past) named not_null rest h))))
+
+column_still : (n : NameRule) (k : TypeRule) (not_null : Bool) (rest : List Token) → Still (Key word.Create) rest → Still (Key word.Create) (write_name n (write_type k (write_not_null not_null rest)))
+column_still (BareName name) k not_null rest h = λ past. (refl, type_quiet (Name name) refl past not_null rest h k)
+column_still (QuotedName name) k not_null rest h = λ past. (refl, type_quiet (Quoted name) refl past not_null rest h k)
 
 coldef_still : (coldef : ColdefRule) (rest : List Token) → Calm (Key word.Create) rest → Still (Key word.Create) (write_coldef coldef rest)
-coldef_still coldef rest h = listed_still (Key word.Create) refl coldef.name (write_type coldef.kind (write_not_null coldef.not_null rest)) (type_still coldef.kind coldef.not_null rest h.1)
+coldef_still coldef rest h = column_still coldef.name coldef.kind coldef.not_null rest h.1
 
 -- ## Statements
 

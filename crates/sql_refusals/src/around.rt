@@ -93,6 +93,12 @@ fn is_type_word(token: Option<&Token>) -> bool
     )
 }
 
+fn is_name(token: Option<&Token>) -> bool
+    ensures { result ≡ refused.is_name (option_copied token.entry) }
+{
+    matches!(token, Some(Token::Name(_) | Token::Quoted(_)))
+}
+
 /// Whether it begins a statement in which no function may be called.
 pub(crate) fn has_expressions(token: Option<&Token>) -> bool
     ensures { result ≡ refused.has_expressions (option_copied token.entry) }
@@ -110,27 +116,28 @@ pub(crate) fn leads(tokens: &[Placed], i: usize) -> bool
     i == 0 || (i == 1 && is_explain(token_at(tokens, 0)))
 }
 
-/// Whether a type of a column definition ends before the index.
-fn ends_type(tokens: &[Placed], i: usize) -> bool
-    ensures { result ≡ refused.ends_type (tokens_in tokens.now) i }
+/// Whether a column's name and its type end before the index.
+fn ends_column(tokens: &[Placed], i: usize) -> bool
+    ensures { result ≡ refused.ends_column (tokens_in tokens.now) i }
 {
     if i == 0 {
         return false;
     }
     let last = i - 1;
-    is_type_word(token_at(tokens, last))
+    (is_type_word(token_at(tokens, last)) && is_name(before(tokens, last)))
         || (is_close(token_at(tokens, last))
             && is_digits(before(tokens, last))
             && is_open(before(tokens, last.saturating_sub(1)))
-            && is_varchar(before(tokens, last.saturating_sub(2))))
+            && is_varchar(before(tokens, last.saturating_sub(2)))
+            && is_name(before(tokens, last.saturating_sub(3))))
 }
 
-/// Whether NOT stands before the index, and a type of a column definition before that.
+/// Whether NOT stands before the index, and a column's name and its type before that.
 pub(crate) fn follows_not_of_column(tokens: &[Placed], i: usize) -> bool
     ensures { result ≡ refused.follows_not_of_column (tokens_in tokens.now) i }
 {
     if i == 0 {
         return false;
     }
-    is_create(token_at(tokens, 0)) && is_not(token_at(tokens, i - 1)) && ends_type(tokens, i - 1)
+    is_create(token_at(tokens, 0)) && is_not(token_at(tokens, i - 1)) && ends_column(tokens, i - 1)
 }

@@ -42,7 +42,7 @@ fn rule_at(alloc: Global, tokens: &[Placed], i: usize) -> Result<Option<Word>, M
     }
 }
 
-/// A reserved word that is left out, but for NULL behind NOT and a column's type.
+/// A reserved word that is left out, but for NULL behind a column's name, its type and NOT.
 fn word_rule(
     alloc: Global,
     tokens: &[Placed],

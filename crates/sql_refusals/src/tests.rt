@@ -77,6 +77,8 @@ fn rules_apply_in_order(rt: HostRuntime) -> Result<(), Fail> {
         ("select a , distinct b from t", "DISTINCT"),
         ("select a from t where a not null", "NULL"),
         ("create table f ( a int not like )", "LIKE"),
+        ("create table f ( order int not null default )", "NULL"),
+        ("create table f ( order varchar ( 5 ) not null )", "NULL"),
         ("select f ( a / 2 ) from t", "FUNCTION"),
         ("select a / 2 % 3 from t", "DIVISION"),
         ("select a % 2 from t", "MODULO"),
