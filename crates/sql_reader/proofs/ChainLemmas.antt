@@ -17,6 +17,16 @@ then_told o x f y first second = ap (λ o. then_read o f) first ∙ second
 pub then_none : {X Y : Type 0} (o : Option X) (f : X → Option Y) → o ≡ None → then_read o f ≡ None
 then_none o f first = ap (λ o. then_read o f) first
 
+-- three readers one behind the other, joined on either side
+pub then_then : {X Y Z : Type 0} (o : Option X) (f : X → Option Y) (g : Y → Option Z) → then_read (then_read o f) g ≡ then_read o (λ x. then_read (f x) g)
+then_then None f g = refl
+then_then (Some x) f g = refl
+
+-- where the second choice finds nothing, the first is what is found
+pub or_first : {X : Type 0} (first second : Option X) → second ≡ None → or_read first second ≡ first
+or_first None second h = h
+or_first (Some x) second h = refl
+
 -- a choice tells what is told of the case that holds
 pub given_told : {X Y : Type 0} (o : Option X) (x : X) (none : Y) (some : X → Y) (y : Y) → o ≡ Some x → some x ≡ y → given o none some ≡ y
 given_told o x none some y first second = ap (λ o. given o none some) first ∙ second

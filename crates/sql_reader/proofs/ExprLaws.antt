@@ -4,9 +4,9 @@ use Rattle.cell_core.specs.declared.cell.Cell.{Cell}
 use Rattle.cell_core.specs.declared.cell.Cell.TheVariants as cell
 use Rattle.sql_grammar.specs.Grammar.{write_expr, expr_of}
 use Rattle.sql_reader.specs.Bounded.{Builder, as_written, bounded}
-use Rattle.sql_reader.specs.Chain.{Found, first_token, after_first}
+use Rattle.sql_reader.specs.Chain.{Found, Parser, first_token, after_first, then_read, chain}
 use Rattle.sql_reader.specs.Derived.{IsExpr, IsReadExpr, cell_with, expr_with}
-use Rattle.sql_reader.specs.Reader.{expr, factor_at, factor}
+use Rattle.sql_reader.specs.Reader.{sign_in, term_behind, term, expr_behind, expr, factor_at, factor}
 use Rattle.sql_reader.proofs.ChainLemmas.{pair_found, all_found}
 use Rattle.sql_reader.proofs.ExprTold.{expr_told, EndsExpr}
 use Rattle.sql_reader.proofs.ExprFound.{expr_found, factor_found}
@@ -17,6 +17,15 @@ use Rattle.sql_tree.specs.declared.token.Token.{Token}
 -- behind all tokens nothing goes on
 none_ends : EndsExpr []
 none_ends = record { term_ends = record { factor_ends = record { no_dot = refl }; no_star = refl }; no_sign = refl }
+
+-- an expression is its first factor and what is behind that
+pub expr_goes_on : (build : Builder) (part : Parser ExprTree) (ts : List Token) (first : ExprTree) (rest : List Token) → part ts ≡ Some (first, rest) → expr build part ts ≡ expr_behind build part first rest
+unfolding expr term expr_behind
+expr_goes_on build part ts first rest h = ap (λ o. then_read (then_read o (λ first. term_behind build part first.0 first.1)) (λ first. chain sign_in build.operator (term build part) (length first.1) first.0 first.1)) h
+
+pub expr_none : (build : Builder) (part : Parser ExprTree) (ts : List Token) → part ts ≡ None → expr build part ts ≡ None
+unfolding expr term
+expr_none build part ts h = ap (λ o. then_read (then_read o (λ first. term_behind build part first.0 first.1)) (λ first. chain sign_in build.operator (term build part) (length first.1) first.0 first.1)) h
 
 -- what tokens derive is read from them
 pub derived_told : (build : Builder) (ts : List Token) (e : ExprTree) → IsExpr ts e → expr build (factor build (length ts)) ts ≡ Some (expr_with build e, [])

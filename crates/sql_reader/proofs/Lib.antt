@@ -1,5 +1,6 @@
 pub mod ChainLemmas
 pub mod DayLemmas
+pub mod InsideLaws
 pub mod NumberLemmas
 pub mod TokenLemmas
 pub mod ExprTold

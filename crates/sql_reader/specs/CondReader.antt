@@ -1,11 +1,13 @@
 -- What the functions that read aggregates and conditions compute, on plain lists of tokens: a definition
 -- for each. The public clauses don't speak of these.
-use Rattle.std.specs.Prelude.{ℕ, zero, suc, List, length, Bool, true, false, if◌then◌else◌, Option, Some, None}
+use Rattle.std.specs.Prelude.{◌≡◌, ℕ, zero, suc, List, length, Bool, true, false, if◌then◌else◌, Option, Some, None}
 use Rattle.sql_reader.specs.Bounded.{Builder}
 use Rattle.sql_reader.specs.Chain.{Found, Parser, first_token, after_first, then_read, or_read, given, chain}
 use Rattle.sql_reader.specs.Parts.{is_key, behind_key, behind_symbol, comma_in}
-use Rattle.sql_reader.specs.Reader.{expr, factor, closed}
-use Rattle.sql_tree.specs.Tree.{ExprTree, CondTree}
+use Rattle.sql_reader.specs.declared.conditions.Inside.{Inside}
+use Rattle.sql_reader.specs.declared.conditions.Inside.TheVariants.{Operand, Condition}
+use Rattle.sql_reader.specs.Reader.{expr_behind, expr, factor, closed}
+use Rattle.sql_tree.specs.Tree.{ExprTree, CondTree, expr_tree, cond_tree}
 use Rattle.sql_tree.specs.Tree.ExprTree.{AggregateAll, Aggregate}
 use Rattle.sql_tree.specs.Tree.CondTree.{Compare, Within, Negation}
 use Rattle.sql_tree.specs.declared.token.Keyword.{Keyword}
@@ -132,13 +134,37 @@ module _ (build : Builder) (operand : Parser ExprTree) where
   test tokens = then_read (operand tokens) (λ of. test_behind of.0 of.1)
 
 module _ (build : Builder) where
+  -- the rest of a conjunction behind its first unit
+  abbrev pub conjunction_behind : Parser CondTree → CondTree → Parser CondTree
+  conjunction_behind unit first tokens = chain and_in (both_of build) unit (length tokens) first tokens
+
   -- conj = unit {AND unit}
   unfoldable pub conjunction : Parser CondTree → Parser CondTree
-  conjunction unit tokens = then_read (unit tokens) (λ first. chain and_in (both_of build) unit (length first.1) first.0 first.1)
+  conjunction unit tokens = then_read (unit tokens) (λ first. conjunction_behind unit first.0 first.1)
+
+  -- the rest of a condition behind its first unit
+  unfoldable pub condition_behind : Parser CondTree → CondTree → Parser CondTree
+  condition_behind unit first tokens =
+      then_read (conjunction_behind unit first tokens) (λ first. chain or_in (either_of build) (conjunction unit) (length first.1) first.0 first.1)
 
   -- cond = conj {OR conj}
   unfoldable pub condition : Parser CondTree → Parser CondTree
   condition unit tokens = then_read (conjunction unit tokens) (λ first. chain or_in (either_of build) (conjunction unit) (length first.1) first.0 first.1)
+
+  -- the rest of a condition behind its first unit, and the `)` behind it
+  abbrev pub closed_condition : Parser CondTree → CondTree → Parser CondTree
+  closed_condition unit first tokens = then_read (condition_behind unit first tokens) closed
+
+  -- what stands behind a `(`, with its `)`: an expression, or a condition
+  abbrev pub operand_inside : Parser ExprTree
+  operand_inside tokens = then_read (whole_expr build tokens) closed
+
+  abbrev pub condition_inside : Parser CondTree → Parser CondTree
+  condition_inside unit tokens = then_read (condition unit tokens) closed
+
+  -- an expression behind a `(`, of so many levels and behind its first factor, and its `)`
+  abbrev pub operand_from : ℕ → ExprTree → Parser ExprTree
+  operand_from levels first tokens = then_read (expr_behind build (factor build levels) first tokens) closed
 
   -- "(" cond ")"
   unfoldable pub enclosed : Parser CondTree → Parser CondTree
@@ -156,6 +182,20 @@ module _ (build : Builder) where
     unit zero tokens = None
     unit (suc n) tokens = unit_of (unit n) tokens
 
+    -- a test whose first operand has so many levels and begins with a factor that was read
+    unfoldable pub test_from : ℕ → ExprTree → Parser CondTree
+    test_from levels first tokens = then_read (expr_behind build (factor build levels) first tokens) (λ of. test_behind build operand of.0 of.1)
+
+    -- a condition behind a `(` whose first unit is such a test, and its `)`
+    abbrev pub condition_from : Parser CondTree → ℕ → ExprTree → Parser CondTree
+    condition_from unit levels first tokens =
+        then_read (test_from levels first tokens) (λ (found : CondTree × List Token). closed_condition unit found.0 found.1)
+
     -- a condition, with as many levels as there are tokens
     unfoldable pub whole_cond : Parser CondTree
     whole_cond tokens = condition (unit (length tokens)) tokens
+
+-- what was found in parentheses, and the tokens behind them: the expression, or the condition where none is
+abbrev pub IsInside : Found ExprTree → Found CondTree → Inside → List Token → Type 0
+IsInside expression condition (Operand operand) rest = expression ≡ Some (expr_tree operand, rest)
+IsInside expression condition (Condition found) rest = (expression ≡ None) × (condition ≡ Some (cond_tree found, rest))

@@ -106,9 +106,18 @@ unfoldable pub date : Parser ExprTree
 date tokens = then_read (text_in (first_token tokens)) (λ text. then_read (day_named text) (λ day. Some (Literal (cell.Day day), after_first tokens)))
 
 module _ (build : Builder) where
+  -- the rest of a term behind its first factor
+  abbrev pub term_behind : Parser ExprTree → ExprTree → Parser ExprTree
+  term_behind factor first tokens = chain star_in build.operator factor (length tokens) first tokens
+
   -- term = factor {"*" factor}
   unfoldable pub term : Parser ExprTree → Parser ExprTree
-  term factor tokens = then_read (factor tokens) (λ first. chain star_in build.operator factor (length first.1) first.0 first.1)
+  term factor tokens = then_read (factor tokens) (λ first. term_behind factor first.0 first.1)
+
+  -- the rest of an expression behind its first factor
+  unfoldable pub expr_behind : Parser ExprTree → ExprTree → Parser ExprTree
+  expr_behind factor first tokens =
+      then_read (term_behind factor first tokens) (λ first. chain sign_in build.operator (term factor) (length first.1) first.0 first.1)
 
   -- expr = term {("+" | "-") term}
   unfoldable pub expr : Parser ExprTree → Parser ExprTree

@@ -99,7 +99,7 @@ pub(crate) fn test(
 
 /// A test behind its first operand.
 #[tactic(auto, unfolding(crate::specs::CondReader::test_behind))]
-fn test_behind(
+pub(crate) fn test_behind(
     alloc: Global,
     tokens: &mut Cursor<'_>,
     aggregates: bool,

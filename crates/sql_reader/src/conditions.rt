@@ -1,17 +1,18 @@
 ghost use Rattle.std.specs.Prelude.{◌≡◌, Some, None, IfOk, IsErrOf};
 ghost use Rattle.sql_grammar.specs.Reads.{tokens_in};
-ghost use Rattle.sql_tree.specs.Tree.{cond_tree};
+ghost use Rattle.sql_tree.specs.Tree.{expr_tree, cond_tree};
 ghost use Rattle.sql_tree.specs.Tree.CondTree.{Negation, Both, Either};
 ghost use Rattle.sql_reader.specs.Bounded.{bounded, bounded_join};
 ghost use Rattle.sql_reader.specs.CondReader as reader;
 
-use crate::cond_tests::test;
-use crate::cursor::{Cursor, and, is_key, or};
+use crate::cond_tests::{test, test_behind, whole_expr};
+use crate::cursor::{Cursor, and, is_key, is_symbol, or};
+use crate::expressions::expr_behind;
 use crate::reading::ReadError;
 use crate::signs::with_cond_signs;
 use cell_core::Memory;
 use sql_refusals::is_large_cond;
-use sql_tree::{Cond, Keyword, Symbol};
+use sql_tree::{Cond, Expr, Keyword, Symbol};
 use std::alloc::Global;
 
 /// A condition, with as many levels as there are tokens.
@@ -33,8 +34,8 @@ pub fn whole_cond(
 
 /// A condition of at most so many levels, over expressions, or over these and aggregates:
 /// cond = conj {OR conj}.
-#[cycle(cond)]
-#[tactic(auto, unfolding(crate::specs::CondReader::condition))]
+#[cycle(unit)]
+#[tactic(auto, using(crate::proofs::CondLaws::condition_goes_on, crate::proofs::CondLaws::condition_none))]
 pub(crate) fn cond(
     alloc: Global,
     tokens: &mut Cursor<'_>,
@@ -48,7 +49,29 @@ pub(crate) fn cond(
         reader.condition bounded (reader.unit bounded (reader.operand bounded aggregates) depth)
         (tokens_in tokens.old.rest.now) ≡ None }
 {
-    let mut left = conj(alloc, tokens, aggregates, depth)?;
+    let first = unit(alloc, tokens, aggregates, depth)?;
+    cond_behind(alloc, tokens, aggregates, depth, first)
+}
+
+/// The rest of a condition behind its first unit.
+#[cycle(unit)]
+#[tactic(auto, unfolding(crate::specs::CondReader::condition_behind))]
+fn cond_behind(
+    alloc: Global,
+    tokens: &mut Cursor<'_>,
+    aggregates: bool,
+    depth: usize,
+    first: Cond,
+) -> Result<Cond, ReadError>
+    ensures found { IfOk result (λ c.
+        reader.condition_behind bounded (reader.unit bounded (reader.operand bounded aggregates) depth)
+        (cond_tree first) (tokens_in tokens.old.rest.now)
+        ≡ Some (cond_tree c, tokens_in tokens.new.rest.now)) }
+    ensures none { IsErrOf result ReadError.Syntax →
+        reader.condition_behind bounded (reader.unit bounded (reader.operand bounded aggregates) depth)
+        (cond_tree first) (tokens_in tokens.old.rest.now) ≡ None }
+{
+    let mut left = conj_behind(alloc, tokens, aggregates, depth, first)?;
     'conjs: for turn in 0..tokens.len() {
         let Some(_) = or(tokens.peek()) else {
             return Ok(left);
@@ -61,7 +84,7 @@ pub(crate) fn cond(
 }
 
 /// conj = unit {AND unit}
-#[cycle(cond)]
+#[cycle(unit)]
 #[tactic(auto, unfolding(crate::specs::CondReader::conjunction))]
 fn conj(
     alloc: Global,
@@ -76,7 +99,28 @@ fn conj(
         reader.conjunction bounded (reader.unit bounded (reader.operand bounded aggregates) depth)
         (tokens_in tokens.old.rest.now) ≡ None }
 {
-    let mut left = unit(alloc, tokens, aggregates, depth)?;
+    let first = unit(alloc, tokens, aggregates, depth)?;
+    conj_behind(alloc, tokens, aggregates, depth, first)
+}
+
+/// The rest of a conjunction behind its first unit.
+#[cycle(unit)]
+fn conj_behind(
+    alloc: Global,
+    tokens: &mut Cursor<'_>,
+    aggregates: bool,
+    depth: usize,
+    first: Cond,
+) -> Result<Cond, ReadError>
+    ensures found { IfOk result (λ c.
+        reader.conjunction_behind bounded (reader.unit bounded (reader.operand bounded aggregates) depth)
+        (cond_tree first) (tokens_in tokens.old.rest.now)
+        ≡ Some (cond_tree c, tokens_in tokens.new.rest.now)) }
+    ensures none { IsErrOf result ReadError.Syntax →
+        reader.conjunction_behind bounded (reader.unit bounded (reader.operand bounded aggregates) depth)
+        (cond_tree first) (tokens_in tokens.old.rest.now) ≡ None }
+{
+    let mut left = first;
     'units: for turn in 0..tokens.len() {
         let Some(_) = and(tokens.peek()) else {
             return Ok(left);
@@ -89,7 +133,7 @@ fn conj(
 }
 
 /// A unit, which takes a level.
-#[cycle(cond)]
+#[cycle(unit)]
 #[tactic(auto, using(crate::proofs::CondLaws::unit_none, crate::proofs::CondLaws::unit_inner))]
 fn unit(
     alloc: Global,
@@ -111,8 +155,9 @@ fn unit(
 }
 
 /// A unit, in which so many levels are left: the denial of one, a test, or a condition in parentheses.
-/// These may enclose an expression too, so a test is tried first.
-#[cycle(cond)]
+/// What these enclose may be the first operand of a test too.
+#[cycle(unit)]
+#[tactic(auto, using(crate::proofs::InsideLaws::unit_test, crate::proofs::InsideLaws::unit_enclosed, crate::proofs::InsideLaws::unit_from))]
 fn inner_unit(
     alloc: Global,
     tokens: &mut Cursor<'_>,
@@ -133,36 +178,177 @@ fn inner_unit(
         let of = unit(alloc, tokens, aggregates, depth)?;
         return Ok(negation(alloc, of)?);
     }
-    let start = tokens.rest;
-    match test(alloc, tokens, aggregates) {
-        Err(ReadError::Syntax) => {
-            tokens.rest = start;
-            enclosed(alloc, tokens, aggregates, depth)
-        }
-        read => read,
+    if !is_symbol(tokens.peek(), Symbol::Open) {
+        return test(alloc, tokens, aggregates);
+    }
+    let levels = tokens.len();
+    tokens.advance();
+    match enclosed(alloc, tokens, aggregates, depth)? {
+        Inside::Operand(first) => test_from(alloc, tokens, aggregates, levels, first),
+        Inside::Condition(condition) => Ok(condition),
     }
 }
 
-/// `( cond )`
-#[cycle(cond)]
-#[tactic(auto, unfolding(crate::specs::CondReader::enclosed))]
+/// What parentheses enclose.
+#[derive(Drop)]
+enum Inside {
+    /// An expression.
+    Operand(Expr),
+    /// A condition.
+    Condition(Cond),
+}
+
+/// What stands behind a `(`, and its `)`: an expression, or else a condition. No token is read more than
+/// twice, however deep parentheses stand in parentheses: what the inner ones enclose is gone on with.
+#[cycle(unit)]
 fn enclosed(
     alloc: Global,
     tokens: &mut Cursor<'_>,
     aggregates: bool,
     depth: usize,
-) -> Result<Cond, ReadError>
-    ensures found { IfOk result (λ c.
-        reader.enclosed bounded (reader.unit bounded (reader.operand bounded aggregates) depth)
-        (tokens_in tokens.old.rest.now) ≡ Some (cond_tree c, tokens_in tokens.new.rest.now)) }
-    ensures none { IsErrOf result ReadError.Syntax →
-        reader.enclosed bounded (reader.unit bounded (reader.operand bounded aggregates) depth)
+) -> Result<Inside, ReadError>
+    ensures found { IfOk result (λ inside. reader.IsInside
+        (reader.operand_inside bounded (tokens_in tokens.old.rest.now))
+        (reader.condition_inside bounded (reader.unit bounded (reader.operand bounded aggregates) depth)
+        (tokens_in tokens.old.rest.now)) inside (tokens_in tokens.new.rest.now)) }
+    ensures no_operand { IsErrOf result ReadError.Syntax →
+        reader.operand_inside bounded (tokens_in tokens.old.rest.now) ≡ None }
+    ensures no_condition { IsErrOf result ReadError.Syntax →
+        reader.condition_inside bounded (reader.unit bounded (reader.operand bounded aggregates) depth)
         (tokens_in tokens.old.rest.now) ≡ None }
 {
-    tokens.symbol(Symbol::Open)?;
-    let inner = cond(alloc, tokens, aggregates, depth)?;
+    if depth == 0 {
+        return first_inside(alloc, tokens, aggregates, depth);
+    }
+    if !is_symbol(tokens.peek(), Symbol::Open) {
+        return first_inside(alloc, tokens, aggregates, depth);
+    }
+    let levels = tokens.len();
+    tokens.advance();
+    match enclosed(alloc, tokens, aggregates, depth - 1)? {
+        Inside::Operand(first) => inside_from(alloc, tokens, aggregates, depth, levels, first),
+        Inside::Condition(first) => {
+            let condition = closed_cond(alloc, tokens, aggregates, depth, first)?;
+            Ok(Inside::Condition(condition))
+        }
+    }
+}
+
+/// What stands behind a `(`, read as an expression first.
+#[cycle(unit)]
+fn first_inside(
+    alloc: Global,
+    tokens: &mut Cursor<'_>,
+    aggregates: bool,
+    depth: usize,
+) -> Result<Inside, ReadError>
+    ensures found { IfOk result (λ inside. reader.IsInside
+        (reader.operand_inside bounded (tokens_in tokens.old.rest.now))
+        (reader.condition_inside bounded (reader.unit bounded (reader.operand bounded aggregates) depth)
+        (tokens_in tokens.old.rest.now)) inside (tokens_in tokens.new.rest.now)) }
+    ensures no_operand { IsErrOf result ReadError.Syntax →
+        reader.operand_inside bounded (tokens_in tokens.old.rest.now) ≡ None }
+    ensures no_condition { IsErrOf result ReadError.Syntax →
+        reader.condition_inside bounded (reader.unit bounded (reader.operand bounded aggregates) depth)
+        (tokens_in tokens.old.rest.now) ≡ None }
+{
+    let start = tokens.rest;
+    match closed_expr(alloc, tokens) {
+        Ok(operand) => Ok(Inside::Operand(operand)),
+        Err(ReadError::Memory) => Err(ReadError::Memory),
+        Err(ReadError::Syntax) => {
+            tokens.rest = start;
+            let condition = cond(alloc, tokens, aggregates, depth)?;
+            tokens.close()?;
+            Ok(Inside::Condition(condition))
+        }
+    }
+}
+
+/// What stands behind a `(` and its first factor, which has so many levels.
+#[cycle(unit)]
+fn inside_from(
+    alloc: Global,
+    tokens: &mut Cursor<'_>,
+    aggregates: bool,
+    depth: usize,
+    levels: usize,
+    first: Expr,
+) -> Result<Inside, ReadError>
+    ensures found { IfOk result (λ inside. reader.IsInside
+        (reader.operand_from bounded levels (expr_tree first) (tokens_in tokens.old.rest.now))
+        (reader.condition_from bounded (reader.operand bounded aggregates)
+        (reader.unit bounded (reader.operand bounded aggregates) depth) levels (expr_tree first)
+        (tokens_in tokens.old.rest.now)) inside (tokens_in tokens.new.rest.now)) }
+    ensures no_operand { IsErrOf result ReadError.Syntax →
+        reader.operand_from bounded levels (expr_tree first) (tokens_in tokens.old.rest.now) ≡ None }
+    ensures no_condition { IsErrOf result ReadError.Syntax →
+        reader.condition_from bounded (reader.operand bounded aggregates)
+        (reader.unit bounded (reader.operand bounded aggregates) depth) levels (expr_tree first)
+        (tokens_in tokens.old.rest.now) ≡ None }
+{
+    let operand = expr_behind(alloc, tokens, levels, first)?;
+    if is_symbol(tokens.peek(), Symbol::Close) {
+        tokens.advance();
+        return Ok(Inside::Operand(operand));
+    }
+    let unit = test_behind(alloc, tokens, aggregates, operand)?;
+    let condition = closed_cond(alloc, tokens, aggregates, depth, unit)?;
+    Ok(Inside::Condition(condition))
+}
+
+/// The rest of a condition behind its first unit, and the `)` behind it.
+#[cycle(unit)]
+fn closed_cond(
+    alloc: Global,
+    tokens: &mut Cursor<'_>,
+    aggregates: bool,
+    depth: usize,
+    first: Cond,
+) -> Result<Cond, ReadError>
+    ensures found { IfOk result (λ c.
+        reader.closed_condition bounded (reader.unit bounded (reader.operand bounded aggregates) depth)
+        (cond_tree first) (tokens_in tokens.old.rest.now)
+        ≡ Some (cond_tree c, tokens_in tokens.new.rest.now)) }
+    ensures none { IsErrOf result ReadError.Syntax →
+        reader.closed_condition bounded (reader.unit bounded (reader.operand bounded aggregates) depth)
+        (cond_tree first) (tokens_in tokens.old.rest.now) ≡ None }
+{
+    let condition = cond_behind(alloc, tokens, aggregates, depth, first)?;
     tokens.close()?;
-    Ok(inner)
+    Ok(condition)
+}
+
+/// An expression, and the `)` behind it.
+fn closed_expr(alloc: Global, tokens: &mut Cursor<'_>) -> Result<Expr, ReadError>
+    ensures found { IfOk result (λ e. reader.operand_inside bounded
+        (tokens_in tokens.old.rest.now) ≡ Some (expr_tree e, tokens_in tokens.new.rest.now)) }
+    ensures none { IsErrOf result ReadError.Syntax →
+        reader.operand_inside bounded (tokens_in tokens.old.rest.now) ≡ None }
+{
+    let operand = whole_expr(alloc, tokens)?;
+    tokens.close()?;
+    Ok(operand)
+}
+
+/// A test whose first operand has so many levels, behind the first factor of that.
+#[tactic(auto, unfolding(crate::specs::CondReader::test_from))]
+fn test_from(
+    alloc: Global,
+    tokens: &mut Cursor<'_>,
+    aggregates: bool,
+    levels: usize,
+    first: Expr,
+) -> Result<Cond, ReadError>
+    ensures found { IfOk result (λ c.
+        reader.test_from bounded (reader.operand bounded aggregates) levels (expr_tree first)
+        (tokens_in tokens.old.rest.now) ≡ Some (cond_tree c, tokens_in tokens.new.rest.now)) }
+    ensures none { IsErrOf result ReadError.Syntax →
+        reader.test_from bounded (reader.operand bounded aggregates) levels (expr_tree first)
+        (tokens_in tokens.old.rest.now) ≡ None }
+{
+    let operand = expr_behind(alloc, tokens, levels, first)?;
+    test_behind(alloc, tokens, aggregates, operand)
 }
 
 /// The denial of a condition.

@@ -16,14 +16,34 @@ use std::alloc::Global;
 
 /// An expression of at most so many levels: expr = term {("+" | "-") term}.
 #[cycle(expr)]
-#[tactic(auto, unfolding(crate::specs::Reader::expr))]
+#[tactic(auto, using(crate::proofs::ExprLaws::expr_goes_on, crate::proofs::ExprLaws::expr_none))]
 pub(crate) fn expr(alloc: Global, tokens: &mut Cursor<'_>, depth: usize) -> Result<Expr, ReadError>
     ensures found { IfOk result (λ e. reader.expr bounded (reader.factor bounded depth)
         (tokens_in tokens.old.rest.now) ≡ Some (expr_tree e, tokens_in tokens.new.rest.now)) }
     ensures none { IsErrOf result ReadError.Syntax →
         reader.expr bounded (reader.factor bounded depth) (tokens_in tokens.old.rest.now) ≡ None }
 {
-    let mut left = term(alloc, tokens, depth)?;
+    let first = factor(alloc, tokens, depth)?;
+    expr_behind(alloc, tokens, depth, first)
+}
+
+/// The rest of an expression behind its first factor.
+#[cycle(expr)]
+#[tactic(auto, unfolding(crate::specs::Reader::expr_behind))]
+pub(crate) fn expr_behind(
+    alloc: Global,
+    tokens: &mut Cursor<'_>,
+    depth: usize,
+    first: Expr,
+) -> Result<Expr, ReadError>
+    ensures found { IfOk result (λ e.
+        reader.expr_behind bounded (reader.factor bounded depth) (expr_tree first)
+        (tokens_in tokens.old.rest.now) ≡ Some (expr_tree e, tokens_in tokens.new.rest.now)) }
+    ensures none { IsErrOf result ReadError.Syntax →
+        reader.expr_behind bounded (reader.factor bounded depth) (expr_tree first)
+        (tokens_in tokens.old.rest.now) ≡ None }
+{
+    let mut left = term_behind(alloc, tokens, depth, first)?;
     'terms: for turn in 0..tokens.len() {
         let Some(op) = sign(tokens.peek()) else {
             return Ok(left);
@@ -44,7 +64,26 @@ fn term(alloc: Global, tokens: &mut Cursor<'_>, depth: usize) -> Result<Expr, Re
     ensures none { IsErrOf result ReadError.Syntax →
         reader.term bounded (reader.factor bounded depth) (tokens_in tokens.old.rest.now) ≡ None }
 {
-    let mut left = factor(alloc, tokens, depth)?;
+    let first = factor(alloc, tokens, depth)?;
+    term_behind(alloc, tokens, depth, first)
+}
+
+/// The rest of a term behind its first factor.
+#[cycle(expr)]
+fn term_behind(
+    alloc: Global,
+    tokens: &mut Cursor<'_>,
+    depth: usize,
+    first: Expr,
+) -> Result<Expr, ReadError>
+    ensures found { IfOk result (λ e.
+        reader.term_behind bounded (reader.factor bounded depth) (expr_tree first)
+        (tokens_in tokens.old.rest.now) ≡ Some (expr_tree e, tokens_in tokens.new.rest.now)) }
+    ensures none { IsErrOf result ReadError.Syntax →
+        reader.term_behind bounded (reader.factor bounded depth) (expr_tree first)
+        (tokens_in tokens.old.rest.now) ≡ None }
+{
+    let mut left = first;
     'factors: for turn in 0..tokens.len() {
         let Some(op) = star(tokens.peek()) else {
             return Ok(left);

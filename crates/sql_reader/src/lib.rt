@@ -13,6 +13,9 @@
 //! arithmetic over columns. So a text of any length makes a small tree, which is still refused for the
 //! reasons that the whole would be.
 //!
+//! What parentheses enclose may be an expression or a condition. It is read as either once, and what stands
+//! in inner ones is gone on with, so that a text takes time by its length, however deep its parentheses are.
+//!
 //! `Cursor` and the readers at a cursor serve the crate of statements: their contracts speak of the
 //! readers on plain lists in `specs/`.
 #![tactic(auto)]

@@ -5,29 +5,12 @@ use sql_tree::{CmpOp, Cond, Expr, Keyword, Placed, Symbol, Token};
 use std::alloc::Global;
 use std::test::Fail;
 
-/// Digits, behind a `-` where they are negative.
-fn number(alloc: Global, negative: bool, digits: &str) -> Result<Vec<Placed>, Memory> {
-    let mut tokens = Vec::new(alloc);
-    if negative {
-        tokens.push(Placed {
-            token: Token::Symbol(Symbol::Minus),
-            start: 0,
-            end: 1,
-        })?;
-    }
-    tokens.push(Placed {
-        token: Token::Digits(word_of(alloc, digits)?),
-        start: 1,
-        end: 2,
-    })?;
-    Ok(tokens)
-}
-
-fn is_literal(read: Result<Expr, ReadError>, cell: &Cell) -> bool {
-    match read {
-        Ok(Expr::Lit(literal)) => literal == *cell,
-        _ => false,
-    }
+fn push(tokens: &mut Vec<Placed>, token: Token) -> Result<(), Memory> {
+    Ok(tokens.push(Placed {
+        token,
+        start: 0,
+        end: 0,
+    })?)
 }
 
 #[test]
@@ -40,15 +23,17 @@ fn numbers_are_read(rt: HostRuntime) -> Result<(), Fail> {
         (true, "9223372036854775808", Cell::Int(i64::MIN)),
     ];
     for (negative, digits, cell) in &rows {
-        let tokens = number(alloc, *negative, digits)?;
-        assert!(rt; is_literal(read_expr(alloc, &tokens), cell));
+        let mut tokens = Vec::new(alloc);
+        if *negative {
+            push(&mut tokens, Token::Symbol(Symbol::Minus))?;
+        }
+        push(&mut tokens, Token::Digits(word_of(alloc, digits)?))?;
+        let Expr::Lit(literal) = read_expr(alloc, &tokens)? else {
+            return Err(Fail::from("no literal"));
+        };
+        assert!(rt; literal == *cell);
     }
     Ok(())
-}
-
-#[test]
-fn expressions_are_one() {
-    one_expr();
 }
 
 /// `NOT ( a = 5 OR a IN ( 5 ) )`, without the `)` where it is left open.
@@ -71,14 +56,6 @@ fn denied(alloc: Global, open: bool) -> Result<Vec<Placed>, Memory> {
     Ok(tokens)
 }
 
-fn push(tokens: &mut Vec<Placed>, token: Token) -> Result<(), Memory> {
-    Ok(tokens.push(Placed {
-        token,
-        start: 0,
-        end: 0,
-    })?)
-}
-
 #[test]
 fn conditions_in_parentheses_are_read(rt: HostRuntime) -> Result<(), Fail> {
     let alloc = rt.alloc();
@@ -96,7 +73,9 @@ fn conditions_in_parentheses_are_read(rt: HostRuntime) -> Result<(), Fail> {
 }
 
 /// `COUNT ( * ) > 5`
-fn counted(alloc: Global) -> Result<Vec<Placed>, Memory> {
+#[test]
+fn aggregates_are_read_in_having_alone(rt: HostRuntime) -> Result<(), Fail> {
+    let alloc = rt.alloc();
     let mut tokens = Vec::new(alloc);
     push(&mut tokens, Token::Key(Keyword::Count))?;
     push(&mut tokens, Token::Symbol(Symbol::Open))?;
@@ -104,13 +83,6 @@ fn counted(alloc: Global) -> Result<Vec<Placed>, Memory> {
     push(&mut tokens, Token::Symbol(Symbol::Close))?;
     push(&mut tokens, Token::Symbol(Symbol::Greater))?;
     push(&mut tokens, Token::Digits(word_of(alloc, "5")?))?;
-    Ok(tokens)
-}
-
-#[test]
-fn aggregates_are_read_in_having_alone(rt: HostRuntime) -> Result<(), Fail> {
-    let alloc = rt.alloc();
-    let tokens = counted(alloc)?;
     assert!(rt;
         matches!(
             read_having(alloc, &tokens)?,
@@ -122,34 +94,9 @@ fn aggregates_are_read_in_having_alone(rt: HostRuntime) -> Result<(), Fail> {
 }
 
 #[test]
-fn conditions_are_one() {
+fn tokens_are_read_as_one_thing() {
+    one_expr();
     one_cond();
-}
-
-/// `1 + 1 + .. + a`, with so many ones.
-fn sum(alloc: Global, ones: usize) -> Result<Vec<Placed>, Memory> {
-    let mut tokens = Vec::new(alloc);
-    for _ in 0..ones {
-        push(&mut tokens, Token::Digits(word_of(alloc, "1")?))?;
-        push(&mut tokens, Token::Symbol(Symbol::Plus))?;
-    }
-    push(&mut tokens, Token::Name(word_of(alloc, "a")?))?;
-    Ok(tokens)
-}
-
-/// `a IN ( 1, 1, .., 1 )`, with so many ones and one more.
-fn listed(alloc: Global, ones: usize) -> Result<Vec<Placed>, Memory> {
-    let mut tokens = Vec::new(alloc);
-    push(&mut tokens, Token::Name(word_of(alloc, "a")?))?;
-    push(&mut tokens, Token::Key(Keyword::In))?;
-    push(&mut tokens, Token::Symbol(Symbol::Open))?;
-    for _ in 0..ones {
-        push(&mut tokens, Token::Digits(word_of(alloc, "1")?))?;
-        push(&mut tokens, Token::Symbol(Symbol::Comma))?;
-    }
-    push(&mut tokens, Token::Digits(word_of(alloc, "1")?))?;
-    push(&mut tokens, Token::Symbol(Symbol::Close))?;
-    Ok(tokens)
 }
 
 /// The literals, columns and operators of an expression.
@@ -171,14 +118,38 @@ fn tests(cond: &Cond) -> usize {
     }
 }
 
+/// `1 + 1 + .. + a`
 #[test]
-fn long_texts_make_small_trees(rt: HostRuntime) -> Result<(), Fail> {
+fn long_sums_make_small_trees(rt: HostRuntime) -> Result<(), Fail> {
     let alloc = rt.alloc();
-    let sum = read_expr(alloc, &sum(alloc, 5000)?)?;
+    let mut tokens = Vec::new(alloc);
+    for _ in 0..5000 {
+        push(&mut tokens, Token::Digits(word_of(alloc, "1")?))?;
+        push(&mut tokens, Token::Symbol(Symbol::Plus))?;
+    }
+    push(&mut tokens, Token::Name(word_of(alloc, "a")?))?;
+    let sum = read_expr(alloc, &tokens)?;
     assert!(rt; is_large_expr(&sum));
     assert!(rt; nodes(&sum) < 200);
     assert!(rt; has_column(&sum));
-    let listed = read_cond(alloc, &listed(alloc, 5000)?)?;
+    Ok(())
+}
+
+/// `a IN ( 1, 1, .., 1 )`
+#[test]
+fn long_lists_make_small_trees(rt: HostRuntime) -> Result<(), Fail> {
+    let alloc = rt.alloc();
+    let mut tokens = Vec::new(alloc);
+    push(&mut tokens, Token::Name(word_of(alloc, "a")?))?;
+    push(&mut tokens, Token::Key(Keyword::In))?;
+    push(&mut tokens, Token::Symbol(Symbol::Open))?;
+    for _ in 0..5000 {
+        push(&mut tokens, Token::Digits(word_of(alloc, "1")?))?;
+        push(&mut tokens, Token::Symbol(Symbol::Comma))?;
+    }
+    push(&mut tokens, Token::Digits(word_of(alloc, "1")?))?;
+    push(&mut tokens, Token::Symbol(Symbol::Close))?;
+    let listed = read_cond(alloc, &tokens)?;
     assert!(rt; is_large_cond(&listed));
     assert!(rt; tests(&listed) < 200);
     Ok(())
