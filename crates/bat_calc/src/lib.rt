@@ -1,9 +1,10 @@
 //! The functions of cells of plans: arithmetic, comparisons, and truth where Nil is unknown.
 //!
-//! It stands on `cell_core`, whose definitions say what each function gives, and on `bat_core`. A
-//! function goes over two scalars, or over BATs place by place, up to the shortest BAT, and then has
-//! the heads of the first. Each call gives exactly the value of its operator, and its counter rises by
-//! the stated work; `Overflow` comes exactly where a number leaves the signed 64-bit range.
+//! It stands on `cell_core`, whose definitions say what each function gives, on `cell_calc` for the
+//! functions of single cells, and on `bat_core` for columns. A function goes over two scalars, or over
+//! BATs place by place, up to the shortest BAT, and then has the heads of the first. Each call gives
+//! exactly the value of its operator, and its counter rises by the stated work; `Overflow` comes exactly
+//! where a number leaves the signed 64-bit range.
 #![tactic(auto)]
 
 mod calculate;

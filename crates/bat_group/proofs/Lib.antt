@@ -1,4 +1,4 @@
-pub mod AggregateLemmas
 pub mod GroupLemmas
+pub mod MemberLemmas
 pub mod NumberLemmas
 pub mod TotalLemmas

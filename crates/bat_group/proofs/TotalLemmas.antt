@@ -12,7 +12,7 @@ use Rattle.cell_core.specs.declared.cell.Cell.TheVariants.{Nil}
 use Rattle.cell_core.specs.Same.{same_cell, same_equivalence}
 use Rattle.cell_core.specs.Groups.{distinct}
 use Rattle.bat_group.specs.Numbers.{with_first}
-use Rattle.bat_group.specs.Aggregates.{members_of}
+use Rattle.bat_group.specs.Members.{members_of}
 use Rattle.bat_group.proofs.NumberLemmas.{take_next, distinct_next, any_step, same_as, number_kept, found_by_number, missed_by_number}
 
 module _ {X : Type 0} (same : X → X → Bool) (laws : IsEquivalence same) where

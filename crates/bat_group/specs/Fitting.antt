@@ -11,7 +11,7 @@ use Rattle.cell_core.specs.declared.operator.Op.TheVariants as op
 use Rattle.cell_core.specs.declared.operator.Value.TheVariants.{Bat}
 use Rattle.cell_core.specs.Pairs.{Pairs, tails_of}
 use Rattle.cell_core.specs.Kinds.{ValueType, OneOf, BatOf, agrees, is_of_kind, are_of_types, result_type, Fits}
-use Rattle.bat_group.specs.Aggregates.{is_int}
+use Rattle.cell_calc.specs.Aggregates.{is_int}
 
 int_of_kind : (t : Option Kind) (c : Cell) → agrees t (Some kind.Int) ≡ true → is_of_kind t c ≡ true → is_int c ≡ true
 int_of_kind None cell.Nil fit is = refl

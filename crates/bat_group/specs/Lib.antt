@@ -1,3 +1,3 @@
-pub mod Aggregates
 pub mod Fitting
+pub mod Members
 pub mod Numbers

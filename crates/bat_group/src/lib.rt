@@ -1,12 +1,11 @@
 //! Groups of equal cells, and aggregates over them.
 //!
-//! It stands on `cell_core` for cells and for the definition of each operator, and on `bat_core` for
-//! BATs. Each of its operators gives that definition exactly, in one pass with a hash of what was
-//! seen, and with its stated work. A group has a number by its first occurrence, and Nil is the same
+//! It stands on `cell_core` for cells and for the definition of each operator, on `bat_core` for BATs,
+//! and on `cell_calc` for aggregates that take one cell after another. Each of its operators gives its
+//! definition exactly, in one pass with a hash of what was seen, and with its stated work. A group has a number by its first occurrence, and Nil is the same
 //! as Nil there.
 #![tactic(auto)]
 
-mod aggregate;
 mod grouping;
 mod numbers;
 mod subtotals;

@@ -1,15 +1,16 @@
 //! Aggregates over the tails of a BAT, for each group of another.
-ghost use Rattle.std.specs.Prelude.{◌≡◌, ℕ, ◌+◌, ◌++◌, ◌==◌, ◌≤◌, ◌^◌, [], ◌∷◌, length, map, take, drop, if◌then◌else◌, true, IsTrue, List, IfOk, OnOk, OnErr};
+ghost use Rattle.std.specs.Prelude.{◌≡◌, ℕ, ◌+◌, ◌++◌, ◌==◌, ◌^◌, [], ◌∷◌, length, map, take, drop, if◌then◌else◌, true, IsTrue, List, IfOk, OnOk, OnErr};
 ghost use Rattle.std.specs.List.{list_all};
 ghost use Rattle.cell_core.specs.declared.cell.Cell.{Cell};
 ghost use Rattle.cell_core.specs.Same.{same_cell};
 ghost use Rattle.cell_core.specs.Pairs.{tails_of, numbered};
 ghost use Rattle.cell_core.specs.Groups.{counted, summed, least, greatest, by_group, distinct};
-ghost use Rattle.bat_group.specs.Aggregates.{aggregate_of, is_int, are_taken, members_of, IsWithin, AreWithin};
+ghost use Rattle.cell_calc.specs.Aggregates.{aggregate_of, is_int, IsWithin};
+ghost use Rattle.bat_group.specs.Members.{are_taken, members_of, AreWithin};
 
-use crate::aggregate::Aggregate;
 use crate::numbers::number_of;
 use bat_core::{Bat, Cells};
+use cell_calc::Aggregate;
 use cell_core::{Cell, Memory, Steps};
 use std::alloc::Global;
 use std::collections::HashMap;

@@ -3,10 +3,11 @@ ghost use Rattle.std.specs.Prelude.{◌≡◌, ◌+◌, length, IsTrue, true, If
 ghost use Rattle.std.specs.List.{list_all};
 ghost use Rattle.cell_core.specs.Pairs.{tails_of};
 ghost use Rattle.cell_core.specs.Groups.{counted, summed, least, greatest};
-ghost use Rattle.bat_group.specs.Aggregates.{aggregate_of, is_int, are_taken};
+ghost use Rattle.cell_calc.specs.Aggregates.{aggregate_of, is_int};
+ghost use Rattle.bat_group.specs.Members.{are_taken};
 
-use crate::aggregate::Aggregate;
 use bat_core::{Bat, Cells};
+use cell_calc::Aggregate;
 use cell_core::{Cell, Memory, Steps};
 use std::alloc::Global;
 use std::sync::ledger::Ledger;

@@ -10,6 +10,7 @@ ghost use Rattle.mal_meaning.specs.Slow.{takes_bat, takes_bats, takes_cell};
 ghost use Rattle.mal_check.specs.Checked.{arg_type};
 ghost use Rattle.mal_check.specs.Types.{type_of, types_of};
 
+use cell_calc::{agrees, are_comparable, both_are, kind_of};
 use cell_core::{Arg, Cell, Kind, Op, Word};
 
 /// What is known of a value before its plan is run. A kind `None` is that of Nil.
@@ -41,59 +42,6 @@ fn bat(head: Option<Kind>, tail: Option<Kind>) -> ValueKind
     ensures { type_of result ≡ BatOf head tail }
 {
     ValueKind::Bat(BatKind { head, tail })
-}
-
-/// The kind of a cell.
-pub(crate) fn kind_of(cell: &Cell) -> Option<Kind>
-    ensures { result ≡ kinds.kind_of cell.now }
-{
-    match cell {
-        Cell::Nil => None,
-        Cell::Int(_) => Some(Kind::Int),
-        Cell::Huge(_) => Some(Kind::Huge),
-        Cell::Text(_) => Some(Kind::Text),
-        Cell::Day(_) => Some(Kind::Day),
-        Cell::Bit(_) => Some(Kind::Bit),
-        Cell::Oid(_) => Some(Kind::Oid),
-    }
-}
-
-/// The two are equal.
-fn is_same(a: Kind, b: Kind) -> bool
-    ensures { result ≡ kinds.same_kind a b }
-{
-    a == b
-}
-
-/// The two kinds are equal, or one of them is that of Nil.
-pub(crate) fn agrees(a: Option<Kind>, b: Option<Kind>) -> bool
-    ensures { result ≡ kinds.agrees a b }
-{
-    match (a, b) {
-        (Some(a), Some(b)) => is_same(a, b),
-        _ => true,
-    }
-}
-
-/// Both are of the kind.
-fn both_are(kind: Kind, a: Option<Kind>, b: Option<Kind>) -> bool
-    ensures { result ≡ kinds.both_are kind a b }
-{
-    agrees(a, Some(kind)) && agrees(b, Some(kind))
-}
-
-/// A number, of which Nil may be one.
-fn is_numeric(kind: Option<Kind>) -> bool
-    ensures { result ≡ kinds.is_numeric kind }
-{
-    agrees(kind, Some(Kind::Int)) || agrees(kind, Some(Kind::Huge))
-}
-
-/// Numbers compare with numbers, other cells with those of their kind.
-fn are_comparable(a: Option<Kind>, b: Option<Kind>) -> bool
-    ensures { result ≡ kinds.are_comparable a b }
-{
-    agrees(a, b) || (is_numeric(a) && is_numeric(b))
 }
 
 /// The kind of the cells that a function of cells takes from a value.

@@ -5,7 +5,8 @@ ghost use Rattle.mal_check.specs.Checked as checked;
 ghost use Rattle.mal_check.specs.Types.{types_of};
 
 use crate::error::PlanError;
-use crate::kinds::{ValueKind, agrees, arg_kind};
+use crate::kinds::{ValueKind, arg_kind};
+use cell_calc::agrees;
 use cell_core::{Arg, Kind};
 use mal_meaning::Out;
 

@@ -1,32 +1,25 @@
 -- That the plain operators give what the definitions say.
-use Rattle.std.proofs.Common.{◌≡◌, ℕ, ◌+◌, ◌≤◌, ℤ, List, [], ◌∷◌, ◌++◌, map, filter, length, not, Bool, true, false, cond, Option, Some, None, refl, ap, sym, subst, ◌∙◌, FitsSigned, IsTrue, arith}
-use Rattle.std.specs.Int.{w128}
+use Rattle.std.proofs.Common.{◌≡◌, ℕ, ◌+◌, ◌≤◌, List, [], ◌∷◌, ◌++◌, map, filter, length, not, Bool, true, false, cond, Option, Some, None, refl, ap, sym, subst, ◌∙◌, IsTrue, arith}
 use Rattle.std.specs.Prelude.{min, get_or}
 use Rattle.std.specs.List.{position_or_len, zip}
 use Rattle.std.specs.Option.{option_map_or}
 use Rattle.std.proofs.lemmas.List.FromFn.{map-range_with_len_more}
 use Rattle.std.proofs.lemmas.List.{get_or_past, length-map}
 use Rattle.cell_core.specs.declared.cell.Cell.{Cell}
-use Rattle.cell_core.specs.declared.cell.Cell.TheVariants.{Nil, Int, Oid}
+use Rattle.cell_core.specs.declared.cell.Cell.TheVariants.{Nil, Oid}
 use Rattle.cell_core.specs.declared.operator.Value.{Value}
 use Rattle.cell_core.specs.declared.operator.Value.TheVariants.{Bat, One}
 use Rattle.cell_core.specs.Same.{same_cell}
 use Rattle.cell_core.specs.Pairs.{Pairs, heads_of, tails_of, numbered, shortest, row_at, rows_of}
-use Rattle.cell_core.specs.Calc.{fits_int, as_int, calculated}
+use Rattle.cell_core.specs.Calc.{calculated}
 use Rattle.cell_core.specs.Operators.{operate}
 use Rattle.cell_core.specs.declared.operator.Op.{Op}
 use Rattle.cell_core.specs.declared.operator.Op.TheVariants as op
-use Rattle.cell_core.specs.Groups.{distinct, group_number, grouped, derived, paired_tails, known, least, by_group}
+use Rattle.cell_core.specs.Groups.{distinct, group_number, grouped, derived, paired_tails, least, by_group}
 use Rattle.mal_meaning.specs.declared.groups.Sameness.TheVariants as sameness
-use Rattle.mal_meaning.specs.declared.aggregates.Aggregate.{Aggregate}
-use Rattle.mal_meaning.specs.declared.aggregates.Aggregate.TheVariants as aggregate
-use Rattle.mal_meaning.specs.Slow.{are_same, number_among, head_numbered, pair_numbered, first_least_of, first_greatest_of, aggregate_of, group_folded, shorter_of, is_function, function_of}
-
-pub least_is : (kept cells : List Cell) → kept ≡ known cells → first_least_of kept ≡ aggregate_of aggregate.Min cells
-least_is kept cells e = ap first_least_of e
-
-pub greatest_is : (kept cells : List Cell) → kept ≡ known cells → first_greatest_of kept ≡ aggregate_of aggregate.Max cells
-greatest_is kept cells e = ap first_greatest_of e
+use Rattle.cell_calc.specs.declared.aggregate.Aggregate.{Aggregate}
+use Rattle.cell_calc.specs.Aggregates.{aggregate_of}
+use Rattle.mal_meaning.specs.Slow.{are_same, number_among, head_numbered, pair_numbered, group_folded, shorter_of, is_function, function_of}
 
 -- tails kept by a test of tails
 tails_kept : (test : Cell → Bool) (b : Pairs) → tails_of (filter (λ q. test q.1) b) ≡ filter test (tails_of b)
@@ -67,13 +60,6 @@ by_group_is which b g = refl
 -- the cell at a place past a BAT's end
 pub tail_past : (b : Pairs) (place : ℕ) → length b ≤ place → get_or (tails_of b) place Nil ≡ Nil
 tail_past b place h = get_or_past (tails_of b) place Nil (subst (λ n. n ≤ place) (sym (length-map b (λ p. p.1))) h)
-
--- a number that doesn't fit 128 bits doesn't fit 64
-pub wide_out : (n : ℤ) → (FitsSigned w128 n → ⊥) → as_int n ≡ None
-wide_out n out = elim (fits_int n) as (λ b. fits_int n ≡ b → cond b (Some (Int n)) None ≡ None) [
-  | true ↦ λ e. absurd (out (grind arith))
-  | false ↦ λ e. refl
-] refl
 
 -- a length and what the others have, together
 abbrev pub least_with : Option ℕ → Option ℕ → Option ℕ

@@ -1,23 +1,22 @@
 -- The parts of which the plain operators are made. Only contracts of private functions name them: what
 -- callers see speaks of `cell_core`'s definitions alone.
-use Rattle.std.specs.Prelude.{ℕ, min, List, length, map, filter, Bool, true, false, ◌+ℤ◌, ◌-ℤ◌, ◌*ℤ◌, find, unwrap_or, Option, None, Some}
-use Rattle.std.specs.List.{list_all, position_or_len}
+use Rattle.std.specs.Prelude.{ℕ, min, List, length, map, filter, Bool, true, false, ◌+ℤ◌, ◌-ℤ◌, ◌*ℤ◌, Option, None, Some}
+use Rattle.std.specs.List.{position_or_len}
 use Rattle.std.specs.Ordering.{is_eq, is_ne, is_lt, is_le, is_gt, is_ge}
 use Rattle.cell_core.specs.declared.cell.Cell.{Cell}
-use Rattle.cell_core.specs.declared.cell.Cell.TheVariants.{Nil, Oid}
+use Rattle.cell_core.specs.declared.cell.Cell.TheVariants.{Oid}
 use Rattle.cell_core.specs.declared.operator.Op.{Op}
 use Rattle.cell_core.specs.declared.operator.Op.TheVariants as op
 use Rattle.cell_core.specs.declared.operator.Value.{Value}
 use Rattle.cell_core.specs.declared.operator.Value.TheVariants.{Bat, One}
-use Rattle.cell_core.specs.Order.{cell_cmp}
 use Rattle.cell_core.specs.Same.{same_cell}
 use Rattle.cell_core.specs.Pairs.{Pairs, heads_of}
-use Rattle.cell_core.specs.Groups.{same_pair, counted, summed, least, greatest}
+use Rattle.cell_core.specs.Groups.{same_pair}
 use Rattle.cell_core.specs.Calc.{arithmetic, comparison, conjunction, disjunction, negation, over_two, over_one}
 use Rattle.mal_meaning.specs.declared.groups.Sameness.{Sameness}
 use Rattle.mal_meaning.specs.declared.groups.Sameness.TheVariants as sameness
-use Rattle.mal_meaning.specs.declared.aggregates.Aggregate.{Aggregate}
-use Rattle.mal_meaning.specs.declared.aggregates.Aggregate.TheVariants as aggregate
+use Rattle.cell_calc.specs.declared.aggregate.Aggregate.{Aggregate}
+use Rattle.cell_calc.specs.Aggregates.{aggregate_of}
 
 -- the head of a pair beside each head of r
 abbrev pub beside_heads : Pairs → Cell × Cell → Pairs
@@ -39,28 +38,6 @@ head_numbered names p = (p.0, Oid (number_among sameness.Tail names p))
 -- the number of a pair as a cell
 abbrev pub pair_numbered : Pairs → Cell × Cell → Cell
 pair_numbered names p = Oid (number_among sameness.Pair names p)
-
--- a cell is at most each
-abbrev pub is_least_of : List Cell → Cell → Bool
-is_least_of cells c = list_all (λ x. is_le (cell_cmp c x)) cells
-
--- a cell is at least each
-abbrev pub is_greatest_of : List Cell → Cell → Bool
-is_greatest_of cells c = list_all (λ x. is_ge (cell_cmp c x)) cells
-
--- the first cell that is at most each, and the first that is at least each; Nil where there is none
-abbrev pub first_least_of : List Cell → Cell
-first_least_of cells = unwrap_or (find (is_least_of cells) cells) Nil
-
-abbrev pub first_greatest_of : List Cell → Cell
-first_greatest_of cells = unwrap_or (find (is_greatest_of cells) cells) Nil
-
--- an aggregate over cells
-abbrev pub aggregate_of : Aggregate → List Cell → Cell
-aggregate_of aggregate.Count = counted
-aggregate_of aggregate.Sum = summed
-aggregate_of aggregate.Min = least
-aggregate_of aggregate.Max = greatest
 
 -- an aggregate over the heads of the pairs with this tail
 abbrev pub group_folded : Aggregate → Pairs → Cell → Cell

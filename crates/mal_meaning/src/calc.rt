@@ -1,126 +1,31 @@
 //! The functions of cells, as plain loops over lists.
-ghost use Rattle.std.specs.Prelude.{◌≡◌, ◌∷◌, [], map, ◌||◌, if◌then◌else◌, ◌+ℤ◌, ◌-ℤ◌, ◌*ℤ◌, IfOk};
-ghost use Rattle.cell_core.specs.declared.cell.Cell.TheVariants.{Nil, Bit};
-ghost use Rattle.cell_core.specs.Pairs.{is_nil, bats_in, shortest, cell_at, row_at, rows_of};
-ghost use Rattle.cell_core.specs.Calc.{as_int, arithmetic, conjunction, disjunction, negation, all_or_none, first_heads, calculated};
+ghost use Rattle.std.specs.Prelude.{◌≡◌, ◌∷◌, [], map, IfOk};
+ghost use Rattle.cell_core.specs.Pairs.{bats_in, shortest, cell_at, row_at, rows_of};
+ghost use Rattle.cell_core.specs.Calc.{all_or_none, first_heads, calculated};
 ghost use Rattle.mal_meaning.specs.Slow.{function_of, shorter_of};
 
-use crate::aggregates::number_of;
 use crate::columns::{heads, pair_up};
-use cell_core::{Cell, Memory, Op, Sequence, Value, compare};
+use cell_calc::{
+    both, difference, either, is_above, is_at_least, is_at_most, is_below, is_equal, is_unequal,
+    opposite, product, sum,
+};
+use cell_core::{Cell, Memory, Op, Sequence, Value};
 use std::alloc::Global;
-use std::cmp::Ordering;
-
-/// The number as a cell, where it fits.
-fn int_cell(number: i128) -> Option<Cell>
-    ensures { result ≡ as_int number }
-{
-    match i64::try_from(number) {
-        Ok(number) => Some(Cell::Int(number)),
-        Err(_) => None,
-    }
-}
-
-/// The sum of two cells; of Nil it is Nil.
-#[tactic(auto, using(crate::proofs::SlowLemmas::wide_out))]
-fn plus(x: &Cell, y: &Cell) -> Option<Cell>
-    ensures { result ≡ arithmetic (λ a b. a +ℤ b) x.now y.now }
-{
-    if *x == Cell::Nil || *y == Cell::Nil {
-        return Some(Cell::Nil);
-    }
-    match number_of(x).checked_add(number_of(y)) {
-        Some(number) => int_cell(number),
-        None => None,
-    }
-}
-
-/// The difference of two cells; of Nil it is Nil.
-#[tactic(auto, using(crate::proofs::SlowLemmas::wide_out))]
-fn minus(x: &Cell, y: &Cell) -> Option<Cell>
-    ensures { result ≡ arithmetic (λ a b. a -ℤ b) x.now y.now }
-{
-    if *x == Cell::Nil || *y == Cell::Nil {
-        return Some(Cell::Nil);
-    }
-    match number_of(x).checked_sub(number_of(y)) {
-        Some(number) => int_cell(number),
-        None => None,
-    }
-}
-
-/// The product of two cells; of Nil it is Nil.
-#[tactic(auto, using(crate::proofs::SlowLemmas::wide_out))]
-fn times(x: &Cell, y: &Cell) -> Option<Cell>
-    ensures { result ≡ arithmetic (λ a b. a *ℤ b) x.now y.now }
-{
-    if *x == Cell::Nil || *y == Cell::Nil {
-        return Some(Cell::Nil);
-    }
-    match number_of(x).checked_mul(number_of(y)) {
-        Some(number) => int_cell(number),
-        None => None,
-    }
-}
-
-/// The outcome of a test of two cells; of Nil it is Nil.
-fn tested(x: &Cell, y: &Cell, outcome: bool) -> Cell
-    ensures { result ≡ (if is_nil x.now || is_nil y.now then Nil else Bit outcome) }
-{
-    if *x == Cell::Nil || *y == Cell::Nil {
-        Cell::Nil
-    } else {
-        Cell::Bit(outcome)
-    }
-}
-
-/// Whether both cells are true, where Nil is unknown.
-fn both(x: &Cell, y: &Cell) -> Cell
-    ensures { result ≡ conjunction x.now y.now }
-{
-    match (x, y) {
-        (Cell::Bit(false), _) | (_, Cell::Bit(false)) => Cell::Bit(false),
-        (Cell::Bit(true), Cell::Bit(true)) => Cell::Bit(true),
-        _ => Cell::Nil,
-    }
-}
-
-/// Whether one of the cells is true, where Nil is unknown.
-fn either(x: &Cell, y: &Cell) -> Cell
-    ensures { result ≡ disjunction x.now y.now }
-{
-    match (x, y) {
-        (Cell::Bit(true), _) | (_, Cell::Bit(true)) => Cell::Bit(true),
-        (Cell::Bit(false), Cell::Bit(false)) => Cell::Bit(false),
-        _ => Cell::Nil,
-    }
-}
-
-/// The opposite of a cell, where Nil is unknown.
-fn opposite(x: &Cell) -> Cell
-    ensures { result ≡ negation x.now }
-{
-    match x {
-        Cell::Bit(bit) => Cell::Bit(!*bit),
-        _ => Cell::Nil,
-    }
-}
 
 /// A function of two cells.
 fn apply_two(op: Op, x: &Cell, y: &Cell) -> Option<Cell>
     ensures { result ≡ function_of op (x.now ∷ y.now ∷ []) }
 {
-    let order = compare(x, y);
     match op {
-        Op::Plus => plus(x, y),
-        Op::Minus => minus(x, y),
-        Op::Times => times(x, y),
-        Op::Eq => Some(tested(x, y, order == Ordering::Equal)),
-        Op::Ne => Some(tested(x, y, order != Ordering::Equal)),
-        Op::Lt => Some(tested(x, y, order == Ordering::Less)),
-        Op::Le => Some(tested(x, y, order != Ordering::Greater)),
-        Op::Gt => Some(tested(x, y, order == Ordering::Greater)),
-        Op::Ge => Some(tested(x, y, order != Ordering::Less)),
+        Op::Plus => sum(x, y),
+        Op::Minus => difference(x, y),
+        Op::Times => product(x, y),
+        Op::Eq => Some(is_equal(x, y)),
+        Op::Ne => Some(is_unequal(x, y)),
+        Op::Lt => Some(is_below(x, y)),
+        Op::Le => Some(is_at_most(x, y)),
+        Op::Gt => Some(is_above(x, y)),
+        Op::Ge => Some(is_at_least(x, y)),
         Op::And => Some(both(x, y)),
         Op::Or => Some(either(x, y)),
         _ => None,

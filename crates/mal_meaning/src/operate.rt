@@ -4,15 +4,16 @@ ghost use Rattle.cell_core.specs.declared.operator.Value.TheVariants as value;
 ghost use Rattle.cell_core.specs.Operators.{operate};
 ghost use Rattle.cell_core.specs.declared.operator.Op.TheVariants as operator;
 ghost use Rattle.cell_core.specs.Pairs.{tails_of};
-ghost use Rattle.mal_meaning.specs.Slow.{takes_bat, takes_bats, takes_cell, is_function, aggregate_of};
+ghost use Rattle.cell_calc.specs.Aggregates.{aggregate_of};
+ghost use Rattle.mal_meaning.specs.Slow.{takes_bat, takes_bats, takes_cell, is_function};
 
-use crate::aggregates::{Aggregate, fold_cells};
 use crate::calc::calculate;
 use crate::columns::tails;
 use crate::groups::{group_derive, group_heads, group_new, subaggregate};
 use crate::relations::{
     cross, join, kdifference, kunion, mark_t, mirror, project, reverse, select, semijoin,
 };
+use cell_calc::{Aggregate, aggregate_cells};
 use cell_core::{Cell, Memory, Op, Value};
 use std::alloc::Global;
 
@@ -39,7 +40,7 @@ fn fold_tails(alloc: Global, which: Aggregate, b: &[(Cell, Cell)]) -> Result<Cel
     ensures { IfOk result (λ cell. cell ≡ aggregate_of which (tails_of b.now)) }
 {
     let cells = tails(alloc, b)?;
-    fold_cells(alloc, which, cells.as_slice())
+    aggregate_cells(which, cells.as_slice())
 }
 
 /// An operator of two BATs.

@@ -1,65 +1,19 @@
 //! INSERT.
-ghost use Rattle.std.specs.Prelude.{◌≡◌, ◌+◌, bytes_eq, filter_map, length, map, nat_lt, slice_index_or, IfOk};
+ghost use Rattle.std.specs.Prelude.{◌≡◌, ◌+◌, bytes_eq, length, map, nat_lt, slice_index_or, IfOk};
 ghost use Rattle.std.specs.List.{position_or_len};
-ghost use Rattle.std.specs.Option.{option_copied};
 ghost use Rattle.cell_core.specs.declared.cell.Cell.TheVariants.{Nil};
 ghost use Rattle.cell_core.specs.declared.table.Column.{Column as ColumnSeen};
-ghost use Rattle.sql_semantics.specs.Check.{column_named as column_named_of, targets as targets_of};
 ghost use Rattle.sql_semantics.specs.Effect.{inserted, placed, row_limit};
 ghost use Rattle.sql_changes.specs.Plans.{change_of};
 
 use crate::long::are_rows_too_long;
 use crate::plan::{Plan, Work};
-use cell_core::{Cell, Column, Memory, Sequence, Table, Word, copy_cells, copy_columns, word_of};
-use sql_semantics::Refusal;
+use cell_core::{Cell, Column, Memory, Sequence, Table, Word, copy_cells, word_of};
+use sql_semantics::{Refusal, targets};
 use std::alloc::Global;
 
 /// The most rows of a table.
 const ROW_LIMIT: usize = 1_048_576;
-
-/// The column with this name.
-fn column_named<'a>(columns: &'a [Column], name: &Word) -> Option<&'a Column>
-    ensures { option_copied result ≡ column_named_of columns.now name.now }
-{
-    let mut rest = columns;
-    'columns: while let [column, more @ ..] = rest {
-        if column.name == *name {
-            return Some(column);
-        }
-        rest = more;
-    }
-    None
-}
-
-/// The columns with these names, those that are there.
-fn listed_columns(
-    alloc: Global,
-    columns: &[Column],
-    listed: &[Word],
-) -> Result<Sequence<Column>, Memory>
-    ensures { IfOk result (λ found. found ≡ filter_map (column_named_of columns.now) listed.now) }
-{
-    let mut found = Sequence::new(alloc);
-    let mut rest = listed;
-    'names: while let [name, more @ ..] = rest {
-        if let Some(column) = column_named(columns, name) {
-            found.push(column.share()?)?;
-        }
-        rest = more;
-    }
-    Ok(found)
-}
-
-/// The columns that the values of a row go to: all of them where none is listed.
-fn targets(alloc: Global, columns: &[Column], listed: &[Word]) -> Result<Sequence<Column>, Memory>
-    ensures { IfOk result (λ found. found ≡ targets_of columns.now listed.now) }
-{
-    if listed.is_empty() {
-        copy_columns(alloc, columns)
-    } else {
-        listed_columns(alloc, columns, listed)
-    }
-}
 
 /// The place of a name in a list, or the list's length.
 fn place_of(listed: &[Word], name: &Word) -> usize

@@ -11,7 +11,8 @@ use Rattle.sql_semantics.specs.declared.refusal.Refusal.{Refusal}
 use Rattle.sql_semantics.specs.declared.refusal.Refusal.TheVariants.{KindsDiffer}
 use Rattle.sql_semantics.specs.declared.source.Schema.{Schema}
 use Rattle.sql_semantics.specs.Sources.{NamedSource, from_name, from_sources}
-use Rattle.sql_semantics.specs.References.{items_of, item_exprs, outer_references, exprs_of_cond, is_grouped}
+use Rattle.sql_tree.specs.Exprs.{exprs_of_cond}
+use Rattle.sql_semantics.specs.References.{items_of, item_exprs, outer_references, is_grouped}
 use Rattle.sql_semantics.specs.Kinds.{is_misfit}
 use Rattle.sql_semantics.specs.Check.{refused_if, names_twice, missing_tables, bad_references, bad_in_exprs, bad_keys, not_grouped, is_misfit_cond, is_misfit_query, column_refusals, query_refusals}
 use Rattle.sql_check.specs.First.{first, first_by, bad_expr, ungrouped, ungrouped_expr, bad_keys_of}

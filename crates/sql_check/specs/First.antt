@@ -18,7 +18,8 @@ use Rattle.sql_semantics.specs.declared.refusal.Refusal.{Refusal}
 use Rattle.sql_semantics.specs.declared.refusal.Refusal.TheVariants.{NoColumn, Ambiguous, NotGrouped, WrongCount, KindsDiffer}
 use Rattle.sql_semantics.specs.Sources.{NamedSource}
 use Rattle.sql_semantics.specs.Check.{bad_key, bad_references, bad_in_exprs, is_group_column, refused_if, unknown_names, names_twice, is_wrong_count, is_misfit_row, is_misfit_set, is_misfit_cond}
-use Rattle.sql_semantics.specs.References.{references, outer_references, exprs_of_cond}
+use Rattle.sql_tree.specs.Exprs.{exprs_of_cond}
+use Rattle.sql_semantics.specs.References.{references, outer_references}
 
 abbrev pub first : List Refusal → Option Refusal
 first refusals = slice_get refusals 0

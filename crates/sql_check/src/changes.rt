@@ -1,19 +1,20 @@
 //! The refusals of the statements that change tables.
-ghost use Rattle.std.specs.Prelude.{◌≡◌, ℕ, List, ◌==◌, ◌||◌, not, map, filter_map, length, IfOk};
+ghost use Rattle.std.specs.Prelude.{◌≡◌, ℕ, List, ◌==◌, ◌||◌, not, map, length, IfOk};
 ghost use Rattle.cell_core.specs.declared.cell.Cell.{Cell as CellSeen};
 ghost use Rattle.std.specs.List.{list_any};
 ghost use Rattle.std.specs.Option.{option_map};
 ghost use Rattle.sql_tree.specs.Tree.{ExprTree, cond_tree, set_tree};
 ghost use Rattle.sql_semantics.specs.declared.refusal.Refusal.TheVariants.{WrongCount};
-ghost use Rattle.sql_semantics.specs.Check.{refused_if, create_refusals, drop_refusals, insert_refusals, delete_refusals, update_refusals, own_source, column_named as column_named_of, targets as targets_of, is_left_out as is_left_out_of, is_wrong_count as is_wrong_count_of, is_misfit_row as is_misfit_row_of, is_misfit_set as is_misfit_set_of, is_misfit_cond};
+ghost use Rattle.sql_semantics.specs.Check.{refused_if, create_refusals, drop_refusals, insert_refusals, delete_refusals, update_refusals, own_source, is_left_out as is_left_out_of, is_wrong_count as is_wrong_count_of, is_misfit_row as is_misfit_row_of, is_misfit_set as is_misfit_set_of, is_misfit_cond};
 ghost use Rattle.sql_check.specs.First.{first, rows_first, delete_list, update_list};
 
-use crate::kinds::{agrees, is_cond_misfit, is_misfit, kind_of, kind_of_expr};
-use crate::names::{column_named, column_names, name_twice, source_named, unknown_name};
+use crate::kinds::{is_cond_misfit, is_misfit, kind_of_expr};
+use crate::names::{column_names, name_twice, source_named, unknown_name};
 use crate::query::{either, kinds_differ};
 use crate::references::{bad_in_cond, bad_in_sets};
-use cell_core::{Cell, Column, Memory, Sequence, Word, copy_columns};
-use sql_semantics::{Called, Refusal, Schema, Source};
+use cell_calc::{agrees, kind_of};
+use cell_core::{Cell, Column, Memory, Sequence, Word};
+use sql_semantics::{Called, Refusal, Schema, Source, column_named, targets};
 use sql_tree::{Cond, Expr, printed_name};
 use std::alloc::Global;
 
@@ -46,25 +47,6 @@ pub(crate) fn drop_refusal(
         return Ok(None);
     }
     Ok(Some(Refusal::NoTable(printed_name(alloc, table)?)))
-}
-
-/// The columns with these names, those that are there.
-fn listed_columns(
-    alloc: Global,
-    columns: &[Column],
-    listed: &[Word],
-) -> Result<Sequence<Column>, Memory>
-    ensures { IfOk result (λ found. found ≡ filter_map (column_named_of columns.now) listed.now) }
-{
-    let mut found = Sequence::new(alloc);
-    let mut rest = listed;
-    'names: while let [name, more @ ..] = rest {
-        if let Some(column) = column_named(columns, name) {
-            found.push(column.share()?)?;
-        }
-        rest = more;
-    }
-    Ok(found)
 }
 
 /// Whether a column isn't listed.
@@ -159,17 +141,6 @@ fn rows_refusal(columns: &[Column], listed: &[Column], rows: &[Sequence<Cell>]) 
     let count = wrong_count(is_wrong_count(columns, listed, rows));
     let kinds = kinds_differ(are_rows_misfit(listed, rows));
     either(count, kinds)
-}
-
-/// The columns that the values of a row go to: all of them where none is listed.
-fn targets(alloc: Global, columns: &[Column], listed: &[Word]) -> Result<Sequence<Column>, Memory>
-    ensures { IfOk result (λ found. found ≡ targets_of columns.now listed.now) }
-{
-    if listed.is_empty() {
-        copy_columns(alloc, columns)
-    } else {
-        listed_columns(alloc, columns, listed)
-    }
 }
 
 /// The refusal of an INSERT into a table.

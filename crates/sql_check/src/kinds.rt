@@ -9,55 +9,10 @@ ghost use Rattle.sql_semantics.specs.Check.{is_misfit_cond};
 ghost use Rattle.sql_check.specs.First.{exprs_of, kind_at_place};
 
 use crate::references::place;
-use cell_core::{Cell, Column, Kind};
+use cell_calc::{agrees, are_comparable, kind_of};
+use cell_core::{Column, Kind};
 use sql_semantics::Called;
 use sql_tree::{AggOp, ColRef, Cond, Expr, Item};
-
-/// The kind of a cell; that of Nil is none.
-pub(crate) fn kind_of(cell: &Cell) -> Option<Kind>
-    ensures { result ≡ kinds.kind_of cell.now }
-{
-    match cell {
-        Cell::Nil => None,
-        Cell::Int(_) => Some(Kind::Int),
-        Cell::Huge(_) => Some(Kind::Huge),
-        Cell::Text(_) => Some(Kind::Text),
-        Cell::Day(_) => Some(Kind::Day),
-        Cell::Bit(_) => Some(Kind::Bit),
-        Cell::Oid(_) => Some(Kind::Oid),
-    }
-}
-
-/// The two are equal.
-fn is_same(a: Kind, b: Kind) -> bool
-    ensures { result ≡ kinds.same_kind a b }
-{
-    a == b
-}
-
-/// The two kinds are equal, or one of them is that of Nil.
-pub(crate) fn agrees(a: Option<Kind>, b: Option<Kind>) -> bool
-    ensures { result ≡ kinds.agrees a b }
-{
-    match (a, b) {
-        (Some(a), Some(b)) => is_same(a, b),
-        _ => true,
-    }
-}
-
-/// A number, of which Nil may be one.
-fn is_numeric(kind: Option<Kind>) -> bool
-    ensures { result ≡ kinds.is_numeric kind }
-{
-    agrees(kind, Some(Kind::Int)) || agrees(kind, Some(Kind::Huge))
-}
-
-/// Numbers compare with numbers, other cells with those of their kind.
-fn are_comparable(a: Option<Kind>, b: Option<Kind>) -> bool
-    ensures { result ≡ kinds.are_comparable a b }
-{
-    agrees(a, b) || (is_numeric(a) && is_numeric(b))
-}
 
 /// The column at a place.
 fn column_at<'a>(sources: &[Called<'a>], place: (usize, usize)) -> Option<&'a Column>

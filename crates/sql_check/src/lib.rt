@@ -2,7 +2,8 @@
 //!
 //! It stands on `sql_semantics`, whose definition of the check its one public call (`check`) gives
 //! exactly: the first of a statement's refusals, in their order, or the statement with the tables that
-//! it speaks of. Each part is looked at once; want of memory alone is free.
+//! it speaks of. Kinds are those of `cell_calc`. Each part is looked at once; want of memory alone is
+//! free.
 #![tactic(auto)]
 
 mod accept;

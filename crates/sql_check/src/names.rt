@@ -1,14 +1,14 @@
 //! Tables and columns by their names, and names that repeat.
-ghost use Rattle.std.specs.Prelude.{◌≡◌, map, filter, take, slice_get, IfOk};
+ghost use Rattle.std.specs.Prelude.{◌≡◌, map, slice_get, IfOk};
 ghost use Rattle.std.specs.List.{list_any};
-ghost use Rattle.std.specs.Option.{option_copied, option_map};
+ghost use Rattle.std.specs.Option.{option_copied};
 ghost use Rattle.std.specs.Str.{bytes_eq};
 ghost use Rattle.sql_semantics.specs.Sources.{source_named as source_named_of};
-ghost use Rattle.sql_semantics.specs.Check.{repeated as repeated_of, names_twice, column_named as column_named_of, unknown_names};
+ghost use Rattle.sql_semantics.specs.Check.{repeated as repeated_of, names_twice, unknown_names};
 ghost use Rattle.sql_check.specs.First.{first};
 
 use cell_core::{Column, Memory, Sequence, Word};
-use sql_semantics::{Refusal, Schema, Source};
+use sql_semantics::{Refusal, Schema, Source, column_named};
 use sql_tree::printed_name;
 use std::alloc::Global;
 
@@ -20,20 +20,6 @@ pub(crate) fn source_named<'a>(schema: &'a Schema, name: &Word) -> Option<&'a So
     'tables: while let [source, more @ ..] = rest {
         if source.table == *name {
             return Some(source);
-        }
-        rest = more;
-    }
-    None
-}
-
-/// The column with this name.
-pub(crate) fn column_named<'a>(columns: &'a [Column], name: &Word) -> Option<&'a Column>
-    ensures { option_copied result ≡ column_named_of columns.now name.now }
-{
-    let mut rest = columns;
-    'columns: while let [column, more @ ..] = rest {
-        if column.name == *name {
-            return Some(column);
         }
         rest = more;
     }

@@ -6,6 +6,7 @@ use Rattle.std.specs.List.{list_any}
 use Rattle.cell_core.specs.declared.cell.Cell.{Cell}
 use Rattle.cell_core.specs.declared.cell.Cell.TheVariants as cell
 use Rattle.cell_core.specs.declared.table.Column.{Column}
+use Rattle.sql_tree.specs.Exprs.{exprs_of_cond}
 use Rattle.sql_tree.specs.Tree.{ExprTree, CondTree, ItemTree, QueryTree, StmtTree}
 use Rattle.sql_tree.specs.Tree.ExprTree.{Literal, ColumnOf, Operator, AggregateAll, Aggregate}
 use Rattle.sql_tree.specs.Tree.CondTree.{Compare, Within, Negation, Both, Either}
@@ -208,18 +209,7 @@ cond_nodes (Negation cond) = cond_nodes cond + 1
 cond_nodes (Both left right) = cond_nodes left + cond_nodes right + 1
 cond_nodes (Either left right) = cond_nodes left + cond_nodes right + 1
 
--- the expressions of a condition, each side of a test being one
-abbrev pub cond_exprs : CondTree → List ExprTree
-cond_exprs (Compare op left right) = left ∷ right ∷ []
-cond_exprs (Within of low high) = of ∷ low ∷ high ∷ []
-cond_exprs (Negation cond) = cond_exprs cond
-cond_exprs (Both left right) = cond_exprs left ++ cond_exprs right
-cond_exprs (Either left right) = cond_exprs left ++ cond_exprs right
-
-abbrev pub exprs_of_cond : Option CondTree → List ExprTree
-exprs_of_cond None = []
-exprs_of_cond (Some cond) = cond_exprs cond
-
+-- the expressions of a statement
 abbrev pub stmt_exprs : StmtTree → List ExprTree
 stmt_exprs (Select query) = map (λ (item : ItemTree). item.expr) query.items ++ exprs_of_cond query.cond ++ exprs_of_cond query.having
 stmt_exprs (ExplainSelect query) = map (λ (item : ItemTree). item.expr) query.items ++ exprs_of_cond query.cond ++ exprs_of_cond query.having

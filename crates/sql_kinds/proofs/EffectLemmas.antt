@@ -16,7 +16,7 @@ use Rattle.sql_tree.specs.Tree.StmtTree.{CreateTable, DropTable, InsertInto, Del
 use Rattle.sql_semantics.specs.declared.refusal.Refusal.{Refusal}
 use Rattle.sql_semantics.specs.declared.refusal.Refusal.TheVariants.{TableExists, WrongCount, KindsDiffer}
 use Rattle.sql_semantics.specs.declared.source.Source.{Source}
-use Rattle.sql_semantics.specs.References.{exprs_of_cond}
+use Rattle.sql_tree.specs.Exprs.{exprs_of_cond}
 use Rattle.sql_semantics.specs.Sources.{source_named, schema_of}
 use Rattle.sql_semantics.specs.Check.{refused_if, names_twice, unknown_names, column_named, targets, is_wrong_count, is_misfit_row, is_misfit_set, is_misfit_cond, bad_in_exprs, create_refusals, insert_refusals, update_refusals, over_table, check_refusal}
 use Rattle.sql_semantics.specs.Effect.{Change, unless_refused, placed, inserted, own_table, is_hit, deleted, updated_row, updated, changed_by, changed, created, dropped, accepted, effect_unless, effect, replay_from}

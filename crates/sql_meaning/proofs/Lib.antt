@@ -1,5 +1,3 @@
-pub mod CalcLemmas
-pub mod AggregateLemmas
 pub mod ValueLemmas
 pub mod ListLemmas
 pub mod KeptLemmas

@@ -1,4 +1,3 @@
-pub mod Extremes
 pub mod Scopes
 pub mod Behind
 pub mod Members

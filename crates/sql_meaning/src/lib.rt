@@ -1,12 +1,12 @@
 //! The plain programs of what SQL means: today what a query answers over a database (`slow_answer`).
 //!
-//! It stands on `sql_semantics`, whose definition of the answer it gives exactly: loops over choices of
-//! rows, groups and cells, without columns, hashes or plans. A choice holds rows that are lent, so no
+//! It stands on `sql_semantics`, whose definition of the answer it gives exactly, and on `cell_calc` for
+//! the functions and aggregates of cells: loops over choices of rows, groups and cells, without columns,
+//! hashes or plans. A choice holds rows that are lent, so no
 //! row is copied before it is shown. The values of expressions and the truth of a condition over such a
 //! choice (`cell_over`, `overflows_over`, `is_kept`) serve the crate of changes too.
 #![tactic(auto)]
 
-mod aggregates;
 mod answer;
 mod calc;
 mod groups;

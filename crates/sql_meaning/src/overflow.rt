@@ -3,7 +3,7 @@ ghost use Rattle.std.specs.Prelude.{◌≡◌, ◌++◌, ◌||◌, flat_map, IfO
 ghost use Rattle.std.specs.List.{list_any};
 ghost use Rattle.std.specs.Option.{option_map};
 ghost use Rattle.sql_tree.specs.Tree.{cond_tree, expr_tree};
-ghost use Rattle.sql_semantics.specs.References.{cond_exprs, exprs_of_cond};
+ghost use Rattle.sql_tree.specs.Exprs.{cond_exprs, exprs_of_cond};
 ghost use Rattle.sql_semantics.specs.Values.{constant_overflows as constant_overflows_of, over_choices};
 ghost use Rattle.sql_semantics.specs.Rows.{overflows_for};
 ghost use Rattle.sql_meaning.specs.Exprs.{exprs_of};

@@ -1,15 +1,15 @@
 //! Expressions and conditions over a choice of rows or a group of choices.
-ghost use Rattle.std.specs.Prelude.{◌≡◌, length, map, pos, IfOk};
+ghost use Rattle.std.specs.Prelude.{◌≡◌, map, IfOk};
 ghost use Rattle.std.specs.Option.{option_map};
 ghost use Rattle.sql_tree.specs.Tree.{cond_tree, expr_tree};
 ghost use Rattle.sql_semantics.specs.Values.{cell_over as cell_over_of, group_cell as group_cell_of, first_choice as first_choice_of};
 ghost use Rattle.sql_semantics.specs.Truth.{truth as truth_of, holds as holds_of};
 ghost use Rattle.sql_meaning.specs.Scopes.{cell_in as cell_in_of};
 
-use crate::aggregates::{aggregate, count};
-use crate::calc::{both, compare_by, either, opposite};
+use crate::calc::{aggregate, compare_by, count};
 use crate::row::Row;
 use crate::value::cell_over;
+use cell_calc::{both, either, opposite};
 use cell_core::{Cell, Memory, Sequence};
 use sql_semantics::Called;
 use sql_tree::{CmpOp, Cond, Expr};
@@ -65,7 +65,7 @@ pub(crate) fn group_cell(
         Expr::Agg { of: None, .. } => count(group.len()),
         Expr::Agg { f, of: Some(of) } => {
             let cells = cells_over(alloc, sources, group, of)?;
-            aggregate(alloc, *f, cells.as_slice())
+            aggregate(*f, cells.as_slice())
         }
         Expr::Lit(_) => cell_over(sources, first_choice(group), expr),
         Expr::Col(_) => cell_over(sources, first_choice(group), expr),

@@ -6,7 +6,8 @@ use Rattle.std.specs.List.{list_any}
 use Rattle.std.proofs.lemmas.List.{map-append}
 use Rattle.std.proofs.lemmas.List.Folds.{list_any-append}
 use Rattle.cell_core.specs.declared.cell.Cell.TheVariants as cell
-use Rattle.sql_grammar.specs.Refused.{expr_nodes, cond_nodes, cond_exprs, has_column_arithmetic, has_wide_literal}
+use Rattle.sql_tree.specs.Exprs.{cond_exprs}
+use Rattle.sql_grammar.specs.Refused.{expr_nodes, cond_nodes, has_column_arithmetic, has_wide_literal}
 use Rattle.sql_parse.proofs.BoundedExprs.{arithmetic_kept, unread_kept, expr_whole}
 use Rattle.sql_parse.proofs.Lists.{both, or_left, or_right, or_swapped, or_false, added, unchanged, of_choice, is_past, is_within, same_past}
 use Rattle.sql_reader.specs.Bounded.{some_column, has_unread, cond_has_unread, with_arithmetic, with_unread_test, with_cond_signs, bounded_join, bounded}

@@ -7,7 +7,8 @@ use Rattle.std.proofs.lemmas.Bool.Decides.{nat_tests}
 use Rattle.std.proofs.lemmas.List.{length-map, map-append}
 use Rattle.std.proofs.lemmas.List.Folds.{list_any-append}
 use Rattle.cell_core.specs.declared.table.Column.{Column}
-use Rattle.sql_grammar.specs.Refused.{is_out_of_range, is_wide_place, is_wide_limit, expr_nodes, nodes_of_cond, exprs_of_cond, stmt_exprs, passes_literal, columns_pass, query_passes, passes_conditions, passed_limits, first_passed, is_long_name, left_out, cond_left_out, query_left_out}
+use Rattle.sql_tree.specs.Exprs.{exprs_of_cond}
+use Rattle.sql_grammar.specs.Refused.{is_out_of_range, is_wide_place, is_wide_limit, expr_nodes, nodes_of_cond, stmt_exprs, passes_literal, columns_pass, query_passes, passes_conditions, passed_limits, first_passed, is_long_name, left_out, cond_left_out, query_left_out}
 use Rattle.sql_grammar.specs.Statements.{Derives}
 use Rattle.sql_parse.proofs.BoundedExprs.{cell_kept, unread_kept, large_kept}
 use Rattle.sql_parse.proofs.BoundedConds.{cond_arithmetic_kept, cond_unread_kept, large_cond_kept, cond_exprs_kept}

@@ -5,7 +5,8 @@ use Rattle.std.specs.List.{list_any}
 use Rattle.std.specs.Option.{option_map}
 use Rattle.std.proofs.lemmas.Bool.Decides.{nat_tests}
 use Rattle.cell_core.specs.declared.table.Column.{Column}
-use Rattle.sql_grammar.specs.Refused.{is_out_of_range, is_wide_cell, has_wide_literal, has_wide_number, is_wide_place, is_wide_limit, expr_nodes, nodes_of_cond, exprs_of_cond, stmt_exprs, passes_literal, columns_pass, passes_conditions, passed_limits, first_passed}
+use Rattle.sql_tree.specs.Exprs.{exprs_of_cond}
+use Rattle.sql_grammar.specs.Refused.{is_out_of_range, is_wide_cell, has_wide_literal, has_wide_number, is_wide_place, is_wide_limit, expr_nodes, nodes_of_cond, stmt_exprs, passes_literal, columns_pass, passes_conditions, passed_limits, first_passed}
 use Rattle.sql_parse.proofs.BoundedExprs.{cell_whole, expr_whole}
 use Rattle.sql_parse.proofs.BoundedConds.{is_past_limits, append_left, append_right, cond_whole}
 use Rattle.sql_parse.proofs.BoundedStmts.{kept_stmt, kept_query, kept_item, kept_set, kept_key, kept_column}

@@ -21,7 +21,8 @@ use Rattle.sql_grammar.specs.Grammar.ConjsRule.{NoConj, MoreConjs}
 use Rattle.sql_grammar.specs.Grammar.ConjRule.{Conjunction}
 use Rattle.sql_grammar.specs.Grammar.UnitsRule.{NoUnit, MoreUnits}
 use Rattle.sql_grammar.specs.Grammar.UnitRule.{NotUnit, CondUnit, TestUnit}
-use Rattle.sql_grammar.specs.Refused.{is_out_of_range, is_wide_cell, has_wide_literal, cond_exprs}
+use Rattle.sql_tree.specs.Exprs.{cond_exprs}
+use Rattle.sql_grammar.specs.Refused.{is_out_of_range, is_wide_cell, has_wide_literal}
 use Rattle.sql_grammar.specs.Written.{IsLiteral}
 use Rattle.sql_printed.proofs.NamedLemmas.{Named, IsTold, all_parts, column_told}
 use Rattle.sql_printed.specs.Printable.{IsPrintableExpr, IsPrintableValue, IsPrintableCond}

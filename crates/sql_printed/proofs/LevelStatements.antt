@@ -9,7 +9,8 @@ use Rattle.cell_core.specs.declared.cell.Kind.{Kind}
 use Rattle.cell_core.specs.declared.cell.Kind.TheVariants as kind
 use Rattle.cell_core.specs.declared.table.Column.{Column}
 use Rattle.sql_grammar.specs.Grammar.{sign, write_behind, write_name, write_literal, write_column, write_where, write_cond, write_value}
-use Rattle.sql_grammar.specs.Refused.{expr_nodes, is_too_deep, exprs_of_cond, nodes_of_cond, stmt_exprs, passes_conditions}
+use Rattle.sql_tree.specs.Exprs.{exprs_of_cond}
+use Rattle.sql_grammar.specs.Refused.{expr_nodes, is_too_deep, nodes_of_cond, stmt_exprs, passes_conditions}
 use Rattle.sql_grammar.specs.Statements.{write_alias, write_item, write_items, write_source, write_joins, write_place, write_order, write_key, write_digits, write_distinct, write_from, write_query, null_word, write_type, write_not_null, write_coldef, write_set, write_column_list, write_row, write_stmt}
 use Rattle.sql_grammar.specs.Statements.TypeRule.{TextType, VarcharType}
 use Rattle.sql_grammar.specs.Written.{IsLiteral}

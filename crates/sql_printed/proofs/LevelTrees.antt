@@ -7,7 +7,8 @@ use Rattle.cell_core.specs.declared.cell.Cell.{Cell}
 use Rattle.cell_core.specs.declared.cell.Cell.TheVariants as cell
 use Rattle.sql_grammar.specs.Grammar.{sign, NameRule, write_name, write_literal, write_column, FactorRule, write_expr, write_factor, aggregate_word, write_value, write_cmp, write_cond, write_unit, write_where}
 use Rattle.sql_grammar.specs.Grammar.NameRule.{BareName, QuotedName}
-use Rattle.sql_grammar.specs.Refused.{expr_nodes, cond_nodes, cond_exprs}
+use Rattle.sql_tree.specs.Exprs.{cond_exprs}
+use Rattle.sql_grammar.specs.Refused.{expr_nodes, cond_nodes}
 use Rattle.sql_grammar.specs.Written.{IsLiteral}
 use Rattle.sql_printed.proofs.LevelLemmas.{Deep, flat, minus, denial, enclosed, deeper, both}
 use Rattle.sql_printed.proofs.NamedLemmas.{all_parts}

@@ -3,7 +3,8 @@ use Rattle.std.proofs.Common.{◌≡◌, ℕ, List, [], ◌∷◌, ◌++◌, map
 use Rattle.std.specs.List.{AllByRecursion, list_any}
 use Rattle.std.proofs.lemmas.Bool.{or_parts}
 use Rattle.sql_grammar.specs.Grammar.{number_of, write_behind, write_some, write_column, column_of, write_value, value_of, write_cond, cond_of, WhereRule, write_where, where_of}
-use Rattle.sql_grammar.specs.Refused.{query_left_out, stmt_exprs, exprs_of_cond, has_wide_literal, is_wide_place, is_wide_limit, has_wide_number, passes_literal}
+use Rattle.sql_tree.specs.Exprs.{exprs_of_cond}
+use Rattle.sql_grammar.specs.Refused.{query_left_out, stmt_exprs, has_wide_literal, is_wide_place, is_wide_limit, has_wide_number, passes_literal}
 use Rattle.sql_grammar.specs.Statements.{write_alias, alias_of, write_item, item_of, ItemsRule, write_items, items_of, write_source, source_of, JoinRule, write_joins, joined_source, and_also, on_conds, with_where, OrderRule, write_order, write_key, key_of, FromRule, write_digits, write_from, write_distinct, write_optional_from, query_from, QueryRule, write_query, query_of}
 use Rattle.sql_grammar.specs.Statements.AliasRule.{NoAlias, BareAlias, AsAlias}
 use Rattle.sql_grammar.specs.Statements.ItemsRule.{AllColumns, SomeItems}

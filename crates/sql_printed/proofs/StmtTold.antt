@@ -10,7 +10,8 @@ use Rattle.sql_grammar.specs.Reads.{tokens_in, statement_bytes, reading_of, Toke
 use Rattle.sql_grammar.specs.Reads.TokensRead.{RuleApplies, TooDeep, Underived, Derived}
 use Rattle.sql_grammar.specs.Reads.IsReadAs.{Untold, Told}
 use Rattle.sql_grammar.specs.Written.{IsLiteral}
-use Rattle.sql_grammar.specs.Refused.{is_long_name, left_out, exprs_of_cond, is_wide_cell, has_wide_literal, passes_literal, columns_pass, passed_limits, first_passed}
+use Rattle.sql_tree.specs.Exprs.{exprs_of_cond}
+use Rattle.sql_grammar.specs.Refused.{is_long_name, left_out, is_wide_cell, has_wide_literal, passes_literal, columns_pass, passed_limits, first_passed}
 use Rattle.sql_grammar.specs.Statements.{TypeRule, write_type, kind_of, width_of, write_not_null, write_coldef, coldef_of, write_set, set_of, write_column_list, write_row, row_of, StmtRule, write_stmt, stmt_of}
 use Rattle.sql_grammar.specs.Statements.TypeRule.{IntType, IntegerType, BigintType, TextType, DateType, VarcharType}
 use Rattle.sql_grammar.specs.Statements.StmtRule.{CreateRule, DropRule, InsertRule, DeleteRule, UpdateRule, SelectRule, ExplainRule}

@@ -6,7 +6,8 @@ use Rattle.std.specs.Prelude.{[], Bool, not, ◌&&◌, nat_lt, if◌then◌else�
 use Rattle.std.specs.List.{list_any}
 use Rattle.cell_core.specs.declared.cell.Cell.{Cell}
 use Rattle.cell_core.specs.declared.cell.Cell.TheVariants as cell
-use Rattle.sql_grammar.specs.Refused.{expr_nodes, cond_nodes, cond_exprs, has_column, has_column_arithmetic, is_out_of_range}
+use Rattle.sql_tree.specs.Exprs.{cond_exprs}
+use Rattle.sql_grammar.specs.Refused.{expr_nodes, cond_nodes, has_column, has_column_arithmetic, is_out_of_range}
 use Rattle.sql_refusals.specs.Unread.{has_literal, is_unread_cell}
 use Rattle.sql_tree.specs.Tree.{ExprTree, CondTree}
 use Rattle.sql_tree.specs.Tree.ExprTree.{Literal, ColumnOf, Operator}

@@ -23,7 +23,8 @@ use Rattle.sql_grammar.specs.Statements.{AliasRule, item_of, ItemsRule, items_of
 use Rattle.sql_grammar.specs.Statements.ItemsRule.{AllColumns, SomeItems}
 use Rattle.sql_grammar.specs.Statements.JoinRule.{CommaSource, JoinOn}
 use Rattle.sql_grammar.specs.Statements.StmtRule.{CreateRule, DropRule, InsertRule, DeleteRule, UpdateRule, SelectRule, ExplainRule}
-use Rattle.sql_grammar.specs.Refused.{cond_exprs, exprs_of_cond, stmt_exprs}
+use Rattle.sql_tree.specs.Exprs.{cond_exprs, exprs_of_cond}
+use Rattle.sql_grammar.specs.Refused.{stmt_exprs}
 use Rattle.sql_tree.specs.Tree.{ExprTree, CondTree, ItemTree}
 use Rattle.sql_tree.specs.Tree.CondTree.{Compare, Either}
 use Rattle.sql_tree.specs.Tree.StmtTree.{Select}

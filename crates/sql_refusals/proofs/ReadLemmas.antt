@@ -7,7 +7,8 @@ use Rattle.std.proofs.lemmas.List.{length-map, map-append}
 use Rattle.cell_core.specs.declared.cell.Cell.{Cell}
 use Rattle.cell_core.specs.declared.cell.Cell.TheVariants as cell
 use Rattle.cell_core.specs.declared.table.Column.{Column}
-use Rattle.sql_grammar.specs.Refused.{is_out_of_range, is_wide_cell, has_wide_literal, expr_nodes, cond_nodes, cond_exprs, exprs_of_cond, stmt_exprs, nodes_of_cond, is_wide_place, is_wide_limit, has_wide_number, passes_literal, passed_limits, passes_conditions, is_long_name, columns_pass, query_passes}
+use Rattle.sql_tree.specs.Exprs.{cond_exprs, exprs_of_cond}
+use Rattle.sql_grammar.specs.Refused.{is_out_of_range, is_wide_cell, has_wide_literal, expr_nodes, cond_nodes, stmt_exprs, nodes_of_cond, is_wide_place, is_wide_limit, has_wide_number, passes_literal, passed_limits, passes_conditions, is_long_name, columns_pass, query_passes}
 use Rattle.sql_tree.specs.Tree.{ExprTree, CondTree, ItemTree, QueryTree, StmtTree}
 use Rattle.sql_tree.specs.Tree.ExprTree.{Literal, ColumnOf, Operator, AggregateAll, Aggregate}
 use Rattle.sql_tree.specs.Tree.CondTree.{Compare, Within, Negation, Both, Either}

@@ -18,7 +18,8 @@ use Rattle.sql_semantics.specs.declared.refusal.Refusal.TheVariants.{NoTable, Ta
 use Rattle.sql_semantics.specs.declared.source.Schema.{Schema}
 use Rattle.sql_semantics.specs.declared.source.Source.{Source}
 use Rattle.sql_semantics.specs.Sources.{NamedSource, source_named, from_name, from_sources, called_sources, places, place_of, same_place}
-use Rattle.sql_semantics.specs.References.{references, outer_references, exprs_of_cond, items_of, item_exprs, is_grouped}
+use Rattle.sql_tree.specs.Exprs.{exprs_of_cond}
+use Rattle.sql_semantics.specs.References.{references, outer_references, items_of, item_exprs, is_grouped}
 use Rattle.sql_semantics.specs.Kinds.{kind_of_expr, is_misfit, is_cond_misfit}
 use Rattle.sql_semantics.specs.Answer.{key_place}
 

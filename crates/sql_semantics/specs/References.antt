@@ -1,10 +1,9 @@
 -- The expressions and the columns that a statement names, in the order of its text, and what `*` stands for.
-use Rattle.std.specs.Prelude.{ℕ, List, [], ◌∷◌, ◌++◌, length, map, flat_map, Bool, true, false, ◌&&◌, ◌||◌, ◌==◌, not, Option, Some, None, is_some, if◌then◌else◌}
+use Rattle.std.specs.Prelude.{ℕ, List, [], ◌∷◌, ◌++◌, length, map, flat_map, Bool, true, false, ◌&&◌, ◌||◌, ◌==◌, not, Some, None, is_some, if◌then◌else◌}
 use Rattle.std.specs.List.{list_any}
 use Rattle.cell_core.specs.declared.table.Column.{Column}
-use Rattle.sql_tree.specs.Tree.{ExprTree, CondTree, ItemTree, QueryTree}
+use Rattle.sql_tree.specs.Tree.{ExprTree, ItemTree, QueryTree}
 use Rattle.sql_tree.specs.Tree.ExprTree.{Literal, ColumnOf, Operator, AggregateAll, Aggregate}
-use Rattle.sql_tree.specs.Tree.CondTree.{Compare, Within, Negation, Both, Either}
 use Rattle.sql_tree.specs.declared.tree.ColRef.{ColRef}
 use Rattle.sql_semantics.specs.Sources.{NamedSource}
 
@@ -41,20 +40,6 @@ has_aggregate (ColumnOf ref) = false
 has_aggregate (Operator op left right) = has_aggregate left || has_aggregate right
 has_aggregate (AggregateAll f) = true
 has_aggregate (Aggregate f of) = true
-
--- ## Conditions
-
--- the expressions of a condition: each side of a test is one
-abbrev pub cond_exprs : CondTree → List ExprTree
-cond_exprs (Compare op left right) = left ∷ right ∷ []
-cond_exprs (Within of low high) = of ∷ low ∷ high ∷ []
-cond_exprs (Negation cond) = cond_exprs cond
-cond_exprs (Both left right) = cond_exprs left ++ cond_exprs right
-cond_exprs (Either left right) = cond_exprs left ++ cond_exprs right
-
-abbrev pub exprs_of_cond : Option CondTree → List ExprTree
-exprs_of_cond None = []
-exprs_of_cond (Some cond) = cond_exprs cond
 
 -- ## Queries
 

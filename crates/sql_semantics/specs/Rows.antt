@@ -8,7 +8,8 @@ use Rattle.cell_core.specs.Groups.{distinct}
 use Rattle.sql_tree.specs.Tree.{ExprTree, QueryTree}
 use Rattle.sql_tree.specs.declared.tree.ColRef.{ColRef}
 use Rattle.sql_semantics.specs.Sources.{NamedSource, NamedTable, source_of, rows_of}
-use Rattle.sql_semantics.specs.References.{item_exprs, exprs_of_cond, is_grouped}
+use Rattle.sql_tree.specs.Exprs.{exprs_of_cond}
+use Rattle.sql_semantics.specs.References.{item_exprs, is_grouped}
 use Rattle.sql_semantics.specs.Values.{Choice, value, column_cell, cell_over, group_cell, constant_overflows, over_choices}
 use Rattle.sql_semantics.specs.Truth.{holds}
 use Rattle.sql_semantics.specs.Kept.{kept}

@@ -7,16 +7,19 @@
 //! rows of a query (`Rows`), its answer (`Answer`), what a change does (`Effect`), and the refusals in
 //! their order (`Check`, `Refusals`). They know no plan, no column store and no order of work. The
 //! crates above compute them; here stand what those crates share: refusals and replies, tables without
-//! rows, a checked statement (`Typed`), and `find_column`, which gives the place of a column reference.
+//! rows, a checked statement (`Typed`), `find_column`, which gives the place of a column reference, and
+//! `targets`, the columns that the values of an INSERT go to.
 #![tactic(auto)]
 
 mod called;
+mod columns;
 mod items;
 mod refusal;
 mod source;
 mod typed;
 
 pub use called::{Called, Found, column_place, find_column};
+pub use columns::{column_named, targets};
 pub use items::{all_columns, has_aggregate, is_grouped, key_place};
 pub use refusal::{Refusal, Reply};
 pub use source::{Schema, Source};

@@ -1,6 +1,6 @@
 -- Lists of code values, seen as lists of trees.
 use Rattle.std.proofs.Common.{◌≡◌, List, [], ◌∷◌, map, refl, ap}
-use Rattle.sql_tree.specs.Canon.{set_text, item_text, items_text, listed}
+use Rattle.sql_tree.specs.Canon.{set_text, item_text}
 use Rattle.sql_tree.specs.Tree.{set_tree, item_tree}
 use Rattle.std.specs.Prelude.{ℕ}
 use Rattle.sql_tree.specs.declared.tree.Expr.{Expr}

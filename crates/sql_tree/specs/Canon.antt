@@ -1,5 +1,5 @@
 -- The canonical text of a statement: words in upper case, one space between tokens.
-use Rattle.std.specs.Prelude.{ℕ, ◌==◌, List, [], ◌∷◌, ◌++◌, Bool, true, false, ◌&&◌, map, flat_map, if◌then◌else◌, Option, Some, None, codes, decimal, ℤ, pos, negsuc, int_le}
+use Rattle.std.specs.Prelude.{ℕ, ◌==◌, List, [], ◌∷◌, ◌++◌, Bool, ◌&&◌, map, flat_map, if◌then◌else◌, Option, Some, None, codes, decimal, ℤ, pos, negsuc, int_le}
 use Rattle.cell_core.specs.Day.{day_text}
 use Rattle.cell_core.specs.CellText.{cell_text}
 use Rattle.cell_core.specs.declared.cell.Cell.{Cell}

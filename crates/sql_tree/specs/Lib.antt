@@ -5,3 +5,4 @@ pub mod Pieces
 pub mod Tokens
 pub mod Tree
 pub mod Canon
+pub mod Exprs

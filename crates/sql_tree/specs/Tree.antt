@@ -1,6 +1,6 @@
 -- Statements as plain data, without the pointers by which the code keeps them, and how each type of the
 -- code is seen as that.
-use Rattle.std.specs.Prelude.{ℕ, List, Bool, map, Option, Some, None}
+use Rattle.std.specs.Prelude.{ℕ, List, Bool, map, Option}
 use Rattle.std.specs.Option.{option_map}
 use Rattle.cell_core.specs.declared.cell.Cell.{Cell}
 use Rattle.cell_core.specs.declared.table.Column.{Column}

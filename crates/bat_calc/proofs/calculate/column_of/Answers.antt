@@ -1,5 +1,4 @@
 use Rattle.std.proofs.Common.{◌≡◌, ◌≤◌, List, length, take, subst, sym, ap, ◌∙◌}
-use Rattle.std.specs.Prelude.{replicate}
 use Rattle.std.specs.Result.{IfOk}
 use Rattle.cell_core.specs.declared.cell.Cell.{Cell}
 use Rattle.cell_core.specs.Pairs.{tails_of}

@@ -5,9 +5,10 @@ use Rattle.cell_core.specs.declared.cell.Cell.TheVariants.{Nil}
 use Rattle.cell_core.specs.Same.{same_cell, same_equivalence}
 use Rattle.cell_core.specs.Groups.{distinct}
 use Rattle.bat_group.specs.Numbers.{AreNumbered}
-use Rattle.bat_group.specs.Aggregates.{aggregate_of, members_of, IsWithin, AreWithin}
+use Rattle.cell_calc.specs.Aggregates.{aggregate_of, IsWithin}
+use Rattle.bat_group.specs.Members.{members_of, AreWithin}
 use Rattle.bat_group.proofs.NumberLemmas.{distinct_next, read_is}
-use Rattle.bat_group.proofs.AggregateLemmas.{within_more}
+use Rattle.bat_group.proofs.MemberLemmas.{within_more}
 use Rattle.bat_group.proofs.TotalLemmas.{before, firsts_now, begun, number_inside, finished, total_at, all_at, all_set, all_more}
 use Rattle.bat_group.proofs.subtotals.group_totals.Goals as goal
 

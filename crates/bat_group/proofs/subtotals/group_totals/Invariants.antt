@@ -2,7 +2,8 @@ use Rattle.std.proofs.Common.{◌≡◌, ◌≤◌, take, map}
 use Rattle.cell_core.specs.Same.{same_cell}
 use Rattle.cell_core.specs.Groups.{distinct}
 use Rattle.bat_group.specs.Numbers.{AreNumbered}
-use Rattle.bat_group.specs.Aggregates.{aggregate_of, members_of, AreWithin}
+use Rattle.cell_calc.specs.Aggregates.{aggregate_of}
+use Rattle.bat_group.specs.Members.{members_of, AreWithin}
 use Rattle.bat_group.proofs.subtotals.group_totals.Given as goal
 
 -- the groups so far are numbered, and each has the aggregate of the cells beside it so far

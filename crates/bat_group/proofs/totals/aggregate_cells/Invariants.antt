@@ -1,5 +1,5 @@
 use Rattle.std.proofs.Common.{◌≡◌, take}
-use Rattle.bat_group.specs.Aggregates.{aggregate_of, IsWithin}
+use Rattle.cell_calc.specs.Aggregates.{aggregate_of, IsWithin}
 use Rattle.bat_group.proofs.totals.aggregate_cells.Given as goal
 
 -- the aggregate of the cells so far

@@ -9,4 +9,4 @@ returns c =
     c.either-refusal.ensures
     ∙ ap (λ (x : Option Refusal). option_or x c.rows_refusal-of_rows.result) c.either-names.ensures
     ∙ insert_first c.args.listed.now c.args.rows.now c.args.source.now _ _ _ _ _ _
-    c.as_slice-columns.ensures c.in_ok-found.ensures c.as_slice.ensures c.in_ok-unknown.ensures c.in_ok-twice.ensures c.rows_refusal-of_rows.ensures
+    c.as_slice-columns.ensures c.in_ok-found.ensures.columns c.as_slice.ensures c.in_ok-unknown.ensures c.in_ok-twice.ensures c.rows_refusal-of_rows.ensures

@@ -1,0 +1,22 @@
+//! Functions and aggregates of cells, which plans over columns and the plain programs share.
+//!
+//! It stands on `cell_core`, whose definitions say what each function gives: arithmetic, where a number
+//! that leaves the signed 64-bit range is no cell, comparisons, and truth where Nil is unknown. An
+//! aggregate skips Nil, and takes one cell after another or a list of them, in one pass. The rules of
+//! which kinds agree are here too.
+#![tactic(auto)]
+
+mod aggregate;
+mod function;
+mod kinds;
+mod lists;
+#[cfg(test)]
+mod tests;
+
+pub use aggregate::Aggregate;
+pub use function::{
+    both, difference, either, is_above, is_at_least, is_at_most, is_below, is_equal, is_unequal,
+    opposite, product, sum,
+};
+pub use kinds::{agrees, are_comparable, both_are, is_numeric, kind_of};
+pub use lists::aggregate_cells;
