@@ -1,11 +1,11 @@
 -- What the definitions say of small cases, and of a whole run.
-use Rattle.std.proofs.Common.{◌≡◌, ℕ, zero, suc, ◌+◌, List, [], ◌∷◌, false, Some, None, Ok, Err, Result, pos, codes, refl, sym, subst, lit≤}
+use Rattle.std.proofs.Common.{◌≡◌, ℕ, zero, suc, ◌+◌, List, [], ◌∷◌, ◌++◌, map, false, Some, None, Ok, Err, Result, pos, codes, refl, subst, lit≤}
 use Rattle.std.specs.Prelude.{slice_get}
 use Rattle.std.specs.Fmt.{digits}
 use Rattle.cell_core.specs.declared.cell.Cell.{Cell}
 use Rattle.cell_core.specs.declared.cell.Cell.TheVariants as cell
 use Rattle.cell_core.specs.declared.cell.Kind.TheVariants as kind
-use Rattle.sql_tree.specs.Words.{keyword_of, is_unsupported_word}
+use Rattle.sql_tree.specs.Words.{keywords, keyword_of, unsupported_words, is_unsupported_word}
 use Rattle.sql_tree.specs.Tree.{ExprTree, QueryTree, StmtTree}
 use Rattle.sql_tree.specs.Tree.ExprTree.{Literal, ColumnOf}
 use Rattle.sql_tree.specs.Tree.CondTree.{Within}
@@ -13,7 +13,7 @@ use Rattle.sql_tree.specs.Tree.StmtTree.{CreateTable, DropTable, InsertInto, Sel
 use Rattle.sql_semantics.specs.declared.refusal.Refusal.{Refusal}
 use Rattle.sql_semantics.specs.declared.refusal.Refusal.TheVariants.{Syntax, NoTable}
 use Rattle.answer_text.specs.declared.event.Shown.TheVariants as shown
-use Rattle.answer_text.specs.Log.{EventTree, ActTree, Begins, Writes, Ends, acts_of, logged_of, IsOrdered}
+use Rattle.answer_text.specs.Log.{EventTree, ActTree, Begins, Writes, Ends, acts_over, tables_met, AreStatements, logged_of, IsOrdered}
 use Rattle.answer_text.specs.Layout.{record_text, reply_text, printed}
 
 -- ## Records and replies
@@ -51,7 +51,7 @@ refused_reply = refl
 
 -- CREATE TABLE t (a INT)
 abbrev pub create_t : StmtTree
-create_t = CreateTable (codes "t") (record { name = codes "a"; kind = kind.Int; width = 0; not_null = false } ∷ [])
+create_t = CreateTable (codes "t") (record { name = codes "a"; kind = kind.Int; width = 0; not_null = false; default = cell.Nil } ∷ [])
 
 -- INSERT INTO t VALUES (3), (1), (2)
 abbrev pub insert_t : StmtTree
@@ -87,12 +87,26 @@ log =
     event 1 1 (Writes (Some create_t) 0 0) ∷ event 1 2 (Writes (Some insert_t) 0 3)
     ∷ event 1 3 (Begins 0) ∷ event 1 3 (Ends 0) ∷ []
 
-acts : acts_of log 1 script ≡ logged_of 1 log
-unfolding keyword_of is_unsupported_word
+-- the acts of a session's statements from k on, each with its statement's number
+abbrev acts_from : List EventTree → ℕ → ℕ → List (Result StmtTree Refusal) → List (ℕ × ActTree)
+acts_from log session k [] = []
+acts_from log session k (reading ∷ readings) = map {B = ℕ × ActTree} (λ act. (k, act)) (acts_over (tables_met log session k) reading) ++ acts_from log session (k + 1) readings
+
+are_statements : (log : List EventTree) (session k : ℕ) (readings : List (Result StmtTree Refusal)) → AreStatements log session k readings (acts_from log session k readings)
+are_statements log session k [] = refl
+are_statements log session k (reading ∷ readings) =
+    (acts_over (tables_met log session k) reading, acts_from log session (k + 1) readings, refl, refl, are_statements log session (k + 1) readings)
+
+acts : acts_from log 1 1 script ≡ logged_of 1 log
+unfolding keyword_of keywords is_unsupported_word unsupported_words
 acts = refl
 
-statements : (i : ℕ) (readings : List (Result StmtTree Refusal)) → slice_get (script ∷ []) i ≡ Some readings → logged_of (i + 1) log ≡ acts_of log (i + 1) readings
-statements zero readings e = let here : script ≡ readings = cc in subst (λ rs. logged_of 1 log ≡ acts_of log 1 rs) here (sym acts)
+statements : (i : ℕ) (readings : List (Result StmtTree Refusal)) → slice_get (script ∷ []) i ≡ Some readings → AreStatements log (i + 1) 1 readings (logged_of (i + 1) log)
+statements zero readings e =
+    let here : script ≡ readings = cc in
+    let P : List (Result StmtTree Refusal) → Type 0 = λ rs. AreStatements log 1 1 rs (logged_of 1 log) in
+    let Q : List (ℕ × ActTree) → Type 0 = λ logged. AreStatements log 1 1 script logged in
+    subst P here (subst Q acts (are_statements log 1 1 script))
 statements (suc i) readings e = cc
 
 -- the log is one of this run
@@ -103,7 +117,7 @@ ordered = record {
 }
 
 output : printed (codes "a.sql" ∷ []) (script ∷ []) log ≡ codes "session 1 a.sql\n1 ok\n2 ok 3\n3 rows 2\n2\n3\nhistory 2\n1 1 1 CREATE TABLE t (a INT);\n2 1 2 INSERT INTO t VALUES (3), (1), (2);\n"
-unfolding keyword_of is_unsupported_word digits
+unfolding keyword_of keywords is_unsupported_word unsupported_words digits
 output = refl
 
 -- ## Two sessions
@@ -117,16 +131,16 @@ two_log =
 abbrev pub second_script : List (Result StmtTree Refusal)
 second_script = Ok insert_t ∷ Err Syntax ∷ Ok insert_t ∷ []
 
-first_acts : acts_of two_log 1 (Ok create_t ∷ []) ≡ logged_of 1 two_log
-unfolding keyword_of is_unsupported_word
+first_acts : acts_from two_log 1 1 (Ok create_t ∷ []) ≡ logged_of 1 two_log
+unfolding keyword_of keywords is_unsupported_word unsupported_words
 first_acts = refl
 
-second_acts : acts_of two_log 2 second_script ≡ logged_of 2 two_log
-unfolding keyword_of is_unsupported_word
+second_acts : acts_from two_log 2 1 second_script ≡ logged_of 2 two_log
+unfolding keyword_of keywords is_unsupported_word unsupported_words
 second_acts = refl
 
 two_output : printed (codes "a.sql" ∷ codes "b.sql" ∷ []) ((Ok create_t ∷ []) ∷ second_script ∷ []) two_log ≡ codes "session 1 a.sql\n1 ok\nsession 2 b.sql\n1 refused 3 no such table t\n2 refused 1 syntax\n3 ok 3\nhistory 2\n1 1 1 CREATE TABLE t (a INT);\n2 2 3 INSERT INTO t VALUES (3), (1), (2);\n"
-unfolding keyword_of is_unsupported_word digits
+unfolding keyword_of keywords is_unsupported_word unsupported_words digits
 two_output = refl
 
 -- ## EXPLAIN and DROP
@@ -140,10 +154,10 @@ explain_log =
 abbrev pub explain_script : List (Result StmtTree Refusal)
 explain_script = Ok (ExplainSelect query_a) ∷ Ok create_t ∷ Ok (ExplainSelect query_a) ∷ Ok (DropTable (codes "t")) ∷ []
 
-explain_acts : acts_of explain_log 1 explain_script ≡ logged_of 1 explain_log
-unfolding keyword_of is_unsupported_word
+explain_acts : acts_from explain_log 1 1 explain_script ≡ logged_of 1 explain_log
+unfolding keyword_of keywords is_unsupported_word unsupported_words
 explain_acts = refl
 
 explain_output : printed (codes "a.sql" ∷ []) (explain_script ∷ []) explain_log ≡ codes "session 1 a.sql\n1 refused 3 no such table t\n2 ok\n3 refused 2 unsupported NOT BUILT\n4 ok\nhistory 2\n1 1 2 CREATE TABLE t (a INT);\n2 1 4 DROP TABLE t;\n"
-unfolding keyword_of is_unsupported_word digits
+unfolding keyword_of keywords is_unsupported_word unsupported_words digits
 explain_output = refl

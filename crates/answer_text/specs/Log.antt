@@ -1,6 +1,6 @@
 -- The log: its commits, the place of a statement in it, and which events a run logs.
-use Rattle.std.specs.Prelude.{◌≡◌, ℕ, suc, ◌+◌, ◌-◌, ◌≤◌, ◌==◌, List, [], ◌∷◌, ◌++◌, length, map, filter, flat_map, take, Bool, true, false, ◌&&◌, if◌then◌else◌, Option, Some, None, Result, Ok, Err, codes, slice_get}
-use Rattle.std.specs.List.{filter_map, enumerate_from, AllByRecursion}
+use Rattle.std.specs.Prelude.{◌≡◌, ℕ, suc, ◌+◌, ◌-◌, ◌≤◌, ◌==◌, List, [], ◌∷◌, ◌++◌, length, map, filter, take, Bool, true, false, ◌&&◌, if◌then◌else◌, Option, Some, None, Result, Ok, Err, codes, slice_get}
+use Rattle.std.specs.List.{filter_map, AllByRecursion}
 use Rattle.std.specs.Option.{option_map}
 use Rattle.cell_core.specs.declared.cell.Cell.{Cell}
 use Rattle.cell_core.specs.declared.table.Db.{Db}
@@ -71,9 +71,9 @@ abbrev pub is_place : ℕ → ℕ → EventTree → Bool
 is_place session statement event = (event.session == session) && (event.statement == statement) && is_opening event.act
 
 -- the position of the first event that marks the statement's place
-abbrev pub place_in : ℕ → ℕ → List EventTree → ℕ
-place_in session statement [] = 1
-place_in session statement (event ∷ log) = if is_place session statement event then 1 else suc (place_in session statement log)
+abbrev pub statement_place : ℕ → ℕ → List EventTree → ℕ
+statement_place session statement [] = 1
+statement_place session statement (event ∷ log) = if is_place session statement event then 1 else suc (statement_place session statement log)
 
 -- ## Replies
 
@@ -130,12 +130,19 @@ acts_over db (Ok statement) = Writes (Some statement) (code_of (shown_over db (O
 
 -- the tables that a statement meets: those at its place
 abbrev pub tables_met : List EventTree → ℕ → ℕ → Db
-tables_met log session statement = tables_at log (place_in session statement log)
+tables_met log session statement = tables_at log (statement_place session statement log)
 
--- the acts of a session's statements, each with the statement's number, from 1
-abbrev pub acts_of : List EventTree → ℕ → List (Result StmtTree Refusal) → List (ℕ × ActTree)
-acts_of log session readings =
-    flat_map (λ (k, reading). map (λ act. (k, act)) (acts_over (tables_met log session k) reading)) (enumerate_from 1 readings)
+-- acts of a statement that meets these tables
+abbrev pub AreActs : Db → Result StmtTree Refusal → List ActTree → Type 0
+AreActs db reading acts = acts ≡ acts_over db reading
+
+-- acts with their statements' numbers are those of a session's statements from k on: of each statement once, in their order, and no others
+abbrev pub AreStatements : List EventTree → ℕ → ℕ → List (Result StmtTree Refusal) → List (ℕ × ActTree) → Type 0
+AreStatements log session k [] logged = logged ≡ []
+AreStatements log session k (reading ∷ readings) logged =
+    (acts : List ActTree) × (later : List (ℕ × ActTree)) × (logged ≡ map {B = ℕ × ActTree} (λ act. (k, act)) acts ++ later)
+    × AreActs (tables_met log session k) reading acts
+    × AreStatements log session (k + 1) readings later
 
 -- what a log says of a session: the acts of its events, each with its statement's number
 abbrev pub logged_of : ℕ → List EventTree → List (ℕ × ActTree)
@@ -144,4 +151,4 @@ logged_of session log = map (λ (event : EventTree). (event.statement, event.act
 -- each event is of a session, and each session's events are those of its statements, in their order, each once
 pub record IsOrdered (scripts : List (List (Result StmtTree Refusal))) (log : List EventTree) : Type 0 where
   pub sessions : AllByRecursion (λ (event : EventTree). (1 ≤ event.session) × (event.session ≤ length scripts)) log
-  pub statements : (i : ℕ) (readings : List (Result StmtTree Refusal)) → slice_get scripts i ≡ Some readings → logged_of (i + 1) log ≡ acts_of log (i + 1) readings
+  pub statements : (i : ℕ) (readings : List (Result StmtTree Refusal)) → slice_get scripts i ≡ Some readings → AreStatements log (i + 1) 1 readings (logged_of (i + 1) log)

@@ -14,6 +14,3 @@ mod reply;
 pub use event::{Act, Event, Shown};
 pub use history::write_history;
 pub use reply::{write_reply, write_session_line};
-
-#[cfg(test)]
-mod tests;

@@ -11,8 +11,6 @@ mod mark;
 mod pass;
 mod product;
 mod range;
-#[cfg(test)]
-mod tests;
 mod turn;
 
 pub use heads::{kdifference, kunion, semijoin};

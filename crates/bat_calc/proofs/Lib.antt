@@ -1,2 +1,2 @@
-pub mod NotLemmas
+pub mod OneLemmas
 pub mod RowLemmas

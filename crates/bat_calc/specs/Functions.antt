@@ -6,11 +6,11 @@ use Rattle.cell_core.specs.declared.cell.Cell.{Cell}
 use Rattle.cell_core.specs.declared.operator.Value.{Value}
 use Rattle.cell_core.specs.declared.operator.Value.TheVariants.{Bat, One}
 use Rattle.cell_core.specs.Pairs.{Pairs, cell_at}
-use Rattle.cell_core.specs.Calc.{arithmetic, comparison, conjunction, disjunction, negation, all_or_none}
+use Rattle.cell_core.specs.Calc.{arithmetic, comparison, conjunction, disjunction, negation, nil_test, all_or_none}
 use Rattle.bat_calc.specs.declared.function.Function.{Function}
 use Rattle.bat_calc.specs.declared.function.Function.TheVariants as function
 
--- a function of two cells, where None is an overflow; Not takes no notice of the second
+-- a function of two cells, where None is an overflow; Not and IsNil take no notice of the second
 abbrev pub function_of : Function → Cell → Cell → Option Cell
 function_of function.Plus = arithmetic (λ x y. x +ℤ y)
 function_of function.Minus = arithmetic (λ x y. x -ℤ y)
@@ -24,6 +24,7 @@ function_of function.Ge = λ x y. Some (comparison is_ge x y)
 function_of function.And = λ x y. Some (conjunction x y)
 function_of function.Or = λ x y. Some (disjunction x y)
 function_of function.Not = λ x y. Some (negation x)
+function_of function.IsNil = λ x y. Some (nil_test x)
 
 -- a value has a cell at each of the first places
 abbrev pub Reaches : ℕ → Value → Type 0

@@ -27,19 +27,8 @@ pub(crate) fn calculate<L: Ledger>(
     ensures unchanged { OnErr result (steps.new ≡ steps.old) }
 {
     let out = value_over(alloc, function, x, y)?;
-    steps.add(count_of(x) + count_of(y) + count_of(&out));
+    steps.add(x.pair_count() + y.pair_count() + out.pair_count());
     Ok(out)
-}
-
-/// How many pairs a value has; a scalar has none.
-fn count_of(obj: &Obj) -> u64
-    ensures count { result ≡ pair_count (value_of obj.now) }
-    ensures small { result < 2 ^ 60 }
-{
-    match obj {
-        Obj::Bat(b) => b.bat().len(),
-        Obj::One(_) => 0,
-    }
 }
 
 /// The value of a function over two values.

@@ -3,8 +3,8 @@ ghost use Rattle.std.specs.Prelude.{◌≡◌};
 ghost use Rattle.bat_calc.specs.Functions.{function_of};
 
 use cell_calc::{
-    both, difference, either, is_above, is_at_least, is_at_most, is_below, is_equal, is_unequal,
-    opposite, product, sum,
+    both, difference, either, has_no_value, is_above, is_at_least, is_at_most, is_below, is_equal,
+    is_unequal, opposite, product, sum,
 };
 use cell_core::Cell;
 
@@ -35,6 +35,8 @@ pub(crate) enum Function {
     Or,
     /// Whether the first is false.
     Not,
+    /// Whether the first is Nil.
+    IsNil,
 }
 
 /// The function's cell; None is an overflow.
@@ -54,5 +56,6 @@ pub(crate) fn apply(function: Function, x: &Cell, y: &Cell) -> Option<Cell>
         Function::And => Some(both(x, y)),
         Function::Or => Some(either(x, y)),
         Function::Not => Some(opposite(x)),
+        Function::IsNil => Some(has_no_value(x)),
     }
 }

@@ -1,4 +1,5 @@
-//! The functions of cells of plans: arithmetic, comparisons, and truth where Nil is unknown.
+//! The functions of cells of plans: arithmetic, comparisons, truth where Nil is unknown, and the test
+//! for Nil.
 //!
 //! It stands on `cell_core`, whose definitions say what each function gives, on `cell_calc` for the
 //! functions of single cells, and on `bat_core` for columns. A function goes over two scalars, or over
@@ -10,7 +11,5 @@
 mod calculate;
 mod function;
 mod operators;
-#[cfg(test)]
-mod tests;
 
-pub use operators::{bit_and, bit_not, bit_or, eq, ge, gt, le, lt, minus, ne, plus, times};
+pub use operators::{bit_and, bit_not, bit_or, eq, ge, gt, is_nil, le, lt, minus, ne, plus, times};

@@ -1,4 +1,4 @@
-//! The twelve functions. Each goes over two scalars, or over BATs place by place, up to the shortest,
+//! The thirteen functions. Each goes over two scalars, or over BATs place by place, up to the shortest,
 //! with the heads of the first BAT among its arguments.
 ghost use Rattle.std.specs.Prelude.{◌≡◌, [], ◌∷◌, ◌+◌, Some, None, IfOk, OnOk, OnErr};
 ghost use Rattle.cell_core.specs.declared.operator.Op.TheVariants as op;
@@ -159,4 +159,15 @@ pub fn bit_not<L: Ledger>(alloc: Global, x: &Obj, steps: &mut Steps<L>) -> Resul
 {
     let nil = Obj::One(Cell::Nil);
     calculate(alloc, Function::Not, x, &nil, steps)
+}
+
+/// Whether cells are Nil, true or false.
+pub fn is_nil<L: Ledger>(alloc: Global, x: &Obj, steps: &mut Steps<L>) -> Result<Obj, RunError>
+    ensures value { IfOk result (λ out. operate op.IsNil (value_of x.now ∷ []) ≡ Some (value_of out)) }
+    ensures overflow { result ≡ Err RunError.Overflow → operate op.IsNil (value_of x.now ∷ []) ≡ None }
+    ensures work { OnOk result (steps.new ≡ steps.old + work_of op.IsNil (value_of x.now ∷ [])) }
+    ensures unchanged { OnErr result (steps.new ≡ steps.old) }
+{
+    let nil = Obj::One(Cell::Nil);
+    calculate(alloc, Function::IsNil, x, &nil, steps)
 }

@@ -16,8 +16,6 @@ mod filled;
 mod operate;
 mod pile;
 mod shared;
-#[cfg(test)]
-mod tests;
 
 pub use bat::Bat;
 pub use builder::{BatBuilder, CellsBuilder};

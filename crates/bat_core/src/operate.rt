@@ -12,8 +12,7 @@ use std::sync::ledger::Ledger;
 /// A machine that runs the operators of plans.
 pub trait Operate {
     /// The value of an operator on arguments that fit it. None fit `Op::Bind`, whose value is a column
-    /// of a database. The counter rises by the stated work; on `Overflow` by at most that, and on
-    /// `Memory` not at all.
+    /// of a database. The counter rises by the stated work, and on `Overflow` by at most that.
     fn run<L: Ledger>(
         &self,
         alloc: Global,
@@ -28,6 +27,5 @@ pub trait Operate {
         // Overflow comes exactly where there is no value.
         ensures overflow { result ≡ Err RunError.Overflow → operate op (values_of args.now) ≡ None }
         ensures later { result ≡ Err RunError.Overflow → steps.old ≤ steps.new }
-        ensures within { result ≡ Err RunError.Overflow → steps.new ≤ steps.old + work_of op (values_of args.now) }
-        ensures unchanged { result ≡ Err RunError.Memory → steps.new ≡ steps.old };
+        ensures within { result ≡ Err RunError.Overflow → steps.new ≤ steps.old + work_of op (values_of args.now) };
 }

@@ -1,5 +1,7 @@
 //! BATs that many values share, and the values that operators take and give.
-ghost use Rattle.std.specs.Prelude.{◌≡◌, IfOk};
+ghost use Rattle.std.specs.Prelude.{◌≡◌, ◌<◌, ◌^◌, IfOk};
+ghost use Rattle.cell_core.specs.Pairs.{pair_count};
+ghost use Rattle.bat_core.specs.Objects.{value_of};
 
 use crate::bat::Bat;
 use cell_core::{Cell, Memory};
@@ -65,5 +67,16 @@ impl Obj {
             Obj::Bat(shared) => Obj::Bat(shared.share()?),
             Obj::One(cell) => Obj::One(cell.share()?),
         })
+    }
+
+    /// How many pairs the value has; a scalar has none.
+    pub fn pair_count(&self) -> u64
+        ensures count { result ≡ pair_count (value_of self.now) }
+        ensures small { result < 2 ^ 60 }
+    {
+        match self {
+            Obj::Bat(shared) => shared.bat().len(),
+            Obj::One(_) => 0,
+        }
     }
 }

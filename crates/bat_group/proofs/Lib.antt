@@ -1,4 +1,3 @@
 pub mod GroupLemmas
-pub mod MemberLemmas
 pub mod NumberLemmas
 pub mod TotalLemmas

@@ -1,7 +1,7 @@
 -- The aggregates of groups, one group and one cell on.
 use Rattle.std.proofs.Common.{◌≡◌, ℕ, suc, zero, ◌+◌, ◌<◌, ◌≤◌, ◌==◌, Bool, true, false, not, ◌||◌, cond, List, [], ◌∷◌, ◌++◌, length, get_or, take, drop, set, map, refl, sym, ap, ◌∙◌, arith, append-nil}
 use Rattle.std.specs.Prelude.{filter}
-use Rattle.std.specs.List.{list_any, position_or_len, zip, AllByRecursion}
+use Rattle.std.specs.List.{list_any, position_or_len, zip}
 use Rattle.std.specs.Cmp.{IsEquivalence}
 use Rattle.std.proofs.lemmas.Bool.{eqb-true, eqb-false}
 use Rattle.std.proofs.lemmas.List.{length-map, length-take-le, drop_all, map_push, get_or-map}
@@ -211,23 +211,3 @@ module _ (A : List Cell → Cell) (cells groups : List Cell) (i : ℕ) (k : Cell
   -- the total of a group
   pub total_at : (n : ℕ) (old : List Cell) (c : Cell) → n < length firsts_now → old ≡ map before firsts_now → c ≡ get_or old n c → c ≡ before (get_or firsts_now n Nil)
   total_at n old c inside value read = read ∙ ap (λ l. get_or l n c) value ∙ get_or-map before firsts_now n Nil c inside
-
--- ## What holds of all totals
-module _ (P : Cell → Type 0) where
-  pub all_push : (xs : List Cell) (x : Cell) → AllByRecursion P xs → P x → AllByRecursion P (xs ++ x ∷ [])
-  all_push [] x all here = (here, tt)
-  all_push (y ∷ ys) x all here = (all.0, all_push ys x all.1 here)
-
-  pub all_at : (xs : List Cell) (n : ℕ) (d : Cell) → AllByRecursion P xs → n < length xs → P (get_or xs n d)
-  all_at [] n d all within = absurd (omega arith)
-  all_at (x ∷ xs) zero d all within = all.0
-  all_at (x ∷ xs) (suc n) d all within = all_at xs n d all.1 (omega arith)
-
-  pub all_set : (xs : List Cell) (n : ℕ) (w : Cell) → AllByRecursion P xs → P w → AllByRecursion P (set xs n w)
-  all_set [] n w all here = tt
-  all_set (x ∷ xs) zero w all here = (here, all.1)
-  all_set (x ∷ xs) (suc n) w all here = (all.0, all_set xs n w all.1 here)
-
-pub all_more : (P Q : Cell → Type 0) → ((c : Cell) → P c → Q c) → (xs : List Cell) → AllByRecursion P xs → AllByRecursion Q xs
-all_more P Q more [] all = tt
-all_more P Q more (x ∷ xs) all = (more x all.0, all_more P Q more xs all.1)

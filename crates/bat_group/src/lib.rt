@@ -2,15 +2,13 @@
 //!
 //! It stands on `cell_core` for cells and for the definition of each operator, on `bat_core` for BATs,
 //! and on `cell_calc` for aggregates that take one cell after another. Each of its operators gives its
-//! definition exactly, in one pass with a hash of what was seen, and with its stated work. A group has a number by its first occurrence, and Nil is the same
-//! as Nil there.
+//! definition exactly, in one pass with a hash of what was seen, and with its stated work. A group has a
+//! number by its first occurrence, and Nil is the same as Nil there.
 #![tactic(auto)]
 
 mod grouping;
 mod numbers;
 mod subtotals;
-#[cfg(test)]
-mod tests;
 mod totals;
 
 pub use grouping::{group_derive, group_heads, group_new};

@@ -1,12 +1,11 @@
 //! Aggregates over the tails of a BAT, for each group of another.
-ghost use Rattle.std.specs.Prelude.{◌≡◌, ℕ, ◌+◌, ◌++◌, ◌==◌, ◌^◌, [], ◌∷◌, length, map, take, drop, if◌then◌else◌, true, IsTrue, List, IfOk, OnOk, OnErr};
-ghost use Rattle.std.specs.List.{list_all};
+ghost use Rattle.std.specs.Prelude.{◌≡◌, ◌+◌, ◌++◌, ◌==◌, [], ◌∷◌, length, map, take, drop, if◌then◌else◌, List, IfOk, OnOk, OnErr};
 ghost use Rattle.cell_core.specs.declared.cell.Cell.{Cell};
 ghost use Rattle.cell_core.specs.Same.{same_cell};
-ghost use Rattle.cell_core.specs.Pairs.{tails_of, numbered};
+ghost use Rattle.cell_core.specs.Pairs.{numbered};
 ghost use Rattle.cell_core.specs.Groups.{counted, summed, least, greatest, by_group, distinct};
-ghost use Rattle.cell_calc.specs.Aggregates.{aggregate_of, is_int, IsWithin};
-ghost use Rattle.bat_group.specs.Members.{are_taken, members_of, AreWithin};
+ghost use Rattle.cell_calc.specs.Aggregates.{aggregate_of};
+ghost use Rattle.bat_group.specs.Members.{members_of};
 
 use crate::numbers::number_of;
 use bat_core::{Bat, Cells};
@@ -30,31 +29,24 @@ pub fn subcount<L: Ledger>(
     ensures work { IfOk result (λ out. steps.new ≡ steps.old + (length b.now + length g.now + length out)) }
     ensures unchanged { OnErr result (steps.new ≡ steps.old) }
 {
-    let totals = group_totals(alloc, Aggregate::Count, b.tails(), g.tails())?;
-    let out = number_totals(alloc, totals.as_slice())?;
-    steps.add(b.len() + g.len() + out.len());
-    Ok(out)
+    subaggregate(alloc, Aggregate::Count, b, g, steps)
 }
 
 /// For each distinct tail of `g`, by its first occurrence: an oid from 0, and the sum of the
 /// tails of `b` beside it that aren't Nil, a Huge or Nil. Tails stand beside each other by
-/// position, and those past the shorter BAT add nothing. The counter rises by the pairs of both
-/// and of the result.
+/// position, and those past the shorter BAT add nothing. Memory is also the answer where a sum
+/// leaves 128 bits. The counter rises by the pairs of both and of the result.
 pub fn subsum<L: Ledger>(
     alloc: Global,
     b: &Bat,
     g: &Bat,
     steps: &mut Steps<L>,
 ) -> Result<Bat, Memory>
-    requires ints { IsTrue (list_all is_int (tails_of b.now)) }
     ensures value { IfOk result (λ out. out ≡ by_group summed b.now g.now) }
     ensures work { IfOk result (λ out. steps.new ≡ steps.old + (length b.now + length g.now + length out)) }
     ensures unchanged { OnErr result (steps.new ≡ steps.old) }
 {
-    let totals = group_totals(alloc, Aggregate::Sum, b.tails(), g.tails())?;
-    let out = number_totals(alloc, totals.as_slice())?;
-    steps.add(b.len() + g.len() + out.len());
-    Ok(out)
+    subaggregate(alloc, Aggregate::Sum, b, g, steps)
 }
 
 /// For each distinct tail of `g`, by its first occurrence: an oid from 0, and the least of the
@@ -71,10 +63,7 @@ pub fn submin<L: Ledger>(
     ensures work { IfOk result (λ out. steps.new ≡ steps.old + (length b.now + length g.now + length out)) }
     ensures unchanged { OnErr result (steps.new ≡ steps.old) }
 {
-    let totals = group_totals(alloc, Aggregate::Min, b.tails(), g.tails())?;
-    let out = number_totals(alloc, totals.as_slice())?;
-    steps.add(b.len() + g.len() + out.len());
-    Ok(out)
+    subaggregate(alloc, Aggregate::Min, b, g, steps)
 }
 
 /// For each distinct tail of `g`, by its first occurrence: an oid from 0, and the greatest of the
@@ -91,7 +80,22 @@ pub fn submax<L: Ledger>(
     ensures work { IfOk result (λ out. steps.new ≡ steps.old + (length b.now + length g.now + length out)) }
     ensures unchanged { OnErr result (steps.new ≡ steps.old) }
 {
-    let totals = group_totals(alloc, Aggregate::Max, b.tails(), g.tails())?;
+    subaggregate(alloc, Aggregate::Max, b, g, steps)
+}
+
+/// An aggregate for each distinct tail of `g`.
+fn subaggregate<L: Ledger>(
+    alloc: Global,
+    aggregate: Aggregate,
+    b: &Bat,
+    g: &Bat,
+    steps: &mut Steps<L>,
+) -> Result<Bat, Memory>
+    ensures value { IfOk result (λ out. out ≡ by_group (aggregate_of aggregate) b.now g.now) }
+    ensures work { IfOk result (λ out. steps.new ≡ steps.old + (length b.now + length g.now + length out)) }
+    ensures unchanged { OnErr result (steps.new ≡ steps.old) }
+{
+    let totals = group_totals(alloc, aggregate, b.tails(), g.tails())?;
     let out = number_totals(alloc, totals.as_slice())?;
     steps.add(b.len() + g.len() + out.len());
     Ok(out)
@@ -104,7 +108,6 @@ fn group_totals(
     cells: &Cells,
     groups: &Cells,
 ) -> Result<Vec<Cell>, Memory>
-    requires { are_taken aggregate cells.now ≡ true }
     ensures { IfOk result (λ out. out.items ≡ map (λ group. aggregate_of aggregate (members_of cells.now groups.now group)) (distinct same_cell groups.now)) }
 {
     let mut numbers = HashMap::new(alloc);
@@ -120,8 +123,7 @@ fn group_totals(
 
 /// The total of no cells is added where the number is the next.
 fn begin_total(aggregate: Aggregate, number: u64, totals: &mut Vec<Cell>) -> Result<(), Memory>
-    ensures value { OnOk result (totals.new.items ≡ (if number == length totals.old.items then totals.old.items ++ aggregate_of aggregate [] ∷ [] else totals.old.items)) }
-    ensures within { OnOk result ((k : ℕ) → AreWithin aggregate k totals.old.items → AreWithin aggregate k totals.new.items) }
+    ensures { OnOk result (totals.new.items ≡ (if number == length totals.old.items then totals.old.items ++ aggregate_of aggregate [] ∷ [] else totals.old.items)) }
 {
     if number == totals.len() as u64 {
         totals.push(aggregate.of_none())?;
@@ -136,10 +138,7 @@ fn add_beside(
     cells: &Cells,
     total: &mut Cell,
 ) -> Result<(), Memory>
-    requires taken { are_taken aggregate cells.now ≡ true }
-    requires room { IsWithin aggregate (2 ^ 60) total.old }
-    ensures value { OnOk result ((so_far : List Cell) → total.old ≡ aggregate_of aggregate so_far → total.new ≡ aggregate_of aggregate (so_far ++ take 1 (drop place cells.now))) }
-    ensures within { OnOk result ((k : ℕ) → IsWithin aggregate k total.old → IsWithin aggregate (k + 1) total.new) }
+    ensures { OnOk result ((so_far : List Cell) → total.old ≡ aggregate_of aggregate so_far → total.new ≡ aggregate_of aggregate (so_far ++ take 1 (drop place cells.now))) }
 {
     if place < cells.len() {
         aggregate.add(total, cells.get(place))?;

@@ -1,10 +1,8 @@
 //! Aggregates over the tails of a BAT.
-ghost use Rattle.std.specs.Prelude.{◌≡◌, ◌+◌, length, IsTrue, true, IfOk, OnOk, OnErr};
-ghost use Rattle.std.specs.List.{list_all};
+ghost use Rattle.std.specs.Prelude.{◌≡◌, ◌+◌, length, IfOk, OnOk, OnErr};
 ghost use Rattle.cell_core.specs.Pairs.{tails_of};
 ghost use Rattle.cell_core.specs.Groups.{counted, summed, least, greatest};
-ghost use Rattle.cell_calc.specs.Aggregates.{aggregate_of, is_int};
-ghost use Rattle.bat_group.specs.Members.{are_taken};
+ghost use Rattle.cell_calc.specs.Aggregates.{aggregate_of};
 
 use bat_core::{Bat, Cells};
 use cell_calc::Aggregate;
@@ -23,10 +21,9 @@ pub fn count<L: Ledger>(_alloc: Global, b: &Bat, steps: &mut Steps<L>) -> Result
     Ok(cell)
 }
 
-/// The sum of the tails that aren't Nil, a Huge; Nil is the sum of none. The counter rises by the
-/// pairs of `b`.
+/// The sum of the tails that aren't Nil, a Huge; Nil is the sum of none. Memory is also the answer
+/// where the sum leaves 128 bits. The counter rises by the pairs of `b`.
 pub fn sum<L: Ledger>(_alloc: Global, b: &Bat, steps: &mut Steps<L>) -> Result<Cell, Memory>
-    requires ints { IsTrue (list_all is_int (tails_of b.now)) }
     ensures value { IfOk result (λ cell. cell ≡ summed (tails_of b.now)) }
     ensures work { OnOk result (steps.new ≡ steps.old + length b.now) }
     ensures unchanged { OnErr result (steps.new ≡ steps.old) }
@@ -62,7 +59,6 @@ pub fn max<L: Ledger>(_alloc: Global, b: &Bat, steps: &mut Steps<L>) -> Result<C
 
 /// The aggregate of the cells.
 fn aggregate_cells(aggregate: Aggregate, cells: &Cells) -> Result<Cell, Memory>
-    requires { are_taken aggregate cells.now ≡ true }
     ensures { IfOk result (λ out. out ≡ aggregate_of aggregate cells.now) }
 {
     let mut so_far = aggregate.of_none();

@@ -1,7 +1,5 @@
--- The forms of the arguments of operators, and which operators take them.
+-- The shapes of arguments.
 use Rattle.std.specs.Prelude.{List, [], ◌∷◌, Bool, true, false}
-use Rattle.cell_core.specs.declared.operator.Op.{Op}
-use Rattle.cell_core.specs.declared.operator.Op.TheVariants as op
 use Rattle.cell_core.specs.declared.operator.Value.{Value}
 use Rattle.cell_core.specs.declared.operator.Value.TheVariants.{Bat, One}
 
@@ -34,46 +32,3 @@ is_one _ = false
 abbrev pub is_two : List Value → Bool
 is_two (x ∷ y ∷ []) = true
 is_two _ = false
-
--- the operators that make a BAT of one BAT
-abbrev pub makes_bat_of_bat : Op → Bool
-makes_bat_of_bat op.Reverse = true
-makes_bat_of_bat op.Mirror = true
-makes_bat_of_bat op.GroupNew = true
-makes_bat_of_bat op.GroupHeads = true
-makes_bat_of_bat _ = false
-
--- the operators that make a BAT of two BATs
-abbrev pub makes_bat_of_two : Op → Bool
-makes_bat_of_two op.Semijoin = true
-makes_bat_of_two op.Kdifference = true
-makes_bat_of_two op.Kunion = true
-makes_bat_of_two op.Cross = true
-makes_bat_of_two op.Join = true
-makes_bat_of_two op.GroupDerive = true
-makes_bat_of_two op.Subcount = true
-makes_bat_of_two op.Submin = true
-makes_bat_of_two op.Submax = true
-makes_bat_of_two _ = false
-
--- the operators that make a scalar of one BAT with any tails
-abbrev pub makes_total : Op → Bool
-makes_total op.Count = true
-makes_total op.Min = true
-makes_total op.Max = true
-makes_total _ = false
-
--- the functions of two cells
-abbrev pub calculates : Op → Bool
-calculates op.Plus = true
-calculates op.Minus = true
-calculates op.Times = true
-calculates op.Eq = true
-calculates op.Ne = true
-calculates op.Lt = true
-calculates op.Le = true
-calculates op.Gt = true
-calculates op.Ge = true
-calculates op.And = true
-calculates op.Or = true
-calculates _ = false

@@ -1,8 +1,7 @@
 //! The arguments of operators by their forms.
-ghost use Rattle.std.specs.Prelude.{◌≡◌, [], ◌∷◌, ◌<◌, ◌≤◌, ◌^◌, length, IsTrue, sum_by};
+ghost use Rattle.std.specs.Prelude.{◌≡◌, [], ◌∷◌, IsTrue};
 ghost use Rattle.cell_core.specs.declared.operator.Value.TheVariants.{Bat as BatValue, One as OneValue};
-ghost use Rattle.cell_core.specs.Operators.{pairs_read};
-ghost use Rattle.cell_core.specs.Pairs.{is_true as is_true_cell, pair_count};
+ghost use Rattle.cell_core.specs.Pairs.{is_true as is_true_cell};
 ghost use Rattle.bat_core.specs.Objects.{value_of, values_of};
 ghost use Rattle.bat_kernel.specs.Shapes.{is_bat, is_two_bats, is_bat_and_cell, is_range, is_two, is_one};
 
@@ -78,30 +77,6 @@ pub(crate) fn range(args: &[Obj]) -> (&Bat, &Cell, &Cell, &Cell, &Cell)
             Obj::One(hi),
         ] => { (b.bat(), low, high, li, hi) }
         _ => unreachable!(),
-    }
-}
-
-/// How many pairs the arguments have.
-pub(crate) fn pairs_of(args: &[Obj]) -> u64
-    requires { length args.now ≤ 5 }
-    ensures read { result ≡ pairs_read (values_of args.now) }
-    ensures small { result < 2 ^ 63 }
-{
-    let mut pairs = 0;
-    for arg in args {
-        pairs += count_of(arg);
-    }
-    pairs
-}
-
-/// How many pairs a value has; a scalar has none.
-pub(crate) fn count_of(obj: &Obj) -> u64
-    ensures count { result ≡ pair_count (value_of obj.now) }
-    ensures small { result < 2 ^ 60 }
-{
-    match obj {
-        Obj::Bat(b) => b.bat().len(),
-        Obj::One(_) => 0,
     }
 }
 

@@ -1,5 +1,4 @@
 //! The kernel.
-use crate::arguments::{count_of, pairs_of};
 use crate::value::value;
 use bat_core::{Obj, Operate};
 use cell_core::{Op, RunError, Steps};
@@ -25,8 +24,6 @@ impl Operate for Kernel {
         args: &[Obj],
         steps: &mut Steps<L>,
     ) -> Result<Obj, RunError> {
-        let out = value(alloc, op, args)?;
-        steps.add(pairs_of(args) + count_of(&out));
-        Ok(out)
+        value(alloc, op, args, steps)
     }
 }

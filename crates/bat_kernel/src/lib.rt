@@ -7,8 +7,6 @@
 
 mod arguments;
 mod kernel;
-#[cfg(test)]
-mod tests;
 mod value;
 
 pub use kernel::Kernel;

@@ -1,114 +1,142 @@
 //! The values of operators.
-ghost use Rattle.std.specs.Prelude.{◌≡◌, ◌≢◌, [], ◌∷◌, ◌<◌, Some, None, IfOk, IsTrue};
+ghost use Rattle.std.specs.Prelude.{◌≡◌, ◌≢◌, [], ◌∷◌, ◌+◌, ◌<◌, length, Some, None, IfOk, OnOk};
 ghost use Rattle.cell_core.specs.declared.operator.Op.TheVariants as op;
+ghost use Rattle.cell_core.specs.declared.form.Form.TheVariants as form;
 ghost use Rattle.cell_core.specs.declared.operator.Value.TheVariants.{Bat as BatValue, One as OneValue};
-ghost use Rattle.cell_core.specs.Operators.{operate};
+ghost use Rattle.cell_core.specs.Operators.{operate, work_of};
+ghost use Rattle.cell_core.specs.Forms.{form_of};
 ghost use Rattle.cell_core.specs.Kinds.{Fits};
 ghost use Rattle.bat_core.specs.Objects.{value_of, values_of};
-ghost use Rattle.bat_kernel.specs.Shapes.{makes_bat_of_bat, makes_bat_of_two, makes_total, calculates};
 
 use crate::arguments::{bat_and_cell, is_true, one_bat, one_value, range, two_bats, two_values};
 use bat_algebra::{cross, kdifference, kunion, mark_t, mirror, project, reverse, select, semijoin};
-use bat_calc::{bit_and, bit_not, bit_or, eq, ge, gt, le, lt, minus, ne, plus, times};
+use bat_calc::{bit_and, bit_not, bit_or, eq, ge, gt, is_nil, le, lt, minus, ne, plus, times};
 use bat_core::{Bat, Obj, Shared};
 use bat_group::{
     count, group_derive, group_heads, group_new, max, min, subcount, submax, submin, subsum, sum,
 };
 use bat_join::join;
-use cell_core::{Cell, Memory, Op, RunError, Steps};
+use cell_core::{Cell, Form, Memory, Op, RunError, Steps};
 use std::alloc::Global;
-use std::marker::Brand;
-use std::sync::ledger::{Blank, Ledger};
+use std::sync::ledger::Ledger;
 
-/// The value of an operator on arguments that fit it. The operators count for themselves here, since
-/// memory may still be wanting once they are done.
-pub(crate) fn value(alloc: Global, op: Op, args: &[Obj]) -> Result<Obj, RunError>
-    requires fit { Fits op (values_of args.now) }
-    ensures value { IfOk result (λ out. operate op (values_of args.now) ≡ Some (value_of out)) }
-    ensures overflow { result ≡ Err RunError.Overflow → operate op (values_of args.now) ≡ None }
-{
-    counted_value::<Brand>(alloc, op, args, Blank::new(1))
-}
-
-/// The value of an operator, counted on a ledger of its own.
-fn counted_value<L: Ledger>(
+/// The value of an operator on arguments that fit it. The counter rises by its work.
+pub(crate) fn value<L: Ledger>(
     alloc: Global,
     op: Op,
     args: &[Obj],
-    blank: Blank,
+    steps: &mut Steps<L>,
 ) -> Result<Obj, RunError>
-    requires name { blank.name ≡ L.name }
-    requires parts { blank.parts ≡ L.parts }
-    requires some { 0 < blank.parts }
     requires fit { Fits op (values_of args.now) }
     ensures value { IfOk result (λ out. operate op (values_of args.now) ≡ Some (value_of out)) }
     ensures overflow { result ≡ Err RunError.Overflow → operate op (values_of args.now) ≡ None }
+    ensures work { OnOk result (steps.new ≡ steps.old + work_of op (values_of args.now)) }
+    ensures uncounted { result ≡ Err RunError.Overflow → steps.new ≡ steps.old }
 {
-    let mut steps = Steps::<L>::new(blank);
-    match op {
-        Op::Select => {
-            let (b, low, high, li, hi) = range(args);
-            let out = select(alloc, b, low, high, is_true(li), is_true(hi), &mut steps)?;
-            obj_of(alloc, out)
-        }
-        Op::MarkT => {
-            let (b, base) = bat_and_cell(args);
-            obj_of(alloc, mark_t(alloc, b, base, &mut steps)?)
-        }
-        Op::Project => {
-            let (b, cell) = bat_and_cell(args);
-            obj_of(alloc, project(alloc, b, cell, &mut steps)?)
-        }
-        Op::Reverse | Op::Mirror | Op::GroupNew | Op::GroupHeads => {
-            obj_of(alloc, of_bat(alloc, op, one_bat(args), &mut steps)?)
-        }
-        Op::Semijoin
-        | Op::Kdifference
-        | Op::Kunion
-        | Op::Cross
-        | Op::Join
-        | Op::GroupDerive
-        | Op::Subcount
-        | Op::Submin
-        | Op::Submax => {
-            let (l, r) = two_bats(args);
-            obj_of(alloc, of_two_bats(alloc, op, l, r, &mut steps)?)
-        }
-        Op::Count | Op::Min | Op::Max => {
-            let cell = total_of(alloc, op, one_bat(args), &mut steps)?;
-            Ok(Obj::One(cell))
-        }
-        Op::Sum => {
-            let cell = sum(alloc, one_bat(args), &mut steps)?;
-            Ok(Obj::One(cell))
-        }
-        Op::Subsum => {
-            let (b, g) = two_bats(args);
-            obj_of(alloc, subsum(alloc, b, g, &mut steps)?)
-        }
-        Op::Not => bit_not(alloc, one_value(args), &mut steps),
-        Op::Plus
-        | Op::Minus
-        | Op::Times
-        | Op::Eq
-        | Op::Ne
-        | Op::Lt
-        | Op::Le
-        | Op::Gt
-        | Op::Ge
-        | Op::And
-        | Op::Or => {
+    match op.form() {
+        Form::Bind => unreachable!(),
+        Form::Range => of_range(alloc, args, steps),
+        Form::OneBat => of_bat(alloc, op, args, steps),
+        Form::Total => of_total(alloc, op, args, steps),
+        Form::BatAndCell => of_bat_and_cell(alloc, op, args, steps),
+        Form::TwoBats => of_two_bats(alloc, op, args, steps),
+        Form::TwoCells => {
             let (x, y) = two_values(args);
-            calculated(alloc, op, x, y, &mut steps)
+            over_two(alloc, op, x, y, steps)
         }
-        Op::Bind => unreachable!(),
+        Form::OneCell => over_one(alloc, op, one_value(args), steps),
     }
 }
 
+/// The pairs in a range.
+fn of_range<L: Ledger>(alloc: Global, args: &[Obj], steps: &mut Steps<L>) -> Result<Obj, RunError>
+    requires fit { Fits op.Select (values_of args.now) }
+    ensures value { IfOk result (λ out. operate op.Select (values_of args.now) ≡ Some (value_of out)) }
+    ensures overflow { result ≢ Err RunError.Overflow }
+    ensures work { OnOk result (steps.new ≡ steps.old + work_of op.Select (values_of args.now)) }
+{
+    let (b, low, high, li, hi) = range(args);
+    let out = select(alloc, b, low, high, is_true(li), is_true(hi), steps)?;
+    obj_of(alloc, out)
+}
+
+/// The value of an operator that makes a BAT of one.
+fn of_bat<L: Ledger>(
+    alloc: Global,
+    op: Op,
+    args: &[Obj],
+    steps: &mut Steps<L>,
+) -> Result<Obj, RunError>
+    requires form { form_of op ≡ form.OneBat }
+    requires fit { Fits op (values_of args.now) }
+    ensures value { IfOk result (λ out. operate op (values_of args.now) ≡ Some (value_of out)) }
+    ensures overflow { result ≢ Err RunError.Overflow }
+    ensures work { OnOk result (steps.new ≡ steps.old + work_of op (values_of args.now)) }
+{
+    obj_of(alloc, bat_of_bat(alloc, op, one_bat(args), steps)?)
+}
+
+/// The value of an operator that makes a scalar of a BAT.
+fn of_total<L: Ledger>(
+    alloc: Global,
+    op: Op,
+    args: &[Obj],
+    steps: &mut Steps<L>,
+) -> Result<Obj, RunError>
+    requires form { form_of op ≡ form.Total }
+    requires fit { Fits op (values_of args.now) }
+    ensures value { IfOk result (λ out. operate op (values_of args.now) ≡ Some (value_of out)) }
+    ensures overflow { result ≢ Err RunError.Overflow }
+    ensures work { OnOk result (steps.new ≡ steps.old + work_of op (values_of args.now)) }
+{
+    let cell = cell_of_bat(alloc, op, one_bat(args), steps)?;
+    Ok(Obj::One(cell))
+}
+
+/// The value of an operator that makes a BAT of a BAT and a scalar.
+fn of_bat_and_cell<L: Ledger>(
+    alloc: Global,
+    op: Op,
+    args: &[Obj],
+    steps: &mut Steps<L>,
+) -> Result<Obj, RunError>
+    requires form { form_of op ≡ form.BatAndCell }
+    requires fit { Fits op (values_of args.now) }
+    ensures value { IfOk result (λ out. operate op (values_of args.now) ≡ Some (value_of out)) }
+    ensures overflow { result ≢ Err RunError.Overflow }
+    ensures work { OnOk result (steps.new ≡ steps.old + work_of op (values_of args.now)) }
+{
+    let (b, cell) = bat_and_cell(args);
+    obj_of(alloc, bat_of_bat_and_cell(alloc, op, b, cell, steps)?)
+}
+
+/// The value of an operator that makes a BAT of two.
+fn of_two_bats<L: Ledger>(
+    alloc: Global,
+    op: Op,
+    args: &[Obj],
+    steps: &mut Steps<L>,
+) -> Result<Obj, RunError>
+    requires form { form_of op ≡ form.TwoBats }
+    requires fit { Fits op (values_of args.now) }
+    ensures value { IfOk result (λ out. operate op (values_of args.now) ≡ Some (value_of out)) }
+    ensures overflow { result ≢ Err RunError.Overflow }
+    ensures work { OnOk result (steps.new ≡ steps.old + work_of op (values_of args.now)) }
+{
+    let (l, r) = two_bats(args);
+    obj_of(alloc, bat_of_two(alloc, op, l, r, steps)?)
+}
+
 /// The BAT that an operator makes of one BAT.
-fn of_bat<L: Ledger>(alloc: Global, op: Op, b: &Bat, steps: &mut Steps<L>) -> Result<Bat, Memory>
-    requires { IsTrue (makes_bat_of_bat op) }
-    ensures { IfOk result (λ out. operate op (BatValue b.now ∷ []) ≡ Some (BatValue out)) }
+fn bat_of_bat<L: Ledger>(
+    alloc: Global,
+    op: Op,
+    b: &Bat,
+    steps: &mut Steps<L>,
+) -> Result<Bat, Memory>
+    requires { form_of op ≡ form.OneBat }
+    ensures value { IfOk result (λ out. operate op (BatValue b.now ∷ []) ≡ Some (BatValue out)) }
+    ensures work { IfOk result (λ out. steps.new ≡ steps.old + (length b.now + length out)) }
 {
     match op {
         Op::Reverse => reverse(alloc, b, steps),
@@ -120,28 +148,55 @@ fn of_bat<L: Ledger>(alloc: Global, op: Op, b: &Bat, steps: &mut Steps<L>) -> Re
 }
 
 /// The scalar that an operator makes of one BAT.
-fn total_of<L: Ledger>(alloc: Global, op: Op, b: &Bat, steps: &mut Steps<L>) -> Result<Cell, Memory>
-    requires { IsTrue (makes_total op) }
-    ensures { IfOk result (λ out. operate op (BatValue b.now ∷ []) ≡ Some (OneValue out)) }
+fn cell_of_bat<L: Ledger>(
+    alloc: Global,
+    op: Op,
+    b: &Bat,
+    steps: &mut Steps<L>,
+) -> Result<Cell, Memory>
+    requires { form_of op ≡ form.Total }
+    ensures value { IfOk result (λ out. operate op (BatValue b.now ∷ []) ≡ Some (OneValue out)) }
+    ensures work { OnOk result (steps.new ≡ steps.old + length b.now) }
 {
     match op {
         Op::Count => count(alloc, b, steps),
+        Op::Sum => sum(alloc, b, steps),
         Op::Min => min(alloc, b, steps),
         Op::Max => max(alloc, b, steps),
         _ => unreachable!(),
     }
 }
 
+/// The BAT that an operator makes of a BAT and a scalar.
+fn bat_of_bat_and_cell<L: Ledger>(
+    alloc: Global,
+    op: Op,
+    b: &Bat,
+    cell: &Cell,
+    steps: &mut Steps<L>,
+) -> Result<Bat, Memory>
+    requires { form_of op ≡ form.BatAndCell }
+    ensures value { IfOk result (λ out. operate op (BatValue b.now ∷ OneValue cell.now ∷ []) ≡ Some (BatValue out)) }
+    ensures work { IfOk result (λ out. steps.new ≡ steps.old + (length b.now + length out)) }
+{
+    match op {
+        Op::MarkT => mark_t(alloc, b, cell, steps),
+        Op::Project => project(alloc, b, cell, steps),
+        _ => unreachable!(),
+    }
+}
+
 /// The BAT that an operator makes of two BATs.
-fn of_two_bats<L: Ledger>(
+fn bat_of_two<L: Ledger>(
     alloc: Global,
     op: Op,
     l: &Bat,
     r: &Bat,
     steps: &mut Steps<L>,
 ) -> Result<Bat, Memory>
-    requires { IsTrue (makes_bat_of_two op) }
-    ensures { IfOk result (λ out. operate op (BatValue l.now ∷ BatValue r.now ∷ []) ≡ Some (BatValue out)) }
+    requires { form_of op ≡ form.TwoBats }
+    ensures value { IfOk result (λ out. operate op (BatValue l.now ∷ BatValue r.now ∷ []) ≡ Some (BatValue out)) }
+    ensures work { IfOk result (λ out. steps.new ≡ steps.old + (length l.now + length r.now + length out)) }
 {
     match op {
         Op::Semijoin => semijoin(alloc, l, r, steps),
@@ -151,6 +206,7 @@ fn of_two_bats<L: Ledger>(
         Op::Join => join(alloc, l, r, steps),
         Op::GroupDerive => group_derive(alloc, l, r, steps),
         Op::Subcount => subcount(alloc, l, r, steps),
+        Op::Subsum => subsum(alloc, l, r, steps),
         Op::Submin => submin(alloc, l, r, steps),
         Op::Submax => submax(alloc, l, r, steps),
         _ => unreachable!(),
@@ -158,16 +214,18 @@ fn of_two_bats<L: Ledger>(
 }
 
 /// What a function of two cells gives.
-fn calculated<L: Ledger>(
+fn over_two<L: Ledger>(
     alloc: Global,
     op: Op,
     x: &Obj,
     y: &Obj,
     steps: &mut Steps<L>,
 ) -> Result<Obj, RunError>
-    requires { IsTrue (calculates op) }
+    requires { form_of op ≡ form.TwoCells }
     ensures value { IfOk result (λ out. operate op (value_of x.now ∷ value_of y.now ∷ []) ≡ Some (value_of out)) }
     ensures overflow { result ≡ Err RunError.Overflow → operate op (value_of x.now ∷ value_of y.now ∷ []) ≡ None }
+    ensures work { OnOk result (steps.new ≡ steps.old + work_of op (value_of x.now ∷ value_of y.now ∷ [])) }
+    ensures uncounted { result ≡ Err RunError.Overflow → steps.new ≡ steps.old }
 {
     match op {
         Op::Plus => plus(alloc, x, y, steps),
@@ -181,6 +239,26 @@ fn calculated<L: Ledger>(
         Op::Ge => ge(alloc, x, y, steps),
         Op::And => bit_and(alloc, x, y, steps),
         Op::Or => bit_or(alloc, x, y, steps),
+        _ => unreachable!(),
+    }
+}
+
+/// What a function of one cell gives.
+fn over_one<L: Ledger>(
+    alloc: Global,
+    op: Op,
+    x: &Obj,
+    steps: &mut Steps<L>,
+) -> Result<Obj, RunError>
+    requires { form_of op ≡ form.OneCell }
+    ensures value { IfOk result (λ out. operate op (value_of x.now ∷ []) ≡ Some (value_of out)) }
+    ensures overflow { result ≡ Err RunError.Overflow → operate op (value_of x.now ∷ []) ≡ None }
+    ensures work { OnOk result (steps.new ≡ steps.old + work_of op (value_of x.now ∷ [])) }
+    ensures uncounted { result ≡ Err RunError.Overflow → steps.new ≡ steps.old }
+{
+    match op {
+        Op::Not => bit_not(alloc, x, steps),
+        Op::IsNil => is_nil(alloc, x, steps),
         _ => unreachable!(),
     }
 }

@@ -1,4 +1,5 @@
 ghost use Rattle.causes.specs.Faults.{Rose};
+ghost use Rattle.causes.specs.Limits.{most_bytes};
 ghost use Rattle.std.specs.Prelude.{◌≡◌, ◌≢◌, ℕ, ◌<◌, ◌≤◌, List, length, IfErr, IfOk, IfSome, IsErrOf, IsUtf8, Err};
 
 use crate::error::ReadError;
@@ -44,15 +45,15 @@ impl Script {
 pub fn read_all<S: Scripts>(alloc: Global, scripts: &mut S, name: &str) -> Result<Script, ReadError>
     ensures told { IfOk result (λ text.
         IfSome (S.bytes_of scripts.old name.now) (λ bytes. text ≡ bytes)) }
-    ensures short { IfOk result (λ text. length text ≤ MOST_BYTES) }
+    ensures short { IfOk result (λ text. length text ≤ most_bytes) }
 
     ensures read_fault { IsErrOf result ReadError.ReadFault →
         Rose (S.faults scripts.old) (S.faults scripts.new) }
     ensures too_long { IsErrOf result ReadError.TooLong →
-        IfSome (S.bytes_of scripts.old name.now) (λ bytes. MOST_BYTES < length bytes) }
+        IfSome (S.bytes_of scripts.old name.now) (λ bytes. most_bytes < length bytes) }
     ensures not_text { IsErrOf result ReadError.NotText →
         IfSome (S.bytes_of scripts.old name.now) (λ bytes.
-        (length bytes ≤ MOST_BYTES) × (¬ IsUtf8 bytes)) }
+        (length bytes ≤ most_bytes) × (¬ IsUtf8 bytes)) }
 
     ensures memory { IsErrOf result ReadError.Memory → scripts.new ≡ scripts.old }
     ensures later { S.faults scripts.old ≤ S.faults scripts.new }
@@ -69,12 +70,12 @@ pub fn read_all<S: Scripts>(alloc: Global, scripts: &mut S, name: &str) -> Resul
 fn gather<S: Scripts>(alloc: Global, scripts: &mut S, name: &str) -> Result<Vec<u8>, ReadError>
     ensures told { IfOk result (λ all.
         IfSome (S.bytes_of scripts.old name.now) (λ bytes. all.items ≡ bytes)) }
-    ensures short { IfOk result (λ all. length all.items ≤ MOST_BYTES) }
+    ensures short { IfOk result (λ all. length all.items ≤ most_bytes) }
 
     ensures read_fault { IsErrOf result ReadError.ReadFault →
         Rose (S.faults scripts.old) (S.faults scripts.new) }
     ensures too_long { IsErrOf result ReadError.TooLong →
-        IfSome (S.bytes_of scripts.old name.now) (λ bytes. MOST_BYTES < length bytes) }
+        IfSome (S.bytes_of scripts.old name.now) (λ bytes. most_bytes < length bytes) }
     ensures untested { result ≢ Err ReadError.NotText }
 
     ensures memory { IsErrOf result ReadError.Memory → scripts.new ≡ scripts.old }

@@ -6,7 +6,7 @@ use Rattle.std.specs.Option.{option_or}
 use Rattle.std.specs.Ordering.{is_lt, is_le, is_gt, is_ge, ordering_reverse}
 use Rattle.std.specs.declared.cmp.Ordering.{Ordering}
 use Rattle.std.specs.declared.cmp.Ordering.TheVariants.{Less, Equal, Greater}
-use Rattle.std.specs.Cmp.{upto, tied_itself}
+use Rattle.std.specs.Cmp.{upto, tied_itself, first_so, second_so}
 use Rattle.std.proofs.Math.Bool.{and-true}
 use Rattle.std.proofs.lemmas.Int.{ints}
 use Rattle.std.proofs.lemmas.List.{length_push}
@@ -18,7 +18,7 @@ use Rattle.cell_core.specs.declared.cell.Cell.TheVariants.{Nil, Int, Huge, Text,
 use Rattle.cell_core.specs.Order.{number, cell_cmp, cell_cmp_total}
 use Rattle.cell_core.specs.Pairs.{is_nil}
 use Rattle.cell_core.specs.Groups.{known, counted, sum_of, summed, least, greatest}
-use Rattle.cell_calc.specs.Aggregates.{total_in, is_int, IsSumWithin}
+use Rattle.cell_calc.specs.Aggregates.{total_in}
 
 -- Nil is left out, any other cell is known
 pub known_nil : (cells : List Cell) (c : Cell) → is_nil c ≡ true → known (cells ++ c ∷ []) ≡ known cells
@@ -38,32 +38,11 @@ sum_push (k ∷ ks) c = ap Huge (fold_push (λ total x. total +ℤ number x) (po
 pub summed_more : (cells : List Cell) (c : Cell) → is_nil c ≡ false → summed (cells ++ c ∷ []) ≡ Huge (total_in (summed cells) +ℤ number c)
 summed_more cells c some = ap sum_of (known_some cells c some) ∙ sum_push (known cells) c
 
-pub summed_push : (cells : List Cell) (n : ℤ) → summed (cells ++ Int n ∷ []) ≡ Huge (total_in (summed cells) +ℤ n)
-summed_push cells n = summed_more cells (Int n) refl
-
--- a cell that is an Int or Nil, and no Int, is Nil
-pub nil_unless_int : (c : Cell) → is_int c ≡ true → ((n : ℤ) → c ≡ Int n → ⊥) → is_nil c ≡ true
-nil_unless_int Nil e none = refl
-nil_unless_int (Int n) e none = absurd (none n refl)
-nil_unless_int (Huge n) e none = cc
-nil_unless_int (Text n) e none = cc
-nil_unless_int (Day n) e none = cc
-nil_unless_int (Bit n) e none = cc
-nil_unless_int (Oid n) e none = cc
-
 -- ## The first of the best, where `le a b` says that a is as good as b
 pub record IsPreorder {X : Type 0} (le : X → X → Bool) : Type 0 where
   pub itself : (a : X) → le a a ≡ true
   pub chain : (a b c : X) → le a b ≡ true → le b c ≡ true → le a c ≡ true
   pub total : (a b : X) → le a b ≡ false → le b a ≡ true
-
-left_is : (a b : Bool) → (a && b) ≡ true → a ≡ true
-left_is true b e = refl
-left_is false b e = e
-
-right_is : (a b : Bool) → (a && b) ≡ true → b ≡ true
-right_is true b e = e
-right_is false b e = cc
 
 and_false : (a : Bool) → (a && false) ≡ false
 and_false true = refl
@@ -97,17 +76,17 @@ module _ {X : Type 0} (le : X → X → Bool) (order : IsPreorder le) where
   none_better : (p : X → Bool) (xs : List X) (m v : X) → list_all (λ x. le m x) xs ≡ true → le m v ≡ false → find (λ c. p c && le c v) xs ≡ None
   none_better p [] m v e h = refl
   none_better p (x ∷ xs) m v e h =
-      let here : le m x ≡ true = left_is (le m x) (list_all (λ y. le m y) xs) e in
+      let here : le m x ≡ true = first_so (le m x) (list_all (λ y. le m y) xs) e in
       let apart : le x v ≡ false = elim (le x v) as (λ b. le x v ≡ b → b ≡ false) [ true ↦ λ f. sym (order.chain m x v here f) ∙ h | false ↦ λ f. refl ] refl in
       ap (λ b. cond (p x && b) (Some x) (find (λ c. p c && le c v) xs)) apart
       ∙ ap (λ b. cond b (Some x) (find (λ c. p c && le c v) xs)) (and_false (p x))
-      ∙ none_better p xs m v (right_is (le m x) (list_all (λ y. le m y) xs) e) h
+      ∙ none_better p xs m v (second_so (le m x) (list_all (λ y. le m y) xs) e) h
 
   all_better : (xs : List X) (m v : X) → list_all (λ x. le m x) xs ≡ true → le v m ≡ true → list_all (λ x. le v x) xs ≡ true
   all_better [] m v e h = refl
   all_better (x ∷ xs) m v e h =
-      ap (λ b. b && list_all (λ y. le v y) xs) (order.chain v m x h (left_is (le m x) (list_all (λ y. le m y) xs) e))
-      ∙ all_better xs m v (right_is (le m x) (list_all (λ y. le m y) xs) e) h
+      ap (λ b. b && list_all (λ y. le v y) xs) (order.chain v m x h (first_so (le m x) (list_all (λ y. le m y) xs) e))
+      ∙ all_better xs m v (second_so (le m x) (list_all (λ y. le m y) xs) e) h
 
   -- one element more
   best_split : (ks : List X) (v : X) → best le (ks ++ v ∷ []) ≡ option_or (find (λ c. list_all (λ x. le c x) ks && le c v) ks) (cond (list_all (λ x. le v x) ks && le v v) (Some v) None)
@@ -251,13 +230,3 @@ greatest_taken cells s v out some is test taken = taken ∙ ap (λ b. cond b v s
 
 pub greatest_kept : (cells : List Cell) (s v : Cell) → is_nil v ≡ false → s ≡ greatest cells → (is_nil s || is_gt (cell_cmp v s)) ≡ false → s ≡ greatest (cells ++ v ∷ [])
 greatest_kept cells s v some is test = ap (λ b. cond b v s) (sym test) ∙ ap (λ m. cond (is_nil m || is_gt (cell_cmp v m)) v m) is ∙ sym (greatest_push cells v some)
-
--- the sum that a cell holds is as small as the cell says
-pub total_within : (k : ℕ) (c : Cell) → IsSumWithin k c → (neg_ℤ (pos (2 ^ 63 * k)) ≤ℤ total_in c) × (total_in c ≤ℤ pos (2 ^ 63 * k))
-total_within k (Huge n) h = h
-total_within k Nil h = (omega (arith, ints), omega (arith, ints))
-total_within k (Int n) h = (omega (arith, ints), omega (arith, ints))
-total_within k (Text n) h = (omega (arith, ints), omega (arith, ints))
-total_within k (Day n) h = (omega (arith, ints), omega (arith, ints))
-total_within k (Bit n) h = (omega (arith, ints), omega (arith, ints))
-total_within k (Oid n) h = (omega (arith, ints), omega (arith, ints))

@@ -1,7 +1,7 @@
 //! The functions of one cell and of two.
 ghost use Rattle.std.specs.Prelude.{◌≡◌, ◌||◌, Some, ◌+ℤ◌, ◌-ℤ◌, ◌*ℤ◌};
 ghost use Rattle.std.specs.Ordering.{is_eq, is_ne, is_lt, is_le, is_gt, is_ge};
-ghost use Rattle.cell_core.specs.Calc.{arithmetic, as_int, comparison, conjunction, disjunction, negation};
+ghost use Rattle.cell_core.specs.Calc.{arithmetic, as_int, comparison, conjunction, disjunction, negation, nil_test};
 ghost use Rattle.cell_core.specs.Pairs.{is_nil};
 ghost use Rattle.cell_core.specs.Order.{number};
 
@@ -11,7 +11,7 @@ use cell_core::{Cell, compare};
 fn one_is_nil(x: &Cell, y: &Cell) -> bool
     ensures { result ≡ (is_nil x.now || is_nil y.now) }
 {
-    matches!(x, Cell::Nil) || matches!(y, Cell::Nil)
+    x.is_nil() || y.is_nil()
 }
 
 /// What a cell counts as among those of its kind.
@@ -167,4 +167,11 @@ pub fn opposite(x: &Cell) -> Cell
         Cell::Bit(bit) => Cell::Bit(!*bit),
         _ => Cell::Nil,
     }
+}
+
+/// Whether there is no value, true or false.
+pub fn has_no_value(x: &Cell) -> Cell
+    ensures value { result ≡ nil_test x.now }
+{
+    Cell::Bit(x.is_nil())
 }

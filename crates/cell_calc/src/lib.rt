@@ -9,14 +9,10 @@
 mod aggregate;
 mod function;
 mod kinds;
-mod lists;
-#[cfg(test)]
-mod tests;
 
-pub use aggregate::Aggregate;
+pub use aggregate::{Aggregate, aggregate_cells};
 pub use function::{
-    both, difference, either, is_above, is_at_least, is_at_most, is_below, is_equal, is_unequal,
-    opposite, product, sum,
+    both, difference, either, has_no_value, is_above, is_at_least, is_at_most, is_below, is_equal,
+    is_unequal, opposite, product, sum,
 };
 pub use kinds::{agrees, are_comparable, both_are, is_numeric, kind_of};
-pub use lists::aggregate_cells;

@@ -32,7 +32,7 @@ four = tails (int 3 ∷ int 1 ∷ int 2 ∷ Nil ∷ [])
 -- ## bind
 
 abbrev column : List ℕ → Column
-column name = record { name = name; kind = kind.Int; width = 0; not_null = false }
+column name = record { name = name; kind = kind.Int; width = 0; not_null = false; default = Nil }
 
 abbrev database : Db
 database = record {
@@ -198,6 +198,12 @@ three_valued : (operate op.And (bits ∷ One (Bit true) ∷ []) ≡ Some bits)
     × (operate op.Not (bits ∷ []) ≡ Some (tails (Bit false ∷ Bit true ∷ Nil ∷ [])))
     × (operate op.Not (One Nil ∷ []) ≡ Some (One Nil))
 three_valued = (refl, refl, refl, refl, refl, refl, refl, refl)
+
+-- never unknown
+nil_tests : (operate op.IsNil (One Nil ∷ []) ≡ Some (One (Bit true))) × (operate op.IsNil (One (int 0) ∷ []) ≡ Some (One (Bit false)))
+    × (operate op.IsNil (four ∷ []) ≡ Some (tails (Bit false ∷ Bit false ∷ Bit false ∷ Bit true ∷ [])))
+    × (operate op.IsNil (tails [] ∷ []) ≡ Some (tails []))
+nil_tests = (refl, refl, refl, refl)
 
 -- ## Work and kinds
 

@@ -43,6 +43,10 @@ abbrev pub negation : Cell → Cell
 negation (Bit b) = Bit (not b)
 negation _ = Nil
 
+-- whether there is no value, which is never unknown
+abbrev pub nil_test : Cell → Cell
+nil_test x = Bit (is_nil x)
+
 -- a function of two cells, and of one cell, over lists of that many
 abbrev pub over_two : (Cell → Cell → Option Cell) → List Cell → Option Cell
 over_two f (x ∷ y ∷ []) = f x y

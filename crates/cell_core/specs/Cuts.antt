@@ -47,15 +47,15 @@ is_cut_below a b = is_lt (cut_cmp a b)
 abbrev pub is_cut_up_to : Cut → Cut → Bool
 is_cut_up_to a b = is_le (cut_cmp a b)
 
--- a cut lies in a span where the span's low is at most the cut and the cut is below its high
+-- a span holds its low end and what follows it, up to but not with its high end
 abbrev pub lies_in : Span → Cut → Bool
 lies_in span cut = is_cut_up_to span.low cut && is_cut_below cut span.high
 
--- the stops of a target are its low and those highs of the spans that lie in the target
+-- where a walk over a target may have to change spans: at its beginning, and at each span's end within it
 abbrev pub stops : Span → List Span → List Cut
 stops target spans = target.low ∷ filter (lies_in target) (map (λ s. s.high) spans)
 
--- spans cover a target where its low is below its high and each stop lies in one of them
+-- a target that isn't empty is covered if at every such stop some span goes on
 abbrev pub covers : Span → List Span → Bool
 covers target spans =
     is_cut_below target.low target.high && list_all (λ stop. list_any (λ s. lies_in s stop) spans) (stops target spans)

@@ -16,7 +16,7 @@ use Rattle.cell_core.specs.declared.operator.Value.TheVariants.{Bat, One}
 
 -- ## Types
 
--- a scalar of a kind, or a BAT of a head kind and a tail kind
+-- what a variable of a plan can be: one cell of a kind, or a BAT with a kind for its heads and one for its tails
 pub data ValueType : Type 0 where
   OneOf : Option Kind → ValueType
   BatOf : Option Kind → Option Kind → ValueType
@@ -110,6 +110,11 @@ abbrev pub from_one : Kind → Kind → List ValueType → Option ValueType
 from_one taken k (x ∷ []) = then_some (agrees (cells_kind x) (Some taken)) (calculated_type k (x ∷ []))
 from_one taken k _ = None
 
+-- one argument whose cells are of any kind
+abbrev pub from_any : Kind → List ValueType → Option ValueType
+from_any k (x ∷ []) = Some (calculated_type k (x ∷ []))
+from_any k _ = None
+
 -- both are of the kind
 abbrev pub both_are : Kind → Option Kind → Option Kind → Bool
 both_are k a b = agrees a (Some k) && agrees b (Some k)
@@ -160,6 +165,7 @@ result_type op.Ge = from_two are_comparable kind.Bit
 result_type op.And = from_two (both_are kind.Bit) kind.Bit
 result_type op.Or = from_two (both_are kind.Bit) kind.Bit
 result_type op.Not = from_one kind.Bit kind.Bit
+result_type op.IsNil = from_any kind.Bit
 
 -- the kind that a bind names
 abbrev pub named_kind : List ℕ → Option Kind

@@ -2,13 +2,17 @@ pub mod Calc
 pub mod CellText
 pub mod Cuts
 pub mod Day
+pub mod Decided
+pub mod Forms
 pub mod Groups
 pub mod Keys
 pub mod Kinds
 pub mod Operators
 pub mod Order
 pub mod Pairs
+pub mod Places
 pub mod Relations
 pub mod Same
+pub mod SameInstr
 pub mod Sorted
 pub mod Tables

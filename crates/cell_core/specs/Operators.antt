@@ -10,7 +10,7 @@ use Rattle.cell_core.specs.declared.operator.Value.TheVariants.{Bat, One}
 use Rattle.cell_core.specs.Pairs.{Pairs, tails_of, is_true, pair_count, shortest}
 use Rattle.cell_core.specs.Relations.{selected, semijoined, kdifference_of, kunion_of, reversed, mirrored, marked, projected, crossed, joined}
 use Rattle.cell_core.specs.Groups.{grouped, derived, group_heads_of, counted, summed, least, greatest, by_group}
-use Rattle.cell_core.specs.Calc.{arithmetic, comparison, conjunction, disjunction, negation, over_two, over_one, calculated}
+use Rattle.cell_core.specs.Calc.{arithmetic, comparison, conjunction, disjunction, negation, nil_test, over_two, over_one, calculated}
 
 -- ## Arguments
 
@@ -72,6 +72,7 @@ operate op.Ge = calculated (over_two (λ x y. Some (comparison is_ge x y)))
 operate op.And = calculated (over_two (λ x y. Some (conjunction x y)))
 operate op.Or = calculated (over_two (λ x y. Some (disjunction x y)))
 operate op.Not = calculated (over_one (λ x. Some (negation x)))
+operate op.IsNil = calculated (over_one (λ x. Some (nil_test x)))
 
 -- ## Work
 

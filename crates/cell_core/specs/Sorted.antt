@@ -1,5 +1,6 @@
--- What a stable sort answers, as a function.
-use Rattle.std.specs.Prelude.{List, [], ◌∷◌, Bool, if◌then◌else◌}
+-- What a stable sort answers, and the first of some elements, as functions.
+use Rattle.std.specs.Prelude.{List, [], ◌∷◌, Bool, if◌then◌else◌, Option, Some, None, fold}
+use Rattle.std.specs.Option.{option_map_or}
 
 module _ {X : Type 0} (below : X → X → Bool) where
   -- the element stands behind those that are below it, and before the others
@@ -11,3 +12,7 @@ module _ {X : Type 0} (below : X → X → Bool) where
   abbrev pub sorted_by : List X → List X
   sorted_by [] = []
   sorted_by (x ∷ xs) = insert_sorted x (sorted_by xs)
+
+-- the first of the elements, by a test of which of two comes first; where two tie, the one that stands first
+abbrev pub first_by : {X : Type 0} → (X → X → Bool) → List X → Option X
+first_by before xs = fold (λ best x. Some (option_map_or (λ b. if before x b then x else b) best x)) None xs

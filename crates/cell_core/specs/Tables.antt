@@ -1,7 +1,6 @@
--- Tables and columns by their names, and rows added to a table.
-use Rattle.std.specs.Prelude.{ℕ, suc, List, [], ◌∷◌, ◌++◌, Bool, if◌then◌else◌, bytes_eq, Option, Some, None, is_some}
+-- Tables and columns by their names.
+use Rattle.std.specs.Prelude.{ℕ, suc, List, [], ◌∷◌, if◌then◌else◌, bytes_eq, Option, Some, None}
 use Rattle.std.specs.Option.{option_map}
-use Rattle.cell_core.specs.declared.cell.Cell.{Cell}
 use Rattle.cell_core.specs.declared.table.Column.{Column}
 use Rattle.cell_core.specs.declared.table.Table.{Table}
 use Rattle.cell_core.specs.declared.table.Db.{Db}
@@ -14,18 +13,7 @@ first_named name (table ∷ tables) = if bytes_eq table.name name then Some tabl
 abbrev pub named_table : List ℕ → Db → Option Table
 named_table name db = first_named name db.tables
 
--- whether there is a table with this name
-abbrev pub has_table : List ℕ → Db → Bool
-has_table name db = is_some (named_table name db)
-
 -- the place of the first column with this name, from 0
 abbrev pub column_place : List ℕ → List Column → Option ℕ
 column_place name [] = None
 column_place name (column ∷ columns) = if bytes_eq column.name name then Some 0 else option_map suc (column_place name columns)
-
--- the rows are added, in order, to the first table with that name
-abbrev pub with_rows : List ℕ → List (List Cell) → List Table → List Table
-with_rows name rows [] = []
-with_rows name rows (table ∷ tables) =
-    if bytes_eq table.name name then record table { rows = table.rows ++ rows } ∷ tables
-    else table ∷ with_rows name rows tables

@@ -1,4 +1,5 @@
 ghost use Rattle.std.specs.Prelude.{◌≡◌, IfOk};
+ghost use Rattle.cell_core.specs.Pairs.{is_nil};
 
 use crate::memory::Memory;
 use crate::word::Word;
@@ -40,6 +41,13 @@ pub enum Cell {
 }
 
 impl Cell {
+    /// Whether there is no value.
+    pub fn is_nil(&self) -> bool
+        ensures { result ≡ is_nil self.now }
+    {
+        matches!(self, Cell::Nil)
+    }
+
     /// An equal cell, which shares the text.
     pub fn share(&self) -> Result<Cell, Memory>
         ensures { IfOk result (λ cell. cell ≡ self.now) }

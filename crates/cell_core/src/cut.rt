@@ -76,6 +76,3 @@ fn rank_of(cut: &Cut) -> u8
         Cut::High => 2,
     }
 }
-
-#[cfg(test)]
-mod tests;

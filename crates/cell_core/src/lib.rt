@@ -12,6 +12,7 @@
 mod cell;
 mod cut;
 mod day;
+mod form;
 mod memory;
 mod operator;
 mod order;
@@ -25,8 +26,9 @@ mod word;
 pub use cell::{Cell, Kind};
 pub use cut::{Cut, Span, compare_cuts};
 pub use day::{days_read_as_printed, read_day};
+pub use form::Form;
 pub use memory::{Memory, RunError};
-pub use operator::{Arg, Instr, Op, Value};
+pub use operator::{Arg, Instr, Op, Value, class_of, copy_args, equal_instrs_are_the_same};
 pub use order::{compare, stated_bytes};
 pub use rows::{compare_rows, compare_rows_by, sort_rows, sort_rows_by};
 pub use sequence::Sequence;

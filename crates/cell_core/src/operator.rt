@@ -1,5 +1,11 @@
+ghost use Rattle.std.specs.Prelude.{◌≡◌, ◌↔◌, Some, IfOk, slice_get, true};
+ghost use Rattle.cell_core.specs.Places.{operators};
+ghost use Rattle.cell_core.specs.SameInstr.{same_instr};
+
 use crate::cell::Cell;
+use crate::memory::Memory;
 use crate::sequence::Sequence;
+use std::alloc::Global;
 
 /// The operators of plans.
 #[derive(Clone, Copy, Debug, PartialEq, Eq, Hash)]
@@ -72,6 +78,15 @@ pub enum Op {
     Or,
     /// Whether it is false.
     Not,
+    /// Whether there is no value.
+    IsNil,
+}
+
+/// The place of an operator in the table of operators, counted from 0: below 35.
+pub fn class_of(op: Op) -> u32
+    ensures { slice_get operators result ≡ Some op }
+{
+    op as u32
 }
 
 /// An argument of an instruction.
@@ -90,6 +105,90 @@ pub struct Instr {
     pub op: Op,
     /// Its arguments, in order.
     pub args: Sequence<Arg>,
+}
+
+impl Arg {
+    /// An equal argument, which shares the text.
+    pub fn share(&self) -> Result<Arg, Memory>
+        ensures { IfOk result (λ arg. arg ≡ self.now) }
+    {
+        Ok(match self {
+            Arg::Const(cell) => Arg::Const(cell.share()?),
+            Arg::Var(number) => Arg::Var(*number),
+        })
+    }
+}
+
+impl PartialEq for Arg {
+    ghost use Rattle.std.specs.Cmp;
+    ghost use Rattle.cell_core.specs.SameInstr.{same_arg, same_arg_equivalence};
+
+    ghost eq = { same_arg };
+
+    ghost laws = { Cmp.partial_equiv_from_equiv same_arg_equivalence };
+
+    fn eq(&self, other: &Arg) -> bool {
+        match (self, other) {
+            (Arg::Const(a), Arg::Const(b)) => a == b,
+            (Arg::Var(a), Arg::Var(b)) => a == b,
+            _ => false,
+        }
+    }
+}
+
+impl Eq for Arg {
+    ghost use Rattle.cell_core.specs.SameInstr.{same_arg_equivalence};
+
+    ghost laws = { same_arg_equivalence };
+}
+
+impl Instr {
+    /// An equal instruction, which shares the texts.
+    pub fn share(&self, alloc: Global) -> Result<Instr, Memory>
+        ensures { IfOk result (λ instr. instr ≡ self.now) }
+    {
+        let args = copy_args(alloc, self.args.as_slice())?;
+        Ok(Instr { op: self.op, args })
+    }
+}
+
+impl PartialEq for Instr {
+    ghost use Rattle.std.specs.Cmp;
+    ghost use Rattle.cell_core.specs.SameInstr.{same_instr_equivalence};
+
+    ghost eq = { same_instr };
+
+    ghost laws = { Cmp.partial_equiv_from_equiv same_instr_equivalence };
+
+    fn eq(&self, other: &Instr) -> bool {
+        self.op == other.op && self.args.as_slice() == other.args.as_slice()
+    }
+}
+
+impl Eq for Instr {
+    ghost use Rattle.cell_core.specs.SameInstr.{same_instr_equivalence};
+
+    ghost laws = { same_instr_equivalence };
+}
+
+/// Instructions are equal exactly where they are the same: operator and arguments (an Int and a Huge
+/// of one number differ).
+pub fn equal_instrs_are_the_same(a: &Instr, b: &Instr)
+    ensures { (same_instr a.now b.now ≡ true) ↔ (a.now ≡ b.now) }
+{
+    let _ = a;
+    let _ = b;
+}
+
+/// Equal arguments, which share their texts.
+pub fn copy_args(alloc: Global, args: &[Arg]) -> Result<Sequence<Arg>, Memory>
+    ensures { IfOk result (λ copy. copy ≡ args.now) }
+{
+    let mut copy = Vec::with_capacity(alloc, args.len())?;
+    'arguments: for arg in args {
+        copy.push(arg.share()?)?;
+    }
+    Ok(Sequence::from_vec(copy))
 }
 
 /// What an instruction computes, held plainly.

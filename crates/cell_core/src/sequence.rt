@@ -1,11 +1,7 @@
 ghost use Rattle.std.specs.Prelude.{◌≡◌, [], ◌∷◌, ◌++◌, ◌<◌, length, slice_get, OnOk, OnErr, OnSome};
 ghost use Rattle.std.specs.Option.{option_copied};
-ghost use Rattle.cell_core.specs.Tables.{with_rows};
 
-use crate::cell::Cell;
 use crate::memory::Memory;
-use crate::table::Table;
-use crate::word::Word;
 use std::alloc::Global;
 use std::marker::Model;
 
@@ -95,34 +91,4 @@ impl<T: Drop> Sequence<T> {
         self.elements.append(&mut elements)?;
         Ok(())
     }
-}
-
-impl Sequence<Table> {
-    /// Adds rows to the first table with this name; where there is none, nothing changes.
-    pub(crate) fn add_rows(
-        &mut self,
-        name: &Word,
-        rows: Sequence<Sequence<Cell>>,
-    ) -> Result<(), Memory>
-        ensures ok { OnOk result (self.new ≡ with_rows name.now rows self.old) }
-        ensures err { OnErr result (self.new ≡ self.old) }
-    {
-        add_rows_in(&mut self.elements, name, rows)
-    }
-}
-
-fn add_rows_in(
-    tables: &mut [Table],
-    name: &Word,
-    rows: Sequence<Sequence<Cell>>,
-) -> Result<(), Memory>
-    ensures ok { OnOk result (tables.new ≡ with_rows name.now rows tables.old) }
-    ensures err { OnErr result (tables.new ≡ tables.old) }
-{
-    for i in 0..tables.len() {
-        if tables[i].name == *name {
-            return tables[i].rows.append(rows);
-        }
-    }
-    Ok(())
 }

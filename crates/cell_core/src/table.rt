@@ -1,6 +1,6 @@
 ghost use Rattle.std.specs.Prelude.{◌≡◌, ◌++◌, IfOk, OnOk, OnErr};
 ghost use Rattle.std.specs.Option.{option_copied};
-ghost use Rattle.cell_core.specs.Tables.{named_table, first_named, column_place, with_rows};
+ghost use Rattle.cell_core.specs.Tables.{named_table, first_named, column_place};
 
 use crate::cell::{Cell, Kind};
 use crate::memory::Memory;
@@ -19,6 +19,8 @@ pub struct Column {
     pub width: u32,
     /// Whether Nil is refused.
     pub not_null: bool,
+    /// The cell of a row that is given none: Nil, or of the column's kind.
+    pub default: Cell,
 }
 
 /// A table.
@@ -40,16 +42,18 @@ pub struct Db {
 }
 
 impl Column {
-    /// An equal column, which shares the name.
+    /// An equal column, which shares the name and a default's text.
     pub fn share(&self) -> Result<Column, Memory>
         ensures { IfOk result (λ column. column ≡ self.now) }
     {
         let name = self.name.share()?;
+        let default = self.default.share()?;
         Ok(Column {
             name,
             kind: self.kind,
             width: self.width,
             not_null: self.not_null,
+            default,
         })
     }
 }
@@ -60,14 +64,6 @@ impl Db {
         ensures { option_copied result ≡ named_table name.now self.now }
     {
         first_table(self.tables.as_slice(), name)
-    }
-
-    /// Adds rows at the end of the table with this name; where there is none, nothing changes.
-    pub fn add_rows(&mut self, name: &Word, rows: Sequence<Sequence<Cell>>) -> Result<(), Memory>
-        ensures ok { OnOk result (self.new.tables ≡ with_rows name.now rows self.old.tables) }
-        ensures err { OnErr result (self.new ≡ self.old) }
-    {
-        self.tables.add_rows(name, rows)
     }
 }
 
@@ -131,6 +127,3 @@ pub fn copy_columns(alloc: Global, columns: &[Column]) -> Result<Sequence<Column
     }
     Ok(Sequence::from_vec(copy))
 }
-
-#[cfg(test)]
-mod tests;

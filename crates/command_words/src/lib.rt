@@ -7,7 +7,5 @@
 
 mod command;
 mod files;
-#[cfg(test)]
-mod tests;
 
 pub use files::files_of;

@@ -7,14 +7,17 @@ use Rattle.std.proofs.lemmas.List.{get_or_past, length-map}
 use Rattle.std.proofs.lemmas.List.Folds.{list_any-append}
 use Rattle.std.proofs.lemmas.List.Sums.{sum_by-cons}
 use Rattle.std.proofs.lemmas.Bool.Decides.{eqb_tells, Decides-eqb, Decides-like, same_from_decides}
-use Rattle.score_hook.specs.declared.stats.Evict.{Evict}
-use Rattle.score_hook.specs.Scores.{IsInRange}
+use Rattle.score_hook.specs.declared.stats.Stats.{Stats}
+use Rattle.score_hook.specs.declared.stats.Score.{Score}
+use Rattle.score_hook.specs.Scores.{IsInRange, score_of}
 use Rattle.score_hook.proofs.Bounds.{top_small, bottom_small, bottom_some}
+use Rattle.score_hook.specs.declared.stats.Evict.{Evict}
+use Rattle.cell_core.specs.Sorted.{first_by}
 use Rattle.evict_admit.specs.declared.plan.Row.{Row}
 use Rattle.evict_admit.specs.declared.contest.Contender.{Contender}
 use Rattle.evict_admit.specs.declared.names.Known.{Known}
 use Rattle.evict_admit.specs.declared.board.Left.{Left}
-use Rattle.evict_admit.specs.Evictions.{is_parent, can_go, goes_before, first_by, next_of, without, is_enough, GivesUp}
+use Rattle.evict_admit.specs.Evictions.{is_parent, can_go, goes_before, next_of, without, is_enough, GivesUp}
 use Rattle.evict_admit.specs.Boards.{no_row, row_at, left_at, contender_at, contender_for, comes_before, IsSmall, IsKnown, IsNamed, IsSeated, seat_of, winner_at, may_go, is_gone, still, left_of, once_gone, one_if}
 use Rattle.evict_admit.proofs.Contests.{is_or_not}
 use Rattle.evict_admit.proofs.Firsts.{first_seat, first_before, first_none}
@@ -243,7 +246,8 @@ apart_from_places (row ∷ rows) h = (
 pub apart_known : (known : Known) → IsKnown known → AreApart known.rows.now
 apart_known known h = apart_from_places known.rows.now h.apart
 
-pub all_small : (kind : Evict) (now : ℕ) (rows : List Row) → All (λ (row : Row). IsInRange row.stats now) rows → All IsSmall (map (contender_for kind now) rows)
+-- the scores of a formula are small
+pub all_small : (kind : Evict) (now : ℕ) (rows : List Row) → All (λ (row : Row). IsInRange row.stats now) rows → All IsSmall (map (contender_for (λ stats. score_of kind stats now)) rows)
 all_small kind now [] h k d low = absurd (omega arith)
 all_small kind now (x ∷ xs) h zero d low =
     let here = h 0 x (omega arith) in
@@ -252,30 +256,30 @@ all_small kind now (x ∷ xs) h (suc k) d low = all_small kind now xs (λ k d lo
 
 -- ## The plan as far as it has come
 
-pub record IsPlanned (kind : Evict) (now : ℕ) (rows : List Row) (need slots : ℕ) (out : List ℕ) (bytes places : ℕ) : Type 0 where
-  pub goes_on : (ids : List ℕ) (enough : Bool) → GivesUp kind now (still out rows) bytes places ids enough → GivesUp kind now rows need slots (out ++ ids) enough
+pub record IsPlanned (score : Stats → Score) (rows : List Row) (need slots : ℕ) (out : List ℕ) (bytes places : ℕ) : Type 0 where
+  pub goes_on : (ids : List ℕ) (enough : Bool) → GivesUp score (still out rows) bytes places ids enough → GivesUp score rows need slots (out ++ ids) enough
 
-module _ (kind : Evict) (now : ℕ) (rows : List Row) (need slots : ℕ) where
-  pub begins : IsPlanned kind now rows need slots [] need slots
-  begins = record { goes_on = λ ids enough h. subst (λ rs. GivesUp kind now rs need slots ids enough) (still_none rows) h }
+module _ (score : Stats → Score) (rows : List Row) (need slots : ℕ) where
+  pub begins : IsPlanned score rows need slots [] need slots
+  begins = record { goes_on = λ ids enough h. subst (λ rs. GivesUp score rs need slots ids enough) (still_none rows) h }
 
-  module _ (out : List ℕ) (bytes places : ℕ) (planned : IsPlanned kind now rows need slots out bytes places) where
-    pub ends : (enough : Bool) → enough ≡ is_enough bytes places → (enough ≡ false → next_of kind now (still out rows) ≡ None) → GivesUp kind now rows need slots out enough
-    ends enough is none = subst (λ ids. GivesUp kind now rows need slots ids enough) (append-nil out) (planned.goes_on [] enough (is, none))
+  module _ (out : List ℕ) (bytes places : ℕ) (planned : IsPlanned score rows need slots out bytes places) where
+    pub ends : (enough : Bool) → enough ≡ is_enough bytes places → (enough ≡ false → next_of score (still out rows) ≡ None) → GivesUp score rows need slots out enough
+    ends enough is none = subst (λ ids. GivesUp score rows need slots ids enough) (append-nil out) (planned.goes_on [] enough (is, none))
 
-    pub grows : (row : Row) (out' : List ℕ) → is_enough bytes places ≡ false → next_of kind now (still out rows) ≡ Some row → out' ≡ out ++ row.id ∷ [] → IsPlanned kind now rows need slots out' (bytes - row.bytes) (places - 1)
-    grows row out' more next is = subst (λ o. IsPlanned kind now rows need slots o (bytes - row.bytes) (places - 1)) (sym is) (record {
+    pub grows : (row : Row) (out' : List ℕ) → is_enough bytes places ≡ false → next_of score (still out rows) ≡ Some row → out' ≡ out ++ row.id ∷ [] → IsPlanned score rows need slots out' (bytes - row.bytes) (places - 1)
+    grows row out' more next is = subst (λ o. IsPlanned score rows need slots o (bytes - row.bytes) (places - 1)) (sym is) (record {
       goes_on = λ ids enough h.
-          subst (λ o. GivesUp kind now rows need slots o enough) (sym (append_assoc out (row.id ∷ []) ids))
-          (planned.goes_on (row.id ∷ ids) enough (more, (row, next, refl, subst (λ rs. GivesUp kind now rs (bytes - row.bytes) (places - 1) ids enough) (still_more out row.id rows) h)));
+          subst (λ o. GivesUp score rows need slots o enough) (sym (append_assoc out (row.id ∷ []) ids))
+          (planned.goes_on (row.id ∷ ids) enough (more, (row, next, refl, subst (λ rs. GivesUp score rs (bytes - row.bytes) (places - 1) ids enough) (still_more out row.id rows) h)));
     })
 
 -- ## Which goes next
 
-contender_is : (kind : Evict) (now : ℕ) (rows : List Row) (p : ℕ) → p < length rows → contender_at (map (contender_for kind now) rows) p ≡ contender_for kind now (row_at rows p)
-contender_is kind now [] p low = absurd (omega arith)
-contender_is kind now (x ∷ xs) zero low = refl
-contender_is kind now (x ∷ xs) (suc p) low = contender_is kind now xs p (omega arith)
+contender_is : (score : Stats → Score) (rows : List Row) (p : ℕ) → p < length rows → contender_at (map (contender_for score) rows) p ≡ contender_for score (row_at rows p)
+contender_is score [] p low = absurd (omega arith)
+contender_is score (x ∷ xs) zero low = refl
+contender_is score (x ∷ xs) (suc p) low = contender_is score xs p (omega arith)
 
 all_some : (contenders : List Contender) → All IsSmall contenders → (p : ℕ) → 0 < (contender_at contenders p).score.bottom
 all_some [] h p = let past : contender_at [] p ≡ record { score = record { top = 0; bottom = 1 }; id = 0 } = get_or_past [] p _ (omega arith) in subst (λ (c : Contender). 0 < c.score.bottom) (sym past) (omega arith)
@@ -318,33 +322,33 @@ module _ (known : Known) (is_known : IsKnown known) (out : List ℕ) (lefts : Li
     pub chosen_in : In (row_at known.rows.now w) (still out known.rows.now)
     chosen_in = in_filter (λ (row : Row). not (is_gone out row)) known.rows.now (row_at known.rows.now w) (index_in known.rows.now w no_row chosen_low) (both_left _ _ chosen.1)
 
-    pub chosen_next : (kind : Evict) (now : ℕ) → known.contenders.now ≡ map (contender_for kind now) known.rows.now → next_of kind now (still out known.rows.now) ≡ Some (row_at known.rows.now w)
-    chosen_next kind now scored =
-        least_first (goes_before kind now) (row_at known.rows.now w) (filter (can_go (still out known.rows.now)) (still out known.rows.now)) None
+    pub chosen_next : (score : Stats → Score) → known.contenders.now ≡ map (contender_for score) known.rows.now → next_of score (still out known.rows.now) ≡ Some (row_at known.rows.now w)
+    chosen_next score scored =
+        least_first (goes_before score) (row_at known.rows.now w) (filter (can_go (still out known.rows.now)) (still out known.rows.now)) None
         (inr (in_filter (can_go (still out known.rows.now)) (still out known.rows.now) (row_at known.rows.now w) chosen_in (both_right _ _ chosen.1)))
         (λ y e. cc) others
       where
-        contender : (p : ℕ) → p < length known.rows.now → contender_at known.contenders.now p ≡ contender_for kind now (row_at known.rows.now p)
-        contender p low = ap (λ cs. contender_at cs p) scored ∙ contender_is kind now known.rows.now p low
+        contender : (p : ℕ) → p < length known.rows.now → contender_at known.contenders.now p ≡ contender_for score (row_at known.rows.now p)
+        contender p low = ap (λ cs. contender_at cs p) scored ∙ contender_is score known.rows.now p low
 
         at_place : (y : Row) (q : ℕ) → q < length known.rows.now → y ≡ row_at known.rows.now q → ready q ≡ true
-            → (y ≡ row_at known.rows.now w) ⊎ ((goes_before kind now (row_at known.rows.now w) y ≡ true) × (goes_before kind now y (row_at known.rows.now w) ≡ false))
+            → (y ≡ row_at known.rows.now w) ⊎ ((goes_before score (row_at known.rows.now w) y ≡ true) × (goes_before score y (row_at known.rows.now w) ≡ false))
         at_place y q low is_y can = elim (is_or_not q w) [
           | inl same ↦ inl (is_y ∙ ap (row_at known.rows.now) same)
           | inr differ ↦
               let under : q < length known.contenders.now = omega (arith, is_known.same) in
               let after : comes_before (contender_at known.contenders.now q) (contender_at known.contenders.now w) ≡ false =
               first_before known.contenders.now (all_some known.contenders.now is_known.small) winners seated.whole w q is under (seats q under ∙ seat_some (ready q) q can) in
-              let late : goes_before kind now (row_at known.rows.now q) (row_at known.rows.now w) ≡ false = ap (λ c. comes_before c (contender_for kind now (row_at known.rows.now w))) (sym (contender q low)) ∙ ap (comes_before (contender_at known.contenders.now q)) (sym (contender w chosen_low)) ∙ after in
-              let late_y : goes_before kind now y (row_at known.rows.now w) ≡ false = ap (λ (r : Row). goes_before kind now r (row_at known.rows.now w)) is_y ∙ late in
-              elim (before_total (contender_for kind now (row_at known.rows.now w)) (contender_for kind now (row_at known.rows.now q)) (λ e. differ (is_known.apart q w low chosen_low (sym e)))) [
-                | inl first ↦ inr (ap (λ (r : Row). goes_before kind now (row_at known.rows.now w) r) is_y ∙ first, late_y)
+              let late : goes_before score (row_at known.rows.now q) (row_at known.rows.now w) ≡ false = ap (λ c. comes_before c (contender_for score (row_at known.rows.now w))) (sym (contender q low)) ∙ ap (comes_before (contender_at known.contenders.now q)) (sym (contender w chosen_low)) ∙ after in
+              let late_y : goes_before score y (row_at known.rows.now w) ≡ false = ap (λ (r : Row). goes_before score r (row_at known.rows.now w)) is_y ∙ late in
+              elim (before_total (contender_for score (row_at known.rows.now w)) (contender_for score (row_at known.rows.now q)) (λ e. differ (is_known.apart q w low chosen_low (sym e)))) [
+                | inl first ↦ inr (ap (λ (r : Row). goes_before score (row_at known.rows.now w) r) is_y ∙ first, late_y)
                 | inr never ↦ absurd (true≢false (sym never ∙ late))
               ]
         ]
 
         others : (y : Row) → In y (filter (can_go (still out known.rows.now)) (still out known.rows.now))
-            → (y ≡ row_at known.rows.now w) ⊎ ((goes_before kind now (row_at known.rows.now w) y ≡ true) × (goes_before kind now y (row_at known.rows.now w) ≡ false))
+            → (y ≡ row_at known.rows.now w) ⊎ ((goes_before score (row_at known.rows.now w) y ≡ true) × (goes_before score y (row_at known.rows.now w) ≡ false))
         others y i =
             let left : In y (still out known.rows.now) = filter_in (can_go (still out known.rows.now)) (still out known.rows.now) y i in
             let can : can_go (still out known.rows.now) y ≡ true = passes (can_go (still out known.rows.now)) (still out known.rows.now) y i in
@@ -354,8 +358,8 @@ module _ (known : Known) (is_known : IsKnown known) (out : List ℕ) (lefts : Li
             at_place y place.0 place.1 place.2 (ap (λ (r : Row). may_go r (left_of out known.rows.now r)) (sym place.2) ∙ both)
 
   -- where none is chosen, none goes next
-  pub none_next : winner_at winners 1 ≡ None → (kind : Evict) (now : ℕ) → next_of kind now (still out known.rows.now) ≡ None
-  none_next is kind now = ap (first_by (goes_before kind now)) (none_passes (can_go (still out known.rows.now)) (still out known.rows.now) never)
+  pub none_next : winner_at winners 1 ≡ None → (score : Stats → Score) → next_of score (still out known.rows.now) ≡ None
+  none_next is score = ap (first_by (goes_before score)) (none_passes (can_go (still out known.rows.now)) (still out known.rows.now) never)
     where
       never : (y : Row) → In y (still out known.rows.now) → can_go (still out known.rows.now) y ≡ false
       never y left =
@@ -366,21 +370,21 @@ module _ (known : Known) (is_known : IsKnown known) (out : List ℕ) (lefts : Li
           ap (λ b. b && can_go (still out known.rows.now) y) (sym stays) ∙ ap (λ (r : Row). may_go r (left_of out known.rows.now r)) place.2 ∙ empty
 
 -- where no row is left, none goes next
-pub none_left : (kind : Evict) (now : ℕ) (rows : List Row) → length rows ≤ 0 → next_of kind now rows ≡ None
-none_left kind now [] h = refl
-none_left kind now (row ∷ rows) h = absurd (omega arith)
+pub none_left : (score : Stats → Score) (rows : List Row) → length rows ≤ 0 → next_of score rows ≡ None
+none_left score [] h = refl
+none_left score (row ∷ rows) h = absurd (omega arith)
 
 -- ## What is known at first
 
-pub known_is : (known : Known) (kind : Evict) (now : ℕ) → length known.rows.now ≤ 1024 → All (λ (row : Row). 0 < row.id) known.rows.now → IsNamed known.rows.now known.names.now → IsDistinct nat_eq (map (λ (row : Row). row.id) known.rows.now)
-    → All (λ (row : Row). IsInRange row.stats now) known.rows.now → known.contenders.now ≡ map (contender_for kind now) known.rows.now → IsKnown known
-known_is known kind now few ids named distinct range scored = record {
+pub known_is : (known : Known) (score : Stats → Score) → length known.rows.now ≤ 1024 → All (λ (row : Row). 0 < row.id) known.rows.now → IsNamed known.rows.now known.names.now → IsDistinct nat_eq (map (λ (row : Row). row.id) known.rows.now)
+    → All IsSmall (map (contender_for score) known.rows.now) → known.contenders.now ≡ map (contender_for score) known.rows.now → IsKnown known
+known_is known score few ids named distinct small scored = record {
   few = few;
   ids = λ p low. ids p no_row low;
   named = named;
   apart = apart_by_place known.rows.now (apart_from_distinct known.rows.now distinct);
-  same = ap length scored ∙ length-map known.rows.now (contender_for kind now);
-  small = subst (All IsSmall) (sym scored) (all_small kind now known.rows.now range);
+  same = ap length scored ∙ length-map known.rows.now (contender_for score);
+  small = subst (All IsSmall) (sym scored) small;
 }
 
 pub left_first : (rows : List Row) (row : Row) → record { children = count_by (is_parent row.id) rows; gone = false } ≡ left_of [] rows row

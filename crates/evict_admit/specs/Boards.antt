@@ -3,8 +3,9 @@ use Rattle.std.specs.Prelude.{◌≡◌, ℕ, ◌+◌, ◌-◌, ◌*◌, ◌^◌
 use Rattle.std.specs.List.{Contains, list_any}
 use Rattle.std.specs.List.Sorted.{IsNonDecreasingBy}
 use Rattle.std.specs.Option.{ForSome}
-use Rattle.score_hook.specs.declared.stats.Evict.{Evict}
-use Rattle.score_hook.specs.Scores.{score_of, is_less}
+use Rattle.score_hook.specs.declared.stats.Stats.{Stats}
+use Rattle.score_hook.specs.declared.stats.Score.{Score}
+use Rattle.score_hook.specs.Scores.{is_less}
 use Rattle.evict_admit.specs.declared.plan.Row.{Row}
 use Rattle.evict_admit.specs.declared.contest.Contender.{Contender}
 use Rattle.evict_admit.specs.declared.names.Name.{Name}
@@ -28,8 +29,8 @@ contender_at contenders p = slice_index_or contenders p (record { score = record
 -- ## The order
 
 -- a row as it is compared
-abbrev pub contender_for : Evict → ℕ → Row → Contender
-contender_for kind now row = record { score = score_of kind row.stats now; id = row.id }
+abbrev pub contender_for : (Stats → Score) → Row → Contender
+contender_for score row = record { score = score row.stats; id = row.id }
 
 -- by their scores, then by their ids
 abbrev pub comes_before : Contender → Contender → Bool

@@ -1,9 +1,13 @@
 -- A law about the order in which rows go.
-use Rattle.std.specs.Prelude.{◌≡◌, ◌≢◌, ◌↔◌, ◌⊎◌, ℕ, List, Bool, true, false, Some, map, nat_eq}
+use Rattle.std.specs.Prelude.{◌≡◌, ◌≢◌, ◌↔◌, ◌⊎◌, ℕ, ◌<◌, List, Bool, true, false, Some, map, nat_eq}
 use Rattle.std.specs.List.{Contains, IsDistinct}
+use Rattle.score_hook.specs.declared.stats.Stats.{Stats}
+use Rattle.score_hook.specs.declared.stats.Score.{Score}
 use Rattle.score_hook.specs.declared.stats.Evict.{Evict}
+use Rattle.score_hook.specs.Scores.{score_of}
+use Rattle.cell_core.specs.Sorted.{first_by}
 use Rattle.evict_admit.specs.declared.plan.Row.{Row}
-use Rattle.evict_admit.specs.Evictions.{goes_before, first_by}
+use Rattle.evict_admit.specs.Evictions.{goes_before}
 
 -- no row comes before itself, one comes before what the next comes before, and of two with different ids one comes before the other
 pub record IsLine (before : Row → Row → Bool) : Type 0 where
@@ -16,7 +20,8 @@ pub record IsLeast (before : Row → Row → Bool) (rows : List Row) (row : Row)
   pub among : Contains rows row
   pub least : (other : Row) → Contains rows other → other.id ≢ row.id → before row other ≡ true
 
--- the rule puts rows in one line, and of rows with different ids it finds the least, in whatever order they stand
+-- for scores whose bottoms aren't 0 the rule puts rows in one line, and of rows with different ids it finds the least, in whatever order they stand; the scores of each formula are such
 abbrev pub OneOrder : Type 0
-OneOrder = (kind : Evict) (now : ℕ) → IsLine (goes_before kind now)
-    × ((rows : List Row) (row : Row) → IsDistinct nat_eq (map (λ (r : Row). r.id) rows) → first_by (goes_before kind now) rows ≡ Some row ↔ IsLeast (goes_before kind now) rows row)
+OneOrder = ((score : Stats → Score) → ((stats : Stats) → 0 < (score stats).bottom) → IsLine (goes_before score)
+    × ((rows : List Row) (row : Row) → IsDistinct nat_eq (map (λ (r : Row). r.id) rows) → first_by (goes_before score) rows ≡ Some row ↔ IsLeast (goes_before score) rows row))
+    × ((kind : Evict) (now : ℕ) (stats : Stats) → 0 < (score_of kind stats now).bottom)

@@ -1,8 +1,9 @@
 ghost use Rattle.std.specs.Prelude.{◌≡◌, ℕ, [], ◌∷◌, ◌++◌, ◌<◌, ◌≤◌, length, All, map, nat_eq, vec_len};
 ghost use Rattle.std.specs.List.{IsDistinct};
 ghost use Rattle.std.specs.Vec.{vec_capacity};
-ghost use Rattle.score_hook.specs.declared.stats.Evict.{Evict};
-ghost use Rattle.score_hook.specs.Scores.{IsInRange};
+ghost use Rattle.score_hook.specs.declared.stats.Stats.{Stats as StatsValue};
+ghost use Rattle.score_hook.specs.declared.stats.Score.{Score as ScoreValue};
+ghost use Rattle.score_hook.specs.Scores.{IsInRange, score_of};
 ghost use Rattle.evict_admit.specs.Boards.{IsKnown, IsSeated, contender_for, left_at, left_of, row_at};
 ghost use Rattle.evict_admit.specs.Evictions.{is_enough as nothing_wanted, GivesUp};
 
@@ -48,7 +49,7 @@ pub fn plan_evictions(
     requires range { All (λ row. IsInRange row.stats now) rows.now }
     requires empty { out.old.items ≡ [] }
     requires room { length rows.now ≤ vec_capacity out.old }
-    ensures { GivesUp scorer.now.kind now rows.now need slots out.new.items result }
+    ensures { GivesUp (λ stats. score_of scorer.now.kind stats now) rows.now need slots out.new.items result }
 {
     let count = rows.len();
     let mut contender_store = [NOBODY; MOST_ROWS];
@@ -99,7 +100,7 @@ const CHILDLESS: Left = Left {
 fn note_contenders(contenders: &mut [Contender], rows: &[Row], scorer: &Scorer, now: u64)
     requires room { length contenders.old ≡ length rows.now }
     requires range { All (λ row. IsInRange row.stats now) rows.now }
-    ensures { contenders.new ≡ map (contender_for scorer.now.kind now) rows.now }
+    ensures { contenders.new ≡ map (contender_for (λ stats. score_of scorer.now.kind stats now)) rows.now }
 {
     'rows: for i in 0..rows.len() {
         contenders[i] = Contender {
@@ -122,7 +123,7 @@ fn plan_in(
     requires fresh { (p : ℕ) → p < length known.now.rows.now → left_at lefts.old p ≡ left_of [] known.now.rows.now (row_at known.now.rows.now p) }
     requires empty { out.old.items ≡ [] }
     requires room { length known.now.rows.now ≤ vec_capacity out.old }
-    ensures { (kind : Evict) (now : ℕ) → known.now.contenders.now ≡ map (contender_for kind now) known.now.rows.now → GivesUp kind now known.now.rows.now wanted.bytes wanted.places out.new.items result }
+    ensures { (score : StatsValue → ScoreValue) → known.now.contenders.now ≡ map (contender_for score) known.now.rows.now → GivesUp score known.now.rows.now wanted.bytes wanted.places out.new.items result }
 {
     let mut bytes = wanted.bytes;
     let mut places = wanted.places;

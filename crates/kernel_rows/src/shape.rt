@@ -80,6 +80,7 @@ pub(crate) fn fits_one(op: Op, x: Shape) -> bool
         ) => true,
         (Op::GroupHeads, Shape::Oids) => true,
         (Op::Not, Shape::Bits | Shape::Bit) => true,
+        (Op::IsNil, _) => true,
         _ => false,
     }
 }

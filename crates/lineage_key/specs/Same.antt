@@ -1,24 +1,19 @@
 -- When two keys, or two shapes, are the same, and that this decides equality.
 use Rattle.std.specs.Prelude.{◌≡◌, ◌==◌, ◌&&◌, Bool, true, false, refl}
 use Rattle.std.specs.Bool.{Decides}
-use Rattle.std.specs.Cmp.{IsEquivalence, first_so, second_so}
+use Rattle.std.specs.Cmp.{IsEquivalence, decided, first_so, second_so}
 use Rattle.std.specs.Str.{bytes_eq}
 use Rattle.std.specs.Cmp.Lexicographic.{pointwise, pointwise_decides}
-use Rattle.std.proofs.Common.{ap, sym, ◌∙◌, subst}
-use Rattle.std.proofs.lemmas.Bool.Decides.{Decides-eqb, Decides-like, same_from_decides}
+use Rattle.std.proofs.Common.{ap, ◌∙◌}
+use Rattle.std.proofs.lemmas.Bool.Decides.{Decides-eqb, Decides-like}
 use Rattle.std.proofs.lemmas.Slice.Eq.{bytes_eq-Decides}
-use denote.Enum.Bare.{sameb, same_true, true_same}
-use Rattle.cell_core.specs.contracts.operator.Op.{the_type}
-use Rattle.cell_core.specs.declared.operator.Op.{Op}
+use Rattle.cell_core.specs.SameInstr.{same_op, same_op_decides}
+use Rattle.cell_core.specs.Decided.{decides_by}
 use Rattle.cell_core.specs.Same.{same_cell, same_decides}
 use Rattle.lineage_key.specs.declared.shape.Shape.{Shape}
 use Rattle.lineage_key.specs.declared.key.Key.{Key}
 use Rattle.lineage_key.specs.declared.key.KeyArg.{KeyArg}
 use Rattle.lineage_key.specs.declared.key.KeyArg.TheVariants.{Const, Id}
-
--- the same operator
-abbrev pub same_op : Op → Op → Bool
-same_op = sameb the_type
 
 -- both the same constant, or both the same id
 abbrev pub same_arg : KeyArg → KeyArg → Bool
@@ -35,18 +30,10 @@ abbrev pub same_shape : Shape → Shape → Bool
 same_shape a b = same_op a.op b.op && bytes_eq a.table b.table && bytes_eq a.column b.column && bytes_eq a.args b.args
 
 -- the tests are true exactly of what is equal
-same_op_decides : (a b : Op) → Decides (same_op a b) (a ≡ b)
-same_op_decides a b = (same_true the_type tt a b, true_same the_type a b)
-
 pub same_arg_decides : (a b : KeyArg) → Decides (same_arg a b) (a ≡ b)
 same_arg_decides (Const a) (Const b) = Decides-like _ (λ e. ap Const e) (λ e. cc) (same_decides a b)
 same_arg_decides (Id m) (Id n) = Decides-like _ (λ e. ap Id e) (λ e. cc) (Decides-eqb m n)
 same_arg_decides _ _ = (λ e. cc, λ e. cc)
-
-module _ {X : Type 0} (same : X → X → Bool) where
-  -- a test decides equality where it is true of each value beside itself, and true of equal values alone
-  decides_by : ((a : X) → same a a ≡ true) → ((a b : X) → same a b ≡ true → a ≡ b) → (a b : X) → Decides (same a b) (a ≡ b)
-  decides_by itself one a b = (one a b, λ e. subst (λ x. same a x ≡ true) e (itself a))
 
 every_key : (a : Key) → same_key a a ≡ true
 every_key a =
@@ -89,23 +76,11 @@ one_shape a b e =
 pub same_shape_decides : (a b : Shape) → Decides (same_shape a b) (a ≡ b)
 same_shape_decides = decides_by same_shape every_shape one_shape
 
-module _ {X : Type 0} (same : X → X → Bool) (decides : (a b : X) → Decides (same a b) (a ≡ b)) where
-  swaps : (a b : X) → same a b ≡ same b a
-  swaps a b = same_from_decides _ _ (decides a b) (Decides-like _ (λ e. sym e) (λ e. sym e) (decides b a))
-
-  -- a test that decides equality is an equivalence
-  pub decided_equivalence : IsEquivalence same
-  decided_equivalence = record {
-    refl = λ a. (decides a a).1 refl;
-    symm = swaps;
-    congr = λ a b c e. ap (λ x. same x c) ((decides a b).0 e);
-  }
-
 pub same_arg_equivalence : IsEquivalence same_arg
-same_arg_equivalence = decided_equivalence same_arg same_arg_decides
+same_arg_equivalence = decided same_arg same_arg_decides
 
 pub same_key_equivalence : IsEquivalence same_key
-same_key_equivalence = decided_equivalence same_key same_key_decides
+same_key_equivalence = decided same_key same_key_decides
 
 pub same_shape_equivalence : IsEquivalence same_shape
-same_shape_equivalence = decided_equivalence same_shape same_shape_decides
+same_shape_equivalence = decided same_shape same_shape_decides

@@ -6,7 +6,7 @@ use Rattle.cell_core.specs.declared.cut.Cut.TheVariants.{Low, Before, After, Hig
 use Rattle.cell_core.specs.declared.cut.Span.{Span}
 use Rattle.cell_core.specs.declared.operator.Op.TheVariants.{Select}
 use Rattle.cell_core.specs.Pairs.{is_true, is_nil}
-use Rattle.lineage_key.specs.Same.{same_op}
+use Rattle.cell_core.specs.SameInstr.{same_op}
 use Rattle.lineage_key.specs.declared.key.Key.{Key}
 use Rattle.lineage_key.specs.declared.key.KeyArg.{KeyArg}
 use Rattle.lineage_key.specs.declared.key.KeyArg.TheVariants.{Const}

@@ -27,6 +27,43 @@ pub struct Key {
     pub version: u64,
 }
 
+impl KeyArg {
+    /// An equal argument, which shares the text.
+    pub fn share(&self) -> Result<KeyArg, Memory>
+        ensures { IfOk result (λ arg. arg ≡ self.now) }
+    {
+        Ok(match self {
+            KeyArg::Const(cell) => KeyArg::Const(cell.share()?),
+            KeyArg::Id(id) => KeyArg::Id(*id),
+        })
+    }
+}
+
+impl Key {
+    /// An equal key, which shares the texts.
+    pub fn share(&self, alloc: Global) -> Result<Key, Memory>
+        ensures { IfOk result (λ key. key ≡ self.now) }
+    {
+        let args = copy_key_args(alloc, self.args.as_slice())?;
+        Ok(Key {
+            op: self.op,
+            args,
+            version: self.version,
+        })
+    }
+}
+
+/// Equal arguments, which share their texts.
+fn copy_key_args(alloc: Global, args: &[KeyArg]) -> Result<Sequence<KeyArg>, Memory>
+    ensures { IfOk result (λ copy. copy ≡ args.now) }
+{
+    let mut copy = Vec::with_capacity(alloc, args.len())?;
+    'arguments: for arg in args {
+        copy.push(arg.share()?)?;
+    }
+    Ok(Sequence::from_vec(copy))
+}
+
 impl PartialEq for KeyArg {
     ghost use Rattle.std.specs.Cmp;
     ghost use Rattle.lineage_key.specs.Same.{same_arg, same_arg_equivalence};

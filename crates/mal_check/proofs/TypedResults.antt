@@ -1,5 +1,6 @@
 -- What an operator gives of values of fitting types is of the type that the table of kinds says.
 use Rattle.std.specs.Prelude.{◌≡◌, ℕ, List, [], ◌∷◌, map, filter, zip, not, Bool, true, false, ◌&&◌, ◌||◌, cond, ℤ, ◌+ℤ◌, ◌-ℤ◌, ◌*ℤ◌, Option, Some, None, refl}
+use Rattle.std.specs.Cmp.{first_so, second_so}
 use Rattle.std.proofs.Common.{sym, subst}
 use Rattle.std.specs.List.{list_all, enumerate_from}
 use Rattle.std.specs.Bool.{then_some}
@@ -19,10 +20,10 @@ use Rattle.cell_core.specs.Same.{same_cell}
 use Rattle.cell_core.specs.Pairs.{Pairs, heads_of, tails_of, is_nil, is_true, numbered, bats_in, shortest, row_at, rows_of}
 use Rattle.cell_core.specs.Relations.{is_within, selected, has_head, semijoined, kdifference_of, kunion_of, reversed, mirrored, counted_from, marked, projected, crossed, meets, matches, joined}
 use Rattle.cell_core.specs.Groups.{distinct, group_number, grouped, same_pair, paired_tails, derived, group_heads_of, known, counted, sum_of, summed, least, greatest, members, by_group}
-use Rattle.cell_core.specs.Calc.{fits_int, arithmetic, comparison, is_false, conjunction, disjunction, negation, over_two, over_one, all_or_none, first_heads, calculated_at, calculated}
+use Rattle.cell_core.specs.Calc.{fits_int, arithmetic, comparison, is_false, conjunction, disjunction, negation, nil_test, over_two, over_one, all_or_none, first_heads, calculated_at, calculated}
 use Rattle.cell_core.specs.Operators.{of_bat, of_bats, of_bat_and_cell, of_range, operate}
-use Rattle.cell_core.specs.Kinds.{ValueType, OneOf, BatOf, same_kind, agrees, is_of_kind, is_of_type, are_of_types, from_bat, from_bats, from_bat_and_cell, from_range, cells_kind, calculated_type, from_two, from_one, both_are, are_comparable, result_type}
-use Rattle.mal_check.proofs.ListTests.{and_left, and_right, and_both, all_append, all_filter, all_weaker, all_map, all_images, all_flat_map, all_zip, all_enumerated, all_distinct, found_passes, some_is, all_found}
+use Rattle.cell_core.specs.Kinds.{ValueType, OneOf, BatOf, same_kind, agrees, is_of_kind, is_of_type, are_of_types, from_bat, from_bats, from_bat_and_cell, from_range, cells_kind, calculated_type, from_two, from_one, from_any, both_are, are_comparable, result_type}
+use Rattle.mal_check.proofs.ListTests.{and_both, all_append, all_filter, all_weaker, all_map, all_images, all_flat_map, all_zip, all_enumerated, all_distinct, found_passes, some_is, all_found}
 
 -- the head and the tail are Nil or of these kinds
 abbrev pub pair_is : Option Kind → Option Kind → Cell × Cell → Bool
@@ -81,10 +82,10 @@ choice_is k false x y g h = h
 -- ## Columns
 
 heads_typed : (h t : Option Kind) (b : Pairs) → list_all (pair_is h t) b ≡ true → list_all (is_of_kind h) (heads_of b) ≡ true
-heads_typed h t b ok = all_map (pair_is h t) (is_of_kind h) (λ p. p.0) (λ p e. and_left (is_of_kind h p.0) (is_of_kind t p.1) e) b ok
+heads_typed h t b ok = all_map (pair_is h t) (is_of_kind h) (λ p. p.0) (λ p e. first_so (is_of_kind h p.0) (is_of_kind t p.1) e) b ok
 
 tails_typed : (h t : Option Kind) (b : Pairs) → list_all (pair_is h t) b ≡ true → list_all (is_of_kind t) (tails_of b) ≡ true
-tails_typed h t b ok = all_map (pair_is h t) (is_of_kind t) (λ p. p.1) (λ p e. and_right (is_of_kind h p.0) (is_of_kind t p.1) e) b ok
+tails_typed h t b ok = all_map (pair_is h t) (is_of_kind t) (λ p. p.1) (λ p e. second_so (is_of_kind h p.0) (is_of_kind t p.1) e) b ok
 
 numbered_typed : (k : Option Kind) (cells : List Cell) → list_all (is_of_kind k) cells ≡ true → list_all (pair_is (Some kind.Oid) k) (numbered cells) ≡ true
 numbered_typed k cells ok = all_map (λ n. is_of_kind k n.1) (pair_is (Some kind.Oid) k) (λ n. (Oid n.0, n.1)) (λ n e. e) (enumerate_from 0 cells) (all_enumerated (is_of_kind k) cells 0 ok)
@@ -97,29 +98,29 @@ kunion_typed h t h' t' l r fit ok ok' =
     all_append (pair_is (option_or h h') (option_or t t')) l (kdifference_of r l)
     (all_weaker (pair_is h t) (pair_is (option_or h h') (option_or t t'))
     (λ p e. and_both (is_of_kind (option_or h h') p.0) (is_of_kind (option_or t t') p.1)
-    (left_kind h h' p.0 (and_left (is_of_kind h p.0) (is_of_kind t p.1) e))
-    (left_kind t t' p.1 (and_right (is_of_kind h p.0) (is_of_kind t p.1) e)))
+    (left_kind h h' p.0 (first_so (is_of_kind h p.0) (is_of_kind t p.1) e))
+    (left_kind t t' p.1 (second_so (is_of_kind h p.0) (is_of_kind t p.1) e)))
     l ok)
     (all_filter (pair_is (option_or h h') (option_or t t')) (λ p. not (has_head l p.0)) r
     (all_weaker (pair_is h' t') (pair_is (option_or h h') (option_or t t'))
     (λ p e. and_both (is_of_kind (option_or h h') p.0) (is_of_kind (option_or t t') p.1)
-    (right_kind h h' p.0 (and_left (agrees h h') (agrees t t') fit) (and_left (is_of_kind h' p.0) (is_of_kind t' p.1) e))
-    (right_kind t t' p.1 (and_right (agrees h h') (agrees t t') fit) (and_right (is_of_kind h' p.0) (is_of_kind t' p.1) e)))
+    (right_kind h h' p.0 (first_so (agrees h h') (agrees t t') fit) (first_so (is_of_kind h' p.0) (is_of_kind t' p.1) e))
+    (right_kind t t' p.1 (second_so (agrees h h') (agrees t t') fit) (second_so (is_of_kind h' p.0) (is_of_kind t' p.1) e)))
     r ok'))
 
 reversed_typed : (h t : Option Kind) (b : Pairs) → list_all (pair_is h t) b ≡ true → list_all (pair_is t h) (reversed b) ≡ true
 reversed_typed h t b ok = all_map (pair_is h t) (pair_is t h) (λ p. (p.1, p.0))
-    (λ p e. and_both (is_of_kind t p.1) (is_of_kind h p.0) (and_right (is_of_kind h p.0) (is_of_kind t p.1) e) (and_left (is_of_kind h p.0) (is_of_kind t p.1) e)) b ok
+    (λ p e. and_both (is_of_kind t p.1) (is_of_kind h p.0) (second_so (is_of_kind h p.0) (is_of_kind t p.1) e) (first_so (is_of_kind h p.0) (is_of_kind t p.1) e)) b ok
 
 -- each head beside a cell of its own
 beside_heads_typed : (h t k : Option Kind) (f : Cell × Cell → Cell) → ((p : Cell × Cell) → pair_is h t p ≡ true → is_of_kind k (f p) ≡ true) → (b : Pairs)
     → list_all (pair_is h t) b ≡ true → list_all (pair_is h k) (map (λ p. (p.0, f p)) b) ≡ true
 beside_heads_typed h t k f step b ok = all_map (pair_is h t) (pair_is h k) (λ p. (p.0, f p))
-    (λ p e. and_both (is_of_kind h p.0) (is_of_kind k (f p)) (and_left (is_of_kind h p.0) (is_of_kind t p.1) e) (step p e)) b ok
+    (λ p e. and_both (is_of_kind h p.0) (is_of_kind k (f p)) (first_so (is_of_kind h p.0) (is_of_kind t p.1) e) (step p e)) b ok
 
 marked_typed : (h t : Option Kind) (base : Cell) (b : Pairs) → list_all (pair_is h t) b ≡ true → list_all (pair_is h (Some kind.Oid)) (marked base b) ≡ true
 marked_typed h t base b ok = all_map (λ n. pair_is h t n.1) (pair_is h (Some kind.Oid)) (λ n. (n.1.0, counted_from base n.0))
-    (λ n e. and_both (is_of_kind h n.1.0) (is_of_kind (Some kind.Oid) (counted_from base n.0)) (and_left (is_of_kind h n.1.0) (is_of_kind t n.1.1) e) (counted_is base n.0))
+    (λ n e. and_both (is_of_kind h n.1.0) (is_of_kind (Some kind.Oid) (counted_from base n.0)) (first_so (is_of_kind h n.1.0) (is_of_kind t n.1.1) e) (counted_is base n.0))
     (enumerate_from 0 b) (all_enumerated (pair_is h t) b 0 ok)
 
 -- the head of one pair beside what is taken of each pair of another BAT
@@ -130,11 +131,11 @@ beside_typed h h' t' k head f e step r ok = all_map (pair_is h' t') (pair_is h k
 
 crossed_typed : (h t h' t' : Option Kind) (l r : Pairs) → list_all (pair_is h t) l ≡ true → list_all (pair_is h' t') r ≡ true → list_all (pair_is h h') (crossed l r) ≡ true
 crossed_typed h t h' t' l r ok ok' = all_flat_map (pair_is h t) (pair_is h h') (λ p. map (λ q. (p.0, q.0)) r)
-    (λ p e. beside_typed h h' t' h' p.0 (λ q. q.0) (and_left (is_of_kind h p.0) (is_of_kind t p.1) e) (λ q g. and_left (is_of_kind h' q.0) (is_of_kind t' q.1) g) r ok') l ok
+    (λ p e. beside_typed h h' t' h' p.0 (λ q. q.0) (first_so (is_of_kind h p.0) (is_of_kind t p.1) e) (λ q g. first_so (is_of_kind h' q.0) (is_of_kind t' q.1) g) r ok') l ok
 
 joined_typed : (h t h' t' : Option Kind) (l r : Pairs) → list_all (pair_is h t) l ≡ true → list_all (pair_is h' t') r ≡ true → list_all (pair_is h t') (joined l r) ≡ true
 joined_typed h t h' t' l r ok ok' = all_flat_map (pair_is h t) (pair_is h t') (matches r)
-    (λ p e. beside_typed h h' t' t' p.0 (λ q. q.1) (and_left (is_of_kind h p.0) (is_of_kind t p.1) e) (λ q g. and_right (is_of_kind h' q.0) (is_of_kind t' q.1) g)
+    (λ p e. beside_typed h h' t' t' p.0 (λ q. q.1) (first_so (is_of_kind h p.0) (is_of_kind t p.1) e) (λ q g. second_so (is_of_kind h' q.0) (is_of_kind t' q.1) g)
     (filter (λ q. meets p.1 q.0) r) (all_filter (pair_is h' t') (λ q. meets p.1 q.0) r ok')) l ok
 
 -- ## Groups and aggregates
@@ -158,7 +159,7 @@ greatest_is : (k : Option Kind) (cells : List Cell) → list_all (is_of_kind k) 
 greatest_is k cells ok = found_passes (is_of_kind k) (λ c. list_all (λ x. is_ge (cell_cmp c x)) (known cells)) Nil (known cells) (nil_is k) (all_filter (is_of_kind k) (λ c. not (is_nil c)) cells ok)
 
 members_typed : (h t h' t' : Option Kind) (b g : Pairs) (group : Cell) → list_all (pair_is h t) b ≡ true → list_all (pair_is h' t') g ≡ true → list_all (is_of_kind t) (members b g group) ≡ true
-members_typed h t h' t' b g group ok ok' = all_map (pair_is t t') (is_of_kind t) (λ p. p.0) (λ p e. and_left (is_of_kind t p.0) (is_of_kind t' p.1) e)
+members_typed h t h' t' b g group ok ok' = all_map (pair_is t t') (is_of_kind t) (λ p. p.0) (λ p e. first_so (is_of_kind t p.0) (is_of_kind t' p.1) e)
     (filter (λ p. same_cell p.1 group) (paired_tails b g))
     (all_filter (pair_is t t') (λ p. same_cell p.1 group) (paired_tails b g)
     (all_zip (is_of_kind t) (is_of_kind t') (tails_of b) (tails_of g) (tails_typed h t b ok) (tails_typed h' t' g ok')))
@@ -206,17 +207,20 @@ opposite_is _ = refl
 negation_is : (x c : Cell) → Some (negation x) ≡ Some c → is_of_kind (Some kind.Bit) c ≡ true
 negation_is x c e = cell_along (Some kind.Bit) (negation x) c e (opposite_is x)
 
+nil_test_is : (x c : Cell) → Some (nil_test x) ≡ Some c → is_of_kind (Some kind.Bit) c ≡ true
+nil_test_is x c e = cell_along (Some kind.Bit) (nil_test x) c e refl
+
 -- scalars alone give a scalar
 scalar_type : (k : Kind) (args : List Value) (types : List ValueType) → are_of_types args types ≡ true → shortest args ≡ None → calculated_type k types ≡ OneOf (Some k)
 scalar_type k [] [] ok e = refl
-scalar_type k (One c ∷ args) (OneOf a ∷ types) ok e = scalar_type k args types (and_right (is_of_kind a c) (are_of_types args types) ok) e
+scalar_type k (One c ∷ args) (OneOf a ∷ types) ok e = scalar_type k args types (second_so (is_of_kind a c) (are_of_types args types) ok) e
 scalar_type k args types ok e = cc
 
 -- the heads of the first BAT are of its head kind
 bat_type : (k : Kind) (args : List Value) (types : List ValueType) (count : ℕ) → are_of_types args types ≡ true → shortest args ≡ Some count
     → (h : Option Kind) × (calculated_type k types ≡ BatOf h (Some k)) × (list_all (is_of_kind h) (first_heads (bats_in args)) ≡ true)
-bat_type k (Bat b ∷ args) (BatOf h t ∷ types) count ok e = (h, refl, heads_typed h t b (and_left (list_all (pair_is h t) b) (are_of_types args types) ok))
-bat_type k (One c ∷ args) (OneOf a ∷ types) count ok e = bat_type k args types count (and_right (is_of_kind a c) (are_of_types args types) ok) e
+bat_type k (Bat b ∷ args) (BatOf h t ∷ types) count ok e = (h, refl, heads_typed h t b (first_so (list_all (pair_is h t) b) (are_of_types args types) ok))
+bat_type k (One c ∷ args) (OneOf a ∷ types) count ok e = bat_type k args types count (second_so (is_of_kind a c) (are_of_types args types) ok) e
 bat_type k args types count ok e = absurd (cc)
 
 scalar_result : (k : Kind) (found : Option Cell) (v : Value) → ((c : Cell) → found ≡ Some c → is_of_kind (Some k) c ≡ true)
@@ -255,7 +259,7 @@ from_one_bat : (f : Option Kind → Option Kind → Option ValueType) (g : Pairs
     → ((h t : Option Kind) (b : Pairs) (r : ValueType) → list_all (pair_is h t) b ≡ true → f h t ≡ Some r → is_of_type (g b) r ≡ true)
     → (args : List Value) (types : List ValueType) (v : Value) (r : ValueType)
     → are_of_types args types ≡ true → from_bat f types ≡ Some r → of_bat g args ≡ Some v → is_of_type v r ≡ true
-from_one_bat f g step (Bat b ∷ []) (BatOf h t ∷ []) v r ok fit e = valued (g b) v r e (step h t b r (and_left (list_all (pair_is h t) b) true ok) fit)
+from_one_bat f g step (Bat b ∷ []) (BatOf h t ∷ []) v r ok fit e = valued (g b) v r e (step h t b r (first_so (list_all (pair_is h t) b) true ok) fit)
 from_one_bat f g step args types v r ok fit e = cc
 
 from_two_bats : (f : Option Kind → Option Kind → Option Kind → Option Kind → Option ValueType) (g : Pairs → Pairs → Value)
@@ -263,8 +267,8 @@ from_two_bats : (f : Option Kind → Option Kind → Option Kind → Option Kind
     → (args : List Value) (types : List ValueType) (v : Value) (r : ValueType)
     → are_of_types args types ≡ true → from_bats f types ≡ Some r → of_bats g args ≡ Some v → is_of_type v r ≡ true
 from_two_bats f g step (Bat l ∷ Bat b ∷ []) (BatOf h t ∷ BatOf h' t' ∷ []) v r ok fit e =
-    valued (g l b) v r e (step h t h' t' l b r (and_left (list_all (pair_is h t) l) (list_all (pair_is h' t') b && true) ok)
-    (and_left (list_all (pair_is h' t') b) true (and_right (list_all (pair_is h t) l) (list_all (pair_is h' t') b && true) ok)) fit)
+    valued (g l b) v r e (step h t h' t' l b r (first_so (list_all (pair_is h t) l) (list_all (pair_is h' t') b && true) ok)
+    (first_so (list_all (pair_is h' t') b) true (second_so (list_all (pair_is h t) l) (list_all (pair_is h' t') b && true) ok)) fit)
 from_two_bats f g step args types v r ok fit e = cc
 
 from_a_bat_and_cell : (f : Option Kind → Option Kind → Option Kind → Option ValueType) (g : Pairs → Cell → Value)
@@ -272,8 +276,8 @@ from_a_bat_and_cell : (f : Option Kind → Option Kind → Option Kind → Optio
     → (args : List Value) (types : List ValueType) (v : Value) (r : ValueType)
     → are_of_types args types ≡ true → from_bat_and_cell f types ≡ Some r → of_bat_and_cell g args ≡ Some v → is_of_type v r ≡ true
 from_a_bat_and_cell f g step (Bat b ∷ One c ∷ []) (BatOf h t ∷ OneOf k ∷ []) v r ok fit e =
-    valued (g b c) v r e (step h t k b c r (and_left (list_all (pair_is h t) b) (is_of_kind k c && true) ok)
-    (and_left (is_of_kind k c) true (and_right (list_all (pair_is h t) b) (is_of_kind k c && true) ok)) fit)
+    valued (g b c) v r e (step h t k b c r (first_so (list_all (pair_is h t) b) (is_of_kind k c && true) ok)
+    (first_so (is_of_kind k c) true (second_so (list_all (pair_is h t) b) (is_of_kind k c && true) ok)) fit)
 from_a_bat_and_cell f g step args types v r ok fit e = cc
 
 range_result : (h t low high li hi : Option Kind) (args : List Value) (v : Value) (r : ValueType)
@@ -283,7 +287,7 @@ range_result h t low high li hi (Bat b ∷ One a ∷ One c ∷ One x ∷ One y �
     valued (Bat (selected a c (is_true x) (is_true y) b)) v r e
     (guarded (agrees low t && agrees high t && agrees li (Some kind.Bit) && agrees hi (Some kind.Bit)) (Bat (selected a c (is_true x) (is_true y) b)) (BatOf h t) r fit
     (λ _. all_filter (pair_is h t) (λ p. is_within a c (is_true x) (is_true y) p.1) b
-    (and_left (list_all (pair_is h t) b) (is_of_kind low a && (is_of_kind high c && (is_of_kind li x && (is_of_kind hi y && true)))) ok)))
+    (first_so (list_all (pair_is h t) b) (is_of_kind low a && (is_of_kind high c && (is_of_kind li x && (is_of_kind hi y && true)))) ok)))
 range_result h t low high li hi args v r ok fit e = cc
 
 from_a_range : (args : List Value) (types : List ValueType) (v : Value) (r : ValueType)
@@ -307,6 +311,13 @@ from_one_cell taken k f step args (x ∷ []) v r ok fit e =
     (λ _. calculated_at_typed k (over_one f) (one_cell (Some k) f step) args (x ∷ []) v (shortest args) ok refl e)
 from_one_cell taken k f step args types v r ok fit e = cc
 
+from_any_cell : (k : Kind) (f : Cell → Option Cell) → ((x c : Cell) → f x ≡ Some c → is_of_kind (Some k) c ≡ true)
+    → (args : List Value) (types : List ValueType) (v : Value) (r : ValueType)
+    → are_of_types args types ≡ true → from_any k types ≡ Some r → calculated (over_one f) args ≡ Some v → is_of_type v r ≡ true
+from_any_cell k f step args (x ∷ []) v r ok fit e =
+    typed v (calculated_type k (x ∷ [])) r fit (calculated_at_typed k (over_one f) (one_cell (Some k) f step) args (x ∷ []) v (shortest args) ok refl e)
+from_any_cell k f step args types v r ok fit e = cc
+
 -- ## The table
 
 -- the value of an operator of arguments that fit it is of the type that the table says
@@ -323,7 +334,7 @@ typed_result op.Kunion args types v t ok fit e = from_two_bats (λ h t h' t'. th
 typed_result op.Reverse args types v t ok fit e = from_one_bat (λ h t. Some (BatOf t h)) (λ b. Bat (reversed b))
     (λ h t b s okb fits. typed (Bat (reversed b)) (BatOf t h) s fits (reversed_typed h t b okb)) args types v t ok fit e
 typed_result op.Mirror args types v t ok fit e = from_one_bat (λ h t. Some (BatOf h h)) (λ b. Bat (mirrored b))
-    (λ h t b s okb fits. typed (Bat (mirrored b)) (BatOf h h) s fits (beside_heads_typed h t h (λ p. p.0) (λ p g. and_left (is_of_kind h p.0) (is_of_kind t p.1) g) b okb)) args types v t ok fit e
+    (λ h t b s okb fits. typed (Bat (mirrored b)) (BatOf h h) s fits (beside_heads_typed h t h (λ p. p.0) (λ p g. first_so (is_of_kind h p.0) (is_of_kind t p.1) g) b okb)) args types v t ok fit e
 typed_result op.MarkT args types v t ok fit e = from_a_bat_and_cell (λ h t base. then_some (agrees base (Some kind.Oid)) (BatOf h (Some kind.Oid))) (λ b base. Bat (marked base b))
     (λ h t k b base s okb okc fits. guarded (agrees k (Some kind.Oid)) (Bat (marked base b)) (BatOf h (Some kind.Oid)) s fits (λ _. marked_typed h t base b okb)) args types v t ok fit e
 typed_result op.Project args types v t ok fit e = from_a_bat_and_cell (λ h t k. Some (BatOf h k)) (λ b cell. Bat (projected cell b))
@@ -366,3 +377,4 @@ typed_result op.Ge args types v t ok fit e = from_two_cells are_comparable kind.
 typed_result op.And args types v t ok fit e = from_two_cells (both_are kind.Bit) kind.Bit (λ x y. Some (conjunction x y)) conjunction_is args types v t ok fit e
 typed_result op.Or args types v t ok fit e = from_two_cells (both_are kind.Bit) kind.Bit (λ x y. Some (disjunction x y)) disjunction_is args types v t ok fit e
 typed_result op.Not args types v t ok fit e = from_one_cell kind.Bit kind.Bit (λ x. Some (negation x)) negation_is args types v t ok fit e
+typed_result op.IsNil args types v t ok fit e = from_any_cell kind.Bit (λ x. Some (nil_test x)) nil_test_is args types v t ok fit e

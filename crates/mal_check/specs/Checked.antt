@@ -10,27 +10,13 @@ use Rattle.cell_core.specs.declared.operator.Arg.TheVariants.{Const, Var}
 use Rattle.cell_core.specs.declared.operator.Instr.{Instr}
 use Rattle.cell_core.specs.Kinds.{ValueType, OneOf, BatOf, kind_of, agrees, result_type, bind_type}
 use Rattle.cell_core.specs.Calc.{all_or_none}
+use Rattle.cell_core.specs.Forms.{argument_count}
 use Rattle.mal_meaning.specs.declared.plan.Out.{Out}
 use Rattle.mal_meaning.specs.declared.plan.Plan.{Plan}
 use Rattle.mal_check.specs.declared.error.PlanError.{PlanError}
 use Rattle.mal_check.specs.declared.error.PlanError.TheVariants.{UnknownVar, KindsDiffer, WrongCount, NoOutput}
 
 -- ## Instructions
-
--- how many arguments an operator takes
-abbrev pub argument_count : Op → ℕ
-argument_count op.Bind = 3
-argument_count op.Select = 5
-argument_count op.Reverse = 1
-argument_count op.Mirror = 1
-argument_count op.GroupNew = 1
-argument_count op.GroupHeads = 1
-argument_count op.Count = 1
-argument_count op.Sum = 1
-argument_count op.Min = 1
-argument_count op.Max = 1
-argument_count op.Not = 1
-argument_count _ = 2
 
 -- the type of an argument behind instructions of these types, if it names none that comes later
 abbrev pub arg_type : List ValueType → Arg → Option ValueType

@@ -1,3 +1,4 @@
 pub mod Checked
+pub mod Pointwise
 pub mod Runnable
 pub mod Types

@@ -2,6 +2,7 @@
 ghost use Rattle.std.specs.Prelude.{◌≡◌, ◌≢◌, length, map, Some, None, Ok, Err, IfOk, IfErr, OnOk};
 ghost use Rattle.std.specs.Option.{option_map};
 ghost use Rattle.mal_check.specs.declared.error.PlanError.TheVariants as PlanError;
+ghost use Rattle.cell_core.specs.Forms as forms;
 ghost use Rattle.mal_check.specs.Checked as checked;
 ghost use Rattle.mal_check.specs.Checked.{plan_fault};
 ghost use Rattle.mal_check.specs.Types.{type_of, types_of};
@@ -9,27 +10,19 @@ ghost use Rattle.mal_check.specs.Types.{type_of, types_of};
 use crate::error::PlanError;
 use crate::kinds::{ValueKind, arg_kind, bind_kind, result_kind};
 use crate::output::out_fault;
-use cell_core::{Arg, Instr, Memory, Op, Sequence};
+use cell_core::{Arg, Form, Instr, Memory, Op, Sequence};
 use mal_meaning::Plan;
 use std::alloc::Global;
 
 /// How many arguments an operator takes.
 fn argument_count(op: Op) -> usize
-    ensures { result ≡ checked.argument_count op }
+    ensures { result ≡ forms.argument_count op }
 {
-    match op {
-        Op::Bind => 3,
-        Op::Select => 5,
-        Op::Reverse
-        | Op::Mirror
-        | Op::GroupNew
-        | Op::GroupHeads
-        | Op::Count
-        | Op::Sum
-        | Op::Min
-        | Op::Max
-        | Op::Not => 1,
-        _ => 2,
+    match op.form() {
+        Form::Bind => 3,
+        Form::Range => 5,
+        Form::OneBat | Form::Total | Form::OneCell => 1,
+        Form::BatAndCell | Form::TwoBats | Form::TwoCells => 2,
     }
 }
 

@@ -5,7 +5,7 @@ ghost use Rattle.std.specs.Option.{option_map};
 ghost use Rattle.cell_core.specs.declared.cell.Kind.TheVariants as kind;
 ghost use Rattle.cell_core.specs.declared.operator.Op.TheVariants as operator;
 ghost use Rattle.cell_core.specs.Kinds as kinds;
-ghost use Rattle.cell_core.specs.Kinds.{OneOf, BatOf, result_type, bind_type, from_one, from_two, from_range};
+ghost use Rattle.cell_core.specs.Kinds.{OneOf, BatOf, result_type, bind_type, from_one, from_any, from_two, from_range};
 ghost use Rattle.mal_meaning.specs.Slow.{takes_bat, takes_bats, takes_cell};
 ghost use Rattle.mal_check.specs.Checked.{arg_type};
 ghost use Rattle.mal_check.specs.Types.{type_of, types_of};
@@ -121,6 +121,16 @@ fn negation_kind(args: &[ValueKind]) -> Option<ValueKind>
         Some(calculated_kind(Kind::Bit, args))
     } else {
         None
+    }
+}
+
+/// The kind that a test for Nil has.
+fn nil_test_kind(args: &[ValueKind]) -> Option<ValueKind>
+    ensures { option_map type_of result ≡ from_any kind.Bit (types_of args.now) }
+{
+    match args {
+        [_] => Some(calculated_kind(Kind::Bit, args)),
+        _ => None,
     }
 }
 
@@ -245,6 +255,7 @@ pub(crate) fn result_kind(op: Op, args: &[ValueKind]) -> Option<ValueKind>
         Op::Eq | Op::Ne | Op::Lt | Op::Le | Op::Gt | Op::Ge => comparison_kind(args),
         Op::And | Op::Or => junction_kind(args),
         Op::Not => negation_kind(args),
+        Op::IsNil => nil_test_kind(args),
     }
 }
 

@@ -10,9 +10,7 @@ mod error;
 mod kinds;
 mod laws;
 mod output;
-#[cfg(test)]
-mod tests;
 
 pub use check::check_plan;
 pub use error::PlanError;
-pub use laws::checked_plans_run;
+pub use laws::{checked_instrs_fit, checked_plans_run, others_have_values};

@@ -7,8 +7,6 @@
 
 mod rows;
 mod run;
-#[cfg(test)]
-mod tests;
 
 pub use rows::output;
 pub use run::{Ran, run_plan};

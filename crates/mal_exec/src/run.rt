@@ -2,15 +2,14 @@
 ghost use Rattle.std.specs.Prelude.{◌≡◌, [], ◌+◌, ◌≤◌, map, slice_get, Some, None, Err, IfOk, IfSome};
 ghost use Rattle.std.specs.Option.{option_map};
 ghost use Rattle.cell_core.specs.declared.memory.RunError.TheVariants as RunError;
-ghost use Rattle.cell_core.specs.Pairs.{pair_count};
 ghost use Rattle.cell_core.specs.Operators.{pairs_read};
 ghost use Rattle.bat_core.specs.Objects.{value_of, values_of};
-ghost use Rattle.mal_meaning.specs.Meaning.{arg_value, arg_values, bind_value, instr_value, instr_load, load_from, plan_rows, plan_load};
+ghost use Rattle.mal_meaning.specs.Meaning.{arg_value, arg_values, bind_value, column_pairs, instr_value, instr_load, load_from, plan_rows, plan_load};
 ghost use Rattle.mal_meaning.specs.Runs.{FitsHere, RunsFrom, Runs, run_values};
 
 use crate::rows::output;
-use bat_core::{Columns, Obj, Operate};
-use cell_core::{Arg, Cell, Instr, Memory, Op, RunError, Sequence, Steps};
+use bat_core::{Bat, Columns, Obj, Operate, Shared};
+use cell_core::{Arg, Cell, Instr, Memory, Op, RunError, Sequence, Steps, Word};
 use mal_meaning::Plan;
 use std::alloc::Global;
 use std::sync::ledger::Ledger;
@@ -73,6 +72,22 @@ fn args_at(alloc: Global, values: &[Obj], args: &[Arg]) -> Result<Option<Vec<Obj
     Ok(Some(found))
 }
 
+/// The cells of a column, each beside the number of its row; none where the database doesn't have the
+/// column.
+fn column_of<C: Columns>(
+    alloc: Global,
+    columns: &C,
+    table: &Word,
+    column: &Word,
+) -> Result<Shared, Memory>
+    ensures { IfOk result (λ shared. shared ≡ column_pairs table.now column.now (C.database columns.now)) }
+{
+    match columns.column(alloc, table, column)? {
+        Some(shared) => Ok(shared),
+        None => Shared::new(alloc, Bat::new(alloc)),
+    }
+}
+
 /// The column that a bind names.
 fn bind<C: Columns>(alloc: Global, columns: &C, args: &[Obj]) -> Result<Option<Obj>, Memory>
     ensures { IfOk result (λ found. option_map value_of found ≡ bind_value (C.database columns.now) (values_of args.now)) }
@@ -85,20 +100,7 @@ fn bind<C: Columns>(alloc: Global, columns: &C, args: &[Obj]) -> Result<Option<O
     else {
         return Ok(None);
     };
-    Ok(match columns.column(alloc, table, column)? {
-        Some(shared) => Some(Obj::Bat(shared)),
-        None => None,
-    })
-}
-
-/// How many pairs a value has.
-fn count_of(value: &Obj) -> u64
-    ensures { result ≡ pair_count (value_of value.now) }
-{
-    match value {
-        Obj::Bat(b) => b.bat().len(),
-        Obj::One(_) => 0,
-    }
+    Ok(Some(Obj::Bat(column_of(alloc, columns, table, column)?)))
 }
 
 /// How many pairs the values have, where that is known to fit.
@@ -109,7 +111,7 @@ fn pairs_of(values: &[Obj]) -> Result<u128, Memory>
     let mut rest = values;
     'values: while let [value, more @ ..] = rest {
         pairs = pairs
-            .checked_add(u128::from(count_of(value)))
+            .checked_add(u128::from(value.pair_count()))
             .ok_or(Memory)?;
         rest = more;
     }
@@ -141,7 +143,7 @@ fn run_instr<C: Columns, E: Operate, L: Ledger>(
         let Some(value) = bind(alloc, columns, args.as_slice())? else {
             unreachable!();
         };
-        let work = count_of(&value);
+        let work = value.pair_count();
         steps.add(work);
         return Ok(Done {
             value,
@@ -151,7 +153,7 @@ fn run_instr<C: Columns, E: Operate, L: Ledger>(
     let read = pairs_of(args.as_slice())?;
     let value = kernel.run(alloc, instr.op, args.as_slice(), steps)?;
     let work = read
-        .checked_add(u128::from(count_of(&value)))
+        .checked_add(u128::from(value.pair_count()))
         .ok_or(Memory)?;
     Ok(Done { value, work })
 }

@@ -21,7 +21,7 @@ abbrev database : Db
 database = record {
   tables = record {
     name = codes "t";
-    columns = record { name = codes "a"; kind = kind.Int; width = 0; not_null = false } ∷ [];
+    columns = record { name = codes "a"; kind = kind.Int; width = 0; not_null = false; default = Nil } ∷ [];
     rows = (int 3 ∷ []) ∷ (int 1 ∷ []) ∷ (int 2 ∷ []) ∷ [];
   } ∷ [];
 }

@@ -100,6 +100,7 @@ function_is op.Ge args h = refl
 function_is op.And args h = refl
 function_is op.Or args h = refl
 function_is op.Not args h = refl
+function_is op.IsNil args h = refl
 function_is op.Bind args h = cc
 function_is op.Select args h = cc
 function_is op.Semijoin args h = cc

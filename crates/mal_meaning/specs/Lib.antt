@@ -1,4 +1,5 @@
 pub mod Meaning
 pub mod Output
 pub mod Runs
+pub mod SamePlan
 pub mod Slow

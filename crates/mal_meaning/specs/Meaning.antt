@@ -11,7 +11,7 @@ use Rattle.cell_core.specs.declared.operator.Instr.{Instr}
 use Rattle.cell_core.specs.declared.operator.Value.{Value}
 use Rattle.cell_core.specs.declared.operator.Value.TheVariants.{Bat, One}
 use Rattle.cell_core.specs.declared.table.Db.{Db}
-use Rattle.cell_core.specs.Pairs.{pair_count}
+use Rattle.cell_core.specs.Pairs.{Pairs, pair_count}
 use Rattle.cell_core.specs.Calc.{all_or_none}
 use Rattle.cell_core.specs.Relations.{bound}
 use Rattle.cell_core.specs.Operators.{operate, work_of}
@@ -27,9 +27,13 @@ arg_value values (Var n) = unwrap_or (slice_get values n) None
 abbrev pub arg_values : List (Option Value) → List Arg → Option (List Value)
 arg_values values args = all_or_none (map (arg_value values) args)
 
+-- the cells of a column, each beside the number of its row; none where the database doesn't have the column
+abbrev pub column_pairs : List ℕ → List ℕ → Db → Pairs
+column_pairs table column db = unwrap_or (bound table column db) []
+
 -- the column that the arguments of a bind name
 abbrev pub bind_value : Db → List Value → Option Value
-bind_value db (One (Text table) ∷ One (Text column) ∷ One (Text kind) ∷ []) = option_map Bat (bound table column db)
+bind_value db (One (Text table) ∷ One (Text column) ∷ One (Text kind) ∷ []) = Some (Bat (column_pairs table column db))
 bind_value db _ = None
 
 -- the value of an operator over a database

@@ -12,7 +12,7 @@ use Rattle.cell_core.specs.declared.operator.Value.TheVariants.{Bat, One}
 use Rattle.cell_core.specs.Same.{same_cell}
 use Rattle.cell_core.specs.Pairs.{Pairs, heads_of}
 use Rattle.cell_core.specs.Groups.{same_pair}
-use Rattle.cell_core.specs.Calc.{arithmetic, comparison, conjunction, disjunction, negation, over_two, over_one}
+use Rattle.cell_core.specs.Calc.{arithmetic, comparison, conjunction, disjunction, negation, nil_test, over_two, over_one}
 use Rattle.mal_meaning.specs.declared.groups.Sameness.{Sameness}
 use Rattle.mal_meaning.specs.declared.groups.Sameness.TheVariants as sameness
 use Rattle.cell_calc.specs.declared.aggregate.Aggregate.{Aggregate}
@@ -57,6 +57,7 @@ function_of op.Ge = over_two (λ x y. Some (comparison is_ge x y))
 function_of op.And = over_two (λ x y. Some (conjunction x y))
 function_of op.Or = over_two (λ x y. Some (disjunction x y))
 function_of op.Not = over_one (λ x. Some (negation x))
+function_of op.IsNil = over_one (λ x. Some (nil_test x))
 function_of _ = λ row. None
 
 -- the shorter of two lengths, of which the first may be missing
@@ -115,4 +116,5 @@ is_function op.Ge = true
 is_function op.And = true
 is_function op.Or = true
 is_function op.Not = true
+is_function op.IsNil = true
 is_function _ = false

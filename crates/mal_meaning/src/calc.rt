@@ -6,8 +6,8 @@ ghost use Rattle.mal_meaning.specs.Slow.{function_of, shorter_of};
 
 use crate::columns::{heads, pair_up};
 use cell_calc::{
-    both, difference, either, is_above, is_at_least, is_at_most, is_below, is_equal, is_unequal,
-    opposite, product, sum,
+    both, difference, either, has_no_value, is_above, is_at_least, is_at_most, is_below, is_equal,
+    is_unequal, opposite, product, sum,
 };
 use cell_core::{Cell, Memory, Op, Sequence, Value};
 use std::alloc::Global;
@@ -32,18 +32,23 @@ fn apply_two(op: Op, x: &Cell, y: &Cell) -> Option<Cell>
     }
 }
 
+/// A function of one cell.
+fn apply_one(op: Op, x: &Cell) -> Option<Cell>
+    ensures { result ≡ function_of op (x.now ∷ []) }
+{
+    match op {
+        Op::Not => Some(opposite(x)),
+        Op::IsNil => Some(has_no_value(x)),
+        _ => None,
+    }
+}
+
 /// A function of cells over a row of arguments.
 fn apply_function(op: Op, row: &[Cell]) -> Option<Cell>
     ensures { result ≡ function_of op row.now }
 {
     match row {
-        [x] => {
-            if op == Op::Not {
-                Some(opposite(x))
-            } else {
-                None
-            }
-        }
+        [x] => apply_one(op, x),
         [x, y] => apply_two(op, x, y),
         _ => None,
     }

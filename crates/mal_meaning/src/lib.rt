@@ -15,9 +15,7 @@ mod output;
 mod plan;
 mod relations;
 mod slow;
-#[cfg(test)]
-mod tests;
 
 pub use output::arrange;
-pub use plan::{Out, Plan};
+pub use plan::{Out, Plan, equal_plans_are_the_same};
 pub use slow::slow_run;

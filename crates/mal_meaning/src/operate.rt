@@ -160,6 +160,7 @@ pub(crate) fn run(alloc: Global, op: Op, args: &[Value]) -> Result<Option<Value>
         | Op::Ge
         | Op::And
         | Op::Or
-        | Op::Not => run_function(alloc, op, args),
+        | Op::Not
+        | Op::IsNil => run_function(alloc, op, args),
     }
 }

@@ -4,8 +4,8 @@ ghost use Rattle.std.specs.Option.{option_map};
 ghost use Rattle.cell_core.specs.declared.memory.RunError.TheVariants as RunError;
 ghost use Rattle.cell_core.specs.declared.cell.Cell.TheVariants.{Nil};
 ghost use Rattle.cell_core.specs.Pairs.{numbered};
-ghost use Rattle.cell_core.specs.Relations.{column_cells, bound};
-ghost use Rattle.mal_meaning.specs.Meaning.{arg_value, arg_values, bind_value, instr_value, plan_rows};
+ghost use Rattle.cell_core.specs.Relations.{column_cells};
+ghost use Rattle.mal_meaning.specs.Meaning.{arg_value, arg_values, column_pairs, bind_value, instr_value, plan_rows};
 ghost use Rattle.mal_meaning.specs.Runs.{run_values};
 
 use crate::columns::number;
@@ -38,23 +38,24 @@ fn cells_at(alloc: Global, rows: &[Sequence<Cell>], place: usize) -> Result<Sequ
     Ok(cells)
 }
 
-/// The cells of a column, each beside the number of its row, if the database has the column.
+/// The cells of a column, each beside the number of its row; none where the database doesn't have the
+/// column.
 fn column(
     alloc: Global,
     db: &Db,
     table: &Word,
     name: &Word,
-) -> Result<Option<Sequence<(Cell, Cell)>>, Memory>
-    ensures { IfOk result (λ found. found ≡ bound table.now name.now db.now) }
+) -> Result<Sequence<(Cell, Cell)>, Memory>
+    ensures { IfOk result (λ pairs. pairs ≡ column_pairs table.now name.now db.now) }
 {
     let Some(table) = db.table(table) else {
-        return Ok(None);
+        return Ok(Sequence::new(alloc));
     };
     let Some(place) = find_column(table.columns.as_slice(), name) else {
-        return Ok(None);
+        return Ok(Sequence::new(alloc));
     };
     let cells = cells_at(alloc, table.rows.as_slice(), place)?;
-    Ok(Some(number(alloc, cells.as_slice())?))
+    number(alloc, cells.as_slice())
 }
 
 /// The column that the arguments of a bind name.
@@ -69,10 +70,7 @@ fn bind(alloc: Global, db: &Db, args: &[Value]) -> Result<Option<Value>, Memory>
     else {
         return Ok(None);
     };
-    Ok(match column(alloc, db, table, name)? {
-        Some(pairs) => Some(Value::Bat(pairs)),
-        None => None,
-    })
+    Ok(Some(Value::Bat(column(alloc, db, table, name)?)))
 }
 
 /// The value of an argument, if the instruction that it names has one.
@@ -142,7 +140,7 @@ fn run_instrs(alloc: Global, db: &Db, instrs: &[Instr]) -> Result<Option<Sequenc
 
 /// The rows of a plan over a database, computed instruction by instruction over plain lists.
 /// `Overflow` stands for an instruction without a value: one that overflows, whose arguments don't
-/// fit, or that names a result or a column which isn't there.
+/// fit, or that names a result which isn't there.
 #[tactic(auto, using(crate::specs::Runs::rows_of_run))]
 pub fn slow_run(alloc: Global, plan: &Plan, db: &Db) -> Result<Sequence<Sequence<Cell>>, RunError>
     ensures rows { IfOk result (λ rows. plan_rows plan.now db.now ≡ Some rows) }

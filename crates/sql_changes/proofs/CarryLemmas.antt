@@ -1,5 +1,6 @@
 -- What a plan that is carried out leaves of a database, and its reply.
 use Rattle.std.proofs.Common.{◌≡◌, ℕ, List, refl, ap, sym, ◌∙◌, Option, Some, None, IsSome}
+use Rattle.std.specs.Prelude.{Result, Ok, Err, IfOk}
 use Rattle.cell_core.specs.declared.table.Table.{Table}
 use Rattle.cell_core.specs.declared.table.Db.{Db}
 use Rattle.sql_tree.specs.Names.{name_text}
@@ -11,6 +12,7 @@ use Rattle.sql_semantics.specs.declared.refusal.Reply.TheVariants as reply
 use Rattle.sql_semantics.specs.Sources.{schema_of}
 use Rattle.sql_semantics.specs.Check.{check_refusal}
 use Rattle.sql_semantics.specs.Effect.{Change, changed, changed_by, accepted, effect, effect_unless}
+use Rattle.sql_semantics.proofs.RefusedLemmas.{accepted_leaves}
 use Rattle.sql_changes.specs.declared.plan.Work.{Work}
 use Rattle.sql_changes.specs.declared.plan.Plan.{Plan}
 use Rattle.sql_changes.specs.declared.plan.Plan.TheVariants.{Refused, Accepted}
@@ -53,3 +55,21 @@ not_there name change found db r is e =
 -- where the check has no refusal, what an accepted statement does is its effect
 pub effect_is : (stmt : StmtTree) (db : Db) → check_refusal stmt (schema_of db) ≡ None → accepted stmt db ≡ effect stmt db
 effect_is stmt db e = ap (λ (r : Option Refusal). effect_unless r stmt db) (sym e)
+
+-- ## Refused statements
+
+pub refused_leaves : {E : Type 0} (stmt : StmtTree) (before after : Db) (outcome : Result Reply E) (refusal : Refusal)
+    → IfOk outcome (λ r. (after, r) ≡ accepted stmt before) → outcome ≡ Ok (reply.Refused refusal) → after ≡ before
+refused_leaves stmt before after (Err m) refusal done e = cc
+refused_leaves stmt before after (Ok r) refusal done e =
+    let same : r ≡ reply.Refused refusal = cc in
+    let both : (after, reply.Refused refusal) ≡ accepted stmt before = ap (λ (x : Reply). (after, x)) (sym same) ∙ done in
+    ap (λ (p : Db × Reply). p.0) both ∙ accepted_leaves stmt before refusal (sym (ap (λ (p : Db × Reply). p.1) both))
+
+pub refused_copy : {E : Type 0} (stmt : StmtTree) (db left : Db) (outcome : Result (Db × Reply) E) (refusal : Refusal)
+    → IfOk outcome (λ o. o ≡ accepted stmt db) → outcome ≡ Ok (left, reply.Refused refusal) → left ≡ db
+refused_copy stmt db left (Err m) refusal done e = cc
+refused_copy stmt db left (Ok o) refusal done e =
+    let same : o ≡ (left, reply.Refused refusal) = cc in
+    let both : (left, reply.Refused refusal) ≡ accepted stmt db = sym same ∙ done in
+    ap (λ (p : Db × Reply). p.0) both ∙ accepted_leaves stmt db refusal (sym (ap (λ (p : Db × Reply). p.1) both))

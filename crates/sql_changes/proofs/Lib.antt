@@ -2,3 +2,5 @@ pub mod FateLemmas
 pub mod PlanLemmas
 pub mod PlaceLemmas
 pub mod CarryLemmas
+pub mod RefusalLemmas
+pub mod AlterLemmas

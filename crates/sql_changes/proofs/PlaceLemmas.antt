@@ -74,3 +74,44 @@ pub set_once : (name : List ℕ) (work : Work) (tables : List Table) (first : Ta
 set_once name work [] first at e = cc
 set_once name work (table ∷ tables) first at e =
     set_step name work tables table first (bytes_eq table.name name) (place_once name tables) at refl refl e (λ k f. set_once name work tables first k f)
+
+-- ## Any change of the table
+
+-- a table that is changed where it has the name
+abbrev pub where_named : List ℕ → (Table → Table) → Table → Table
+where_named name f table = cond (bytes_eq table.name name) (f table) table
+
+named_here : (f : Table → Table) (b : Bool) (table : Table) → b ≡ false → cond b (f table) table ≡ table
+named_here f true table e = cc
+named_here f false table e = refl
+
+others_stay : (name : List ℕ) (f : Table → Table) (tables : List Table) → list_any (is_named name) tables ≡ false → map (where_named name f) tables ≡ tables
+others_stay name f [] e = refl
+others_stay name f (table ∷ tables) e =
+    ap (λ (l : List Table). where_named name f table ∷ l) (others_stay name f tables (not_second _ _ e))
+    ∙ ap (λ (t : Table). t ∷ tables) (named_here f (bytes_eq table.name name) table (not_first _ _ e))
+
+where_step : (name : List ℕ) (f : Table → Table) (tables : List Table) (table first : Table) (b : Bool) (found : Option ℕ) (at : ℕ) → found ≡ place_once name tables
+    → cond b (cond (list_any (is_named name) tables) None (Some 0)) (option_map (λ n. suc n) found) ≡ Some at
+    → ((k : ℕ) → place_once name tables ≡ Some k → slice_set tables k (f (slice_index_or tables k first)) ≡ map (where_named name f) tables)
+    → slice_set (table ∷ tables) at (f (slice_index_or (table ∷ tables) at first)) ≡ cond b (f table) table ∷ map (where_named name f) tables
+where_step name f tables table first true found at e g behind = here (list_any (is_named name) tables) at refl g
+  where
+    here : (any : Bool) (at : ℕ) → list_any (is_named name) tables ≡ any → cond any None (Some 0) ≡ Some at
+        → slice_set (table ∷ tables) at (f (slice_index_or (table ∷ tables) at first)) ≡ f table ∷ map (where_named name f) tables
+    here true at t g = cc
+    here false zero t g = ap (λ (l : List Table). f table ∷ l) (sym (others_stay name f tables t))
+    here false (suc at) t g = let wrong : 0 ≡ suc at = cc in absurd (omega arith)
+where_step name f tables table first false None at e g behind = cc
+where_step name f tables table first false (Some k) zero e g behind = let wrong : suc k ≡ 0 = cc in absurd (omega arith)
+where_step name f tables table first false (Some k) (suc at) e g behind =
+    let same : suc k ≡ suc at = cc in
+    let here : k ≡ at = omega arith in
+    ap (λ (l : List Table). table ∷ l) (behind at (sym e ∙ ap (λ n. Some n) here))
+
+-- the one table with the name, changed, is every table with the name
+pub set_where : (name : List ℕ) (f : Table → Table) (tables : List Table) (first : Table) (at : ℕ) → place_once name tables ≡ Some at
+    → slice_set tables at (f (slice_index_or tables at first)) ≡ map (where_named name f) tables
+set_where name f [] first at e = cc
+set_where name f (table ∷ tables) first at e =
+    where_step name f tables table first (bytes_eq table.name name) (place_once name tables) at refl e (λ k g. set_where name f tables first k g)

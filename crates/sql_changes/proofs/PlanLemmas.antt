@@ -1,6 +1,6 @@
 -- Plans are what INSERT, DELETE and UPDATE mean.
 use Rattle.std.proofs.Common.{◌≡◌, ℕ, ◌+◌, List, [], ◌∷◌, ◌++◌, map, filter, length, Bool, true, false, not, ◌&&◌, ◌||◌, cond, refl, ap, sym, ◌∙◌, Option, Some, None}
-use Rattle.std.specs.Prelude.{codes, nat_lt}
+use Rattle.std.specs.Prelude.{codes, nat_lt, slice_get, Ok}
 use Rattle.std.specs.List.{list_any}
 use Rattle.std.proofs.lemmas.List.{length-map}
 use Rattle.cell_core.specs.declared.cell.Cell.{Cell}
@@ -8,39 +8,28 @@ use Rattle.cell_core.specs.declared.table.Column.{Column}
 use Rattle.cell_core.specs.declared.table.Table.{Table}
 use Rattle.sql_tree.specs.Tree.{ExprTree, CondTree}
 use Rattle.sql_semantics.specs.declared.refusal.Refusal.{Refusal}
-use Rattle.sql_semantics.specs.declared.refusal.Refusal.TheVariants.{TextTooLong, Overflow, Limit}
+use Rattle.sql_semantics.specs.declared.refusal.Refusal.TheVariants.{TextTooLong, NullStored, Overflow, Limit}
 use Rattle.sql_semantics.specs.Check.{refused_if, targets}
 use Rattle.sql_semantics.specs.Kept.{cond_overflows}
-use Rattle.sql_semantics.specs.Effect.{unless_refused, is_hit, deleted, updated, updated_row, inserted, placed, is_too_long_row, is_too_long_set, overflows_in, is_any_set, row_limit}
+use Rattle.sql_semantics.specs.Effect.{Change, unless_refused, is_hit, deleted, updated, updated_row, inserted, placed, is_too_long_row, is_null_row, is_too_long_set, is_null_set, overflows_in, is_any_set, row_limit}
 use Rattle.sql_changes.specs.declared.fate.Fate.{Fate}
 use Rattle.sql_changes.specs.declared.fate.Fate.TheVariants.{Stays, Goes, Becomes}
 use Rattle.sql_changes.specs.declared.plan.Work.TheVariants.{Adds, Settles}
 use Rattle.sql_changes.specs.declared.plan.Plan.TheVariants.{Refused, Accepted}
 use Rattle.sql_changes.specs.Plans.{change_of}
-use Rattle.sql_changes.specs.Parts.{is_true_of, deleted_fate, updated_fate, first_of, constants_overflow}
+use Rattle.sql_changes.specs.Faults.{in_turn}
+use Rattle.sql_changes.specs.Parts.{is_true_of, deleted_fate, updated_fate, constants_overflow, update_refusal, insert_refusal}
+use Rattle.sql_changes.proofs.RefusalLemmas.{first_is, third_not, refused_as, accepted_as}
 use Rattle.sql_changes.proofs.FateLemmas.{gone, become, touched_hits}
 
-both_same : (rows others : List (List Cell)) (n m : ℕ) → rows ≡ others → n ≡ m → unless_refused [] (rows, n) ≡ unless_refused [] (others, m)
-both_same rows others n m e f = ap (λ l. unless_refused [] (l, n)) e ∙ ap (λ k. unless_refused [] (others, k)) f
+-- an accepted change, by the rows that it leaves and how many it touches
+abbrev accepted_with : List (List Cell) → ℕ → Change
+accepted_with rows n = Ok (rows, n)
 
--- ## Two refusals in their order
+both_same : (rows others : List (List Cell)) (n m : ℕ) → rows ≡ others → n ≡ m → accepted_with rows n ≡ accepted_with others m
+both_same rows others n m e f = ap (λ l. accepted_with l n) e ∙ ap (λ k. accepted_with others k) f
 
-refused_by : (a b : Bool) (r s found : Refusal) (outcome : List (List Cell) × ℕ) → Some found ≡ first_of a r b s
-    → unless_refused (found ∷ []) outcome ≡ unless_refused (refused_if a r ++ refused_if b s) outcome
-refused_by true b r s found outcome e = let same : found ≡ r = cc in ap (λ x. unless_refused (x ∷ []) outcome) same
-refused_by false true r s found outcome e = let same : found ≡ s = cc in ap (λ x. unless_refused (x ∷ []) outcome) same
-refused_by false false r s found outcome e = cc
-
-accepted_by : (a b : Bool) (r s : Refusal) (outcome : List (List Cell) × ℕ) → None ≡ first_of a r b s
-    → unless_refused [] outcome ≡ unless_refused (refused_if a r ++ refused_if b s) outcome
-accepted_by true b r s outcome e = cc
-accepted_by false true r s outcome e = cc
-accepted_by false false r s outcome e = refl
-
-not_second : (a b : Bool) (r s : Refusal) → None ≡ first_of a r b s → b ≡ false
-not_second true b r s e = cc
-not_second false true r s e = cc
-not_second false false r s e = refl
+-- ## Refusals in their order
 
 not_middle : (a b c : Bool) → (a || b || c) ≡ false → b ≡ false
 not_middle true b c e = cc
@@ -88,80 +77,68 @@ deleted_not c table e = deleted_not_by (cond_overflows c) _ e
 
 -- ## UPDATE
 
+abbrev Updated : List (List ℕ × ExprTree) → Option CondTree → Table → List (List Cell) × ℕ
+Updated sets c table = (map (λ row. cond (is_hit c table row) (updated_row sets table row) row) table.rows, length (filter (is_hit c table) table.rows))
+
+abbrev update_list : List (List ℕ × ExprTree) → Option CondTree → Table → List (List Cell) → List Refusal
+update_list sets c table rows =
+    in_turn (is_any_set (is_too_long_set table) sets rows) TextTooLong (is_any_set (is_null_set table) sets rows) NullStored
+    (constants_overflow sets c || is_any_set (overflows_in table) sets rows) Overflow
+
+update_first : (sets : List (List ℕ × ExprTree)) (c : Option CondTree) (table : Table) (rows : List (List Cell)) → rows ≡ filter (is_hit c table) table.rows
+    → update_refusal sets c table rows ≡ slice_get (update_list sets c table (filter (is_hit c table) table.rows)) 0
+update_first sets c table rows is =
+    first_is (is_any_set (is_too_long_set table) sets rows) (is_any_set (is_null_set table) sets rows) (constants_overflow sets c || is_any_set (overflows_in table) sets rows)
+    TextTooLong NullStored Overflow
+    ∙ ap (λ (l : List (List Cell)). slice_get (update_list sets c table l) 0) is
+
 pub updated_not : (sets : List (List ℕ × ExprTree)) (c : Option CondTree) (table : Table) (rows : List (List Cell)) (found : Refusal)
-    → rows ≡ filter (is_hit c table) table.rows
-    → Some found ≡ first_of (is_any_set (is_too_long_set table) sets rows) TextTooLong (constants_overflow sets c || is_any_set (overflows_in table) sets rows) Overflow
-    → change_of (Refused found) table.rows ≡ updated sets c table
-updated_not sets c table rows found is e =
-    refused_by (is_any_set (is_too_long_set table) sets rows) (constants_overflow sets c || is_any_set (overflows_in table) sets rows) TextTooLong Overflow found
-    (map (λ row. cond (is_hit c table row) (updated_row sets table row) row) table.rows, length (filter (is_hit c table) table.rows)) e
-    ∙ ap (λ (l : List (List Cell)). unless_refused
-    (refused_if (is_any_set (is_too_long_set table) sets l) TextTooLong ++ refused_if (constants_overflow sets c || is_any_set (overflows_in table) sets l) Overflow)
-    (map (λ row. cond (is_hit c table row) (updated_row sets table row) row) table.rows, length (filter (is_hit c table) table.rows))) is
+    → rows ≡ filter (is_hit c table) table.rows → Some found ≡ update_refusal sets c table rows → change_of (Refused found) table.rows ≡ updated sets c table
+updated_not sets c table rows found is e = sym (refused_as (update_list sets c table (filter (is_hit c table) table.rows)) (Updated sets c table) found (e ∙ update_first sets c table rows is))
 
 updated_by : (o : Bool) (hit : List Cell → Bool) (new : List Cell → List Cell) (rows : List (List Cell)) → o ≡ false
     → change_of (Accepted (Settles (map (λ row. cond (hit row) (Becomes (new row)) Stays) rows))) rows
-    ≡ unless_refused [] (map (λ row. cond (not o && hit row) (new row) row) rows, length (filter (λ row. not o && hit row) rows))
+    ≡ accepted_with (map (λ row. cond (not o && hit row) (new row) row) rows) (length (filter (λ row. not o && hit row) rows))
 updated_by true hit new rows e = cc
 updated_by false hit new rows e = both_same _ _ _ _ (become hit new rows) (touched_hits hit (λ row. Becomes (new row)) (λ row. refl) rows)
 
 pub updated_is : (sets : List (List ℕ × ExprTree)) (c : Option CondTree) (table : Table) (rows : List (List Cell)) (fates : List Fate)
-    → rows ≡ filter (is_hit c table) table.rows
-    → None ≡ first_of (is_any_set (is_too_long_set table) sets rows) TextTooLong (constants_overflow sets c || is_any_set (overflows_in table) sets rows) Overflow
-    → fates ≡ map (updated_fate sets c table) table.rows
+    → rows ≡ filter (is_hit c table) table.rows → None ≡ update_refusal sets c table rows → fates ≡ map (updated_fate sets c table) table.rows
     → change_of (Accepted (Settles fates)) table.rows ≡ updated sets c table
 updated_is sets c table rows fates is none e =
-    let long = is_any_set (is_too_long_set table) sets rows in
-    let second = constants_overflow sets c || is_any_set (overflows_in table) sets rows in
-    let fits : cond_overflows c ≡ false = not_middle _ (cond_overflows c) _ (not_second long second TextTooLong Overflow none) in
+    let fits : cond_overflows c ≡ false = not_middle _ (cond_overflows c) _ (third_not _ _ _ TextTooLong NullStored Overflow none) in
     ap (λ (l : List Fate). change_of (Accepted (Settles l)) table.rows) e
     ∙ updated_by (cond_overflows c) (is_true_of c table) (updated_row sets table) table.rows fits
-    ∙ accepted_by long second TextTooLong Overflow
-    (map (λ row. cond (is_hit c table row) (updated_row sets table row) row) table.rows, length (filter (is_hit c table) table.rows)) none
-    ∙ ap (λ (l : List (List Cell)). unless_refused
-    (refused_if (is_any_set (is_too_long_set table) sets l) TextTooLong ++ refused_if (constants_overflow sets c || is_any_set (overflows_in table) sets l) Overflow)
-    (map (λ row. cond (is_hit c table row) (updated_row sets table row) row) table.rows, length (filter (is_hit c table) table.rows))) is
+    ∙ sym (accepted_as (update_list sets c table (filter (is_hit c table) table.rows)) (Updated sets c table) (none ∙ update_first sets c table rows is))
 
 -- ## INSERT
 
-first_refused : (a : Bool) (r : Refusal) (more : List Refusal) (outcome : List (List Cell) × ℕ) → a ≡ true
-    → unless_refused (r ∷ []) outcome ≡ unless_refused (refused_if a r ++ more) outcome
-first_refused true r more outcome e = refl
-first_refused false r more outcome e = cc
+abbrev insert_list : List Column → List (List Cell) → List (List Cell) → Table → List Refusal
+insert_list found rows more table =
+    in_turn (list_any (is_too_long_row found) rows) TextTooLong (list_any (is_null_row table.columns) more) NullStored (nat_lt row_limit (length table.rows + length rows)) (Limit (codes "rows"))
 
-second_refused : (a b : Bool) (r s : Refusal) (outcome : List (List Cell) × ℕ) → a ≡ false → b ≡ true
-    → unless_refused (s ∷ []) outcome ≡ unless_refused (refused_if a r ++ refused_if b s) outcome
-second_refused true b r s outcome e f = cc
-second_refused false true r s outcome e f = refl
-second_refused false false r s outcome e f = cc
+insert_first : (listed : List (List ℕ)) (rows more : List (List Cell)) (table : Table) (found : List Column)
+    → found ≡ targets table.columns listed → more ≡ map (placed table.columns listed) rows
+    → insert_refusal found rows more table ≡ slice_get (insert_list (targets table.columns listed) rows (map (placed table.columns listed) rows) table) 0
+insert_first listed rows more table found is m =
+    first_is (list_any (is_too_long_row found) rows) (list_any (is_null_row table.columns) more) (nat_lt row_limit (length table.rows + length rows)) TextTooLong NullStored (Limit (codes "rows"))
+    ∙ ap (λ (l : List Column). slice_get (insert_list l rows more table) 0) is
+    ∙ ap (λ (l : List (List Cell)). slice_get (insert_list (targets table.columns listed) rows l table) 0) m
 
-none_refused : (a b : Bool) (r s : Refusal) (outcome : List (List Cell) × ℕ) → a ≡ false → b ≡ false
-    → unless_refused [] outcome ≡ unless_refused (refused_if a r ++ refused_if b s) outcome
-none_refused true b r s outcome e f = cc
-none_refused false true r s outcome e f = cc
-none_refused false false r s outcome e f = refl
+abbrev Inserted : List (List ℕ) → List (List Cell) → Table → List (List Cell) × ℕ
+Inserted listed rows table = (table.rows ++ map (placed table.columns listed) rows, length rows)
 
-pub inserted_long : (listed : List (List ℕ)) (rows : List (List Cell)) (table : Table) (found : List Column)
-    → found ≡ targets table.columns listed → list_any (is_too_long_row found) rows ≡ true
-    → change_of (Refused TextTooLong) table.rows ≡ inserted listed rows table
-inserted_long listed rows table found is e =
-    first_refused (list_any (is_too_long_row (targets table.columns listed)) rows) TextTooLong _ _
-    (ap (λ (l : List Column). list_any (is_too_long_row l) rows) (sym is) ∙ e)
-
-pub inserted_past : (listed : List (List ℕ)) (rows : List (List Cell)) (table : Table) (found : List Column) (which : List ℕ)
-    → found ≡ targets table.columns listed → list_any (is_too_long_row found) rows ≡ false
-    → nat_lt row_limit (length table.rows + length rows) ≡ true → which ≡ codes "rows"
-    → change_of (Refused (Limit which)) table.rows ≡ inserted listed rows table
-inserted_past listed rows table found which is e past w =
-    ap (λ (t : List ℕ). change_of (Refused (Limit t)) table.rows) w
-    ∙ second_refused (list_any (is_too_long_row (targets table.columns listed)) rows) (nat_lt row_limit (length table.rows + length rows)) TextTooLong (Limit (codes "rows")) _
-    (ap (λ (l : List Column). list_any (is_too_long_row l) rows) (sym is) ∙ e) past
+pub inserted_not : (listed : List (List ℕ)) (rows more : List (List Cell)) (table : Table) (found : List Column) (refusal : Refusal)
+    → found ≡ targets table.columns listed → more ≡ map (placed table.columns listed) rows → Some refusal ≡ insert_refusal found rows more table
+    → change_of (Refused refusal) table.rows ≡ inserted listed rows table
+inserted_not listed rows more table found refusal is m e =
+    sym (refused_as (insert_list (targets table.columns listed) rows (map (placed table.columns listed) rows) table)
+    (Inserted listed rows table) refusal (e ∙ insert_first listed rows more table found is m))
 
 pub inserted_is : (listed : List (List ℕ)) (rows more : List (List Cell)) (table : Table) (found : List Column)
-    → found ≡ targets table.columns listed → list_any (is_too_long_row found) rows ≡ false
-    → nat_lt row_limit (length table.rows + length rows) ≡ false → more ≡ map (placed table.columns listed) rows
+    → found ≡ targets table.columns listed → more ≡ map (placed table.columns listed) rows → None ≡ insert_refusal found rows more table
     → change_of (Accepted (Adds more)) table.rows ≡ inserted listed rows table
-inserted_is listed rows more table found is e fits m =
+inserted_is listed rows more table found is m none =
     both_same _ _ _ _ (ap (λ l. table.rows ++ l) m) (ap (λ (l : List (List Cell)). length l) m ∙ length-map rows (placed table.columns listed))
-    ∙ none_refused (list_any (is_too_long_row (targets table.columns listed)) rows) (nat_lt row_limit (length table.rows + length rows)) TextTooLong (Limit (codes "rows")) _
-    (ap (λ (l : List Column). list_any (is_too_long_row l) rows) (sym is) ∙ e) fits
+    ∙ sym (accepted_as (insert_list (targets table.columns listed) rows (map (placed table.columns listed) rows) table)
+    (Inserted listed rows table) (none ∙ insert_first listed rows more table found is m))

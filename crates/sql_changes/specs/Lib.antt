@@ -1,3 +1,4 @@
 pub mod Fates
 pub mod Plans
+pub mod Faults
 pub mod Parts

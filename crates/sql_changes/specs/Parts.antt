@@ -1,14 +1,16 @@
 -- The fates of rows by what a DELETE or an UPDATE says; private contracts alone speak of them.
-use Rattle.std.specs.Prelude.{ℕ, List, [], ◌∷◌, Bool, ◌||◌, map, zip, find, bytes_eq, if◌then◌else◌, Option, Some, None}
+use Rattle.std.specs.Prelude.{ℕ, ◌+◌, List, [], ◌∷◌, length, Bool, not, ◌&&◌, ◌||◌, ◌==◌, nat_lt, map, zip, find, bytes_eq, codes, if◌then◌else◌, Option, Some, None}
 use Rattle.std.specs.List.{list_any}
 use Rattle.cell_core.specs.declared.cell.Cell.{Cell}
 use Rattle.cell_core.specs.declared.table.Column.{Column}
 use Rattle.cell_core.specs.declared.table.Table.{Table}
 use Rattle.sql_tree.specs.Tree.{ExprTree, CondTree}
 use Rattle.sql_semantics.specs.declared.refusal.Refusal.{Refusal}
+use Rattle.sql_semantics.specs.declared.refusal.Refusal.TheVariants.{TextTooLong, NullStored, Overflow, Limit}
 use Rattle.sql_semantics.specs.Values.{constant_overflows}
 use Rattle.sql_semantics.specs.Kept.{cond_overflows, is_kept}
-use Rattle.sql_semantics.specs.Effect.{own_table, set_cell, updated_row}
+use Rattle.sql_semantics.specs.Effect.{own_table, set_cell, updated_row, is_too_long_row, is_null_row, is_too_long_set, is_null_set, overflows_in, is_any_set, is_long_default, is_null_refused, row_limit, column_limit}
+use Rattle.sql_changes.specs.Faults.{first_of}
 use Rattle.sql_changes.specs.declared.fate.Fate.{Fate}
 use Rattle.sql_changes.specs.declared.fate.Fate.TheVariants.{Stays, Goes, Becomes}
 
@@ -30,10 +32,27 @@ set_at sets table row at = set_cell (own_table table) row (find (λ (set : List 
 abbrev pub set_cells : List (List ℕ × ExprTree) → Table → List Cell → List Column → List Cell → List Cell
 set_cells sets table row columns cells = map (set_at sets table row) (zip columns cells)
 
--- a refusal, or else another one, or else none
-abbrev pub first_of : Bool → Refusal → Bool → Refusal → Option Refusal
-first_of first refusal second other = if first then Some refusal else (if second then Some other else None)
-
 -- an operator without a column below it leaves the range in a SET or in the condition
 abbrev pub constants_overflow : List (List ℕ × ExprTree) → Option CondTree → Bool
 constants_overflow sets cond = list_any constant_overflows (map (λ (set : List ℕ × ExprTree). set.1) sets) || cond_overflows cond
+
+-- why an UPDATE that touches these rows is refused
+abbrev pub update_refusal : List (List ℕ × ExprTree) → Option CondTree → Table → List (List Cell) → Option Refusal
+update_refusal sets cond table rows =
+    first_of (is_any_set (is_too_long_set table) sets rows) TextTooLong
+    (is_any_set (is_null_set table) sets rows) NullStored
+    (constants_overflow sets cond || is_any_set (overflows_in table) sets rows) Overflow
+
+-- why an INSERT is refused whose values go to these columns, and make these rows of the table
+abbrev pub insert_refusal : List Column → List (List Cell) → List (List Cell) → Table → Option Refusal
+insert_refusal targets rows placed table =
+    first_of (list_any (is_too_long_row targets) rows) TextTooLong
+    (list_any (is_null_row table.columns) placed) NullStored
+    (nat_lt row_limit (length table.rows + length rows)) (Limit (codes "rows"))
+
+-- why an ALTER is refused
+abbrev pub alter_refusal : Column → Table → Option Refusal
+alter_refusal column table =
+    first_of (is_long_default column) TextTooLong
+    (is_null_refused column column.default && not (length table.rows == 0)) NullStored
+    (nat_lt column_limit (length table.columns + 1)) (Limit (codes "columns"))

@@ -3,6 +3,7 @@ use Rattle.std.specs.Prelude.{ℕ, suc, List, [], ◌∷◌, ◌++◌, length, m
 use Rattle.std.specs.List.{list_any}
 use Rattle.std.specs.Option.{option_map}
 use Rattle.cell_core.specs.declared.cell.Cell.{Cell}
+use Rattle.cell_core.specs.declared.table.Column.{Column}
 use Rattle.cell_core.specs.declared.table.Table.{Table}
 use Rattle.sql_semantics.specs.Effect.{Change, with_new_rows}
 use Rattle.sql_changes.specs.declared.plan.Work.{Work}
@@ -25,6 +26,10 @@ touched_by (Settles fates) = count_by is_touched fates
 abbrev pub change_of : Plan → List (List Cell) → Change
 change_of (Refused refusal) rows = Err refusal
 change_of (Accepted work) rows = Ok (rows_after work rows, touched_by work)
+
+-- the table with one more column, whose cells are its default
+abbrev pub grown : Column → Table → Table
+grown column table = record table { columns = table.columns ++ column ∷ []; rows = map (λ (row : List Cell). row ++ column.default ∷ []) table.rows }
 
 -- the table has this name
 abbrev pub is_named : List ℕ → Table → Bool

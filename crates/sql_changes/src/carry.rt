@@ -28,7 +28,7 @@ fn has_name(tables: &[Table], name: &Word) -> bool
 }
 
 /// The place of the table with this name, where one alone has it.
-fn find_once(tables: &[Table], name: &Word) -> Option<usize>
+pub(crate) fn find_once(tables: &[Table], name: &Word) -> Option<usize>
     ensures place { result ≡ place_once name.now tables.now }
     ensures within { IfSome result (λ at. at < length tables.now) }
 {

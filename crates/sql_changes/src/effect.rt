@@ -1,20 +1,24 @@
 //! What statements do to a database.
-ghost use Rattle.std.specs.Prelude.{◌≡◌, bytes_eq, filter, map, not, None, IfOk, OnErr};
+ghost use Rattle.std.specs.Prelude.{◌≡◌, bytes_eq, filter, map, not, None, Ok, IfOk, OnErr};
 ghost use Rattle.std.specs.Option.{option_map};
+ghost use Rattle.cell_core.specs.declared.table.Db.{Db as DbSeen};
 ghost use Rattle.cell_core.specs.declared.table.Table.{Table as TableSeen};
 ghost use Rattle.cell_core.specs.Tables.{named_table};
 ghost use Rattle.sql_tree.specs.Tree.{cond_tree, set_tree, stmt_tree};
 ghost use Rattle.sql_tree.specs.Names.{name_text};
+ghost use Rattle.sql_semantics.specs.declared.refusal.Refusal.{Refusal as RefusalSeen};
 ghost use Rattle.sql_semantics.specs.declared.refusal.Refusal.TheVariants as refusal;
 ghost use Rattle.sql_semantics.specs.declared.refusal.Reply.TheVariants.{Refused};
 ghost use Rattle.sql_semantics.specs.Sources.{schema_of};
 ghost use Rattle.sql_semantics.specs.Check.{check_refusal};
-ghost use Rattle.sql_semantics.specs.Effect.{accepted, changed, created, deleted, dropped, effect, inserted, updated};
+ghost use Rattle.sql_semantics.specs.Effect.{accepted, altered, changed, created, deleted, dropped, effect, inserted, updated};
 
+use crate::alter::{add_column, refusal_for};
 use crate::carry::carry_out;
 use crate::copy::copy_db;
 use crate::delete::delete_plan;
 use crate::insert::insert_plan;
+use crate::stored::has_long_default;
 use crate::update::update_plan;
 use cell_core::{Cell, Column, Db, Memory, Sequence, Table, Word, copy_columns};
 use sql_semantics::{Refusal, Reply};
@@ -27,6 +31,9 @@ fn create(alloc: Global, name: &Word, columns: &[Column], db: &mut Db) -> Result
     ensures done { IfOk result (λ reply. (db.new, reply) ≡ created name.now columns.now db.old) }
     ensures kept { OnErr result (db.new ≡ db.old) }
 {
+    if has_long_default(columns) {
+        return Ok(Reply::Refused(Refusal::TextTooLong));
+    }
     let table = Table {
         name: name.share()?,
         columns: copy_columns(alloc, columns)?,
@@ -60,6 +67,21 @@ fn no_table(alloc: Global, name: &Word) -> Result<Reply, Memory>
 {
     let name = printed_name(alloc, name)?;
     Ok(Reply::Refused(Refusal::NoTable(name)))
+}
+
+/// Adds a column to a table.
+fn alter(alloc: Global, name: &Word, column: &Column, db: &mut Db) -> Result<Reply, Memory>
+    ensures done { IfOk result (λ reply. (db.new, reply) ≡ altered name.now column.now (named_table name.now db.old) db.old) }
+    ensures kept { OnErr result (db.new ≡ db.old) }
+{
+    let Some(table) = db.table(name) else {
+        return no_table(alloc, name);
+    };
+    if let Some(refusal) = refusal_for(alloc, column, table)? {
+        return Ok(Reply::Refused(refusal));
+    }
+    add_column(alloc, name, column, db)?;
+    Ok(Reply::Done)
 }
 
 /// Adds rows to a table.
@@ -118,6 +140,7 @@ fn accept(alloc: Global, stmt: &Stmt, db: &mut Db) -> Result<Reply, Memory>
     match stmt {
         Stmt::Create { table, columns } => create(alloc, table, columns.as_slice(), db),
         Stmt::Drop { table } => Ok(drop_named(alloc, table, db)),
+        Stmt::Alter { table, column } => alter(alloc, table, column, db),
         Stmt::Insert {
             table,
             columns,
@@ -132,10 +155,11 @@ fn accept(alloc: Global, stmt: &Stmt, db: &mut Db) -> Result<Reply, Memory>
 
 /// Does what an accepted statement does to a database, in place, and tells its reply. A query
 /// changes nothing, and a change of a table that isn't there is refused; where the check accepts the
-/// statement, this is its effect. Where memory runs out the database is as it was.
+/// statement, this is its effect. A refused statement leaves the database as it was. Where memory runs out the database is as it was.
 pub fn change(alloc: Global, stmt: &Stmt, db: &mut Db) -> Result<Reply, Memory>
     ensures done { IfOk result (λ reply. (db.new, reply) ≡ accepted (stmt_tree stmt.now) db.old) }
     ensures effect { check_refusal (stmt_tree stmt.now) (schema_of db.old) ≡ None → IfOk result (λ reply. (db.new, reply) ≡ effect (stmt_tree stmt.now) db.old) }
+    ensures refused { (refusal : RefusalSeen) → result ≡ Ok (Refused refusal) → db.new ≡ db.old }
     ensures kept { OnErr result (db.new ≡ db.old) }
 {
     accept(alloc, stmt, db)
@@ -145,6 +169,7 @@ pub fn change(alloc: Global, stmt: &Stmt, db: &mut Db) -> Result<Reply, Memory>
 pub fn slow_effect(alloc: Global, stmt: &Stmt, db: &Db) -> Result<(Db, Reply), Memory>
     ensures done { IfOk result (λ outcome. outcome ≡ accepted (stmt_tree stmt.now) db.now) }
     ensures effect { check_refusal (stmt_tree stmt.now) (schema_of db.now) ≡ None → IfOk result (λ outcome. outcome ≡ effect (stmt_tree stmt.now) db.now) }
+    ensures refused { (left : DbSeen) (refusal : RefusalSeen) → result ≡ Ok (left, Refused refusal) → left ≡ db.now }
 {
     let mut copy = copy_db(alloc, db)?;
     let reply = change(alloc, stmt, &mut copy)?;

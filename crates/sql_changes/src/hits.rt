@@ -2,12 +2,12 @@
 ghost use Rattle.std.specs.Prelude.{◌≡◌, [], ◌∷◌, filter, is_none, IfOk};
 ghost use Rattle.std.specs.Option.{option_map};
 ghost use Rattle.sql_tree.specs.Tree.{cond_tree, expr_tree};
-ghost use Rattle.sql_semantics.specs.Values.{value as value_of, cell_over as cell_over_of};
+ghost use Rattle.sql_semantics.specs.Values.{value as value_in, cell_over as cell_over_of};
 ghost use Rattle.sql_semantics.specs.Kept.{is_kept as is_kept_of};
 ghost use Rattle.sql_semantics.specs.Effect.{own_table, is_hit};
 
 use cell_core::{Cell, Memory, Table};
-use sql_meaning::{Row, cell_over, cond_overflows, is_kept, overflows_over};
+use sql_meaning::{Row, cell_over, cond_overflows, is_kept, overflows_over, value_over};
 use sql_semantics::Called;
 use sql_tree::{Cond, Expr};
 use std::alloc::Global;
@@ -38,9 +38,16 @@ pub(crate) fn cell_of(table: &Table, row: &Row<'_>, expr: &Expr) -> Result<Cell,
     cell_over(&[own_called(table)], &[row.again()], expr)
 }
 
+/// The value of an expression over a row, or none where it leaves the range.
+pub(crate) fn value_of(table: &Table, row: &Row<'_>, expr: &Expr) -> Result<Option<Cell>, Memory>
+    ensures { IfOk result (λ value. value ≡ value_in (own_table table.now) (row.now ∷ []) (expr_tree expr.now)) }
+{
+    value_over(&[own_called(table)], &[row.again()], expr)
+}
+
 /// Whether an expression leaves the range for a row.
 pub(crate) fn overflows_for(table: &Table, row: &Row<'_>, expr: &Expr) -> Result<bool, Memory>
-    ensures { IfOk result (λ overflows. overflows ≡ is_none (value_of (own_table table.now) (row.now ∷ []) (expr_tree expr.now))) }
+    ensures { IfOk result (λ overflows. overflows ≡ is_none (value_in (own_table table.now) (row.now ∷ []) (expr_tree expr.now))) }
 {
     overflows_over(&[own_called(table)], &[row.again()], expr)
 }

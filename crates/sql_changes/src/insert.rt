@@ -1,13 +1,13 @@
 //! INSERT.
 ghost use Rattle.std.specs.Prelude.{◌≡◌, ◌+◌, bytes_eq, length, map, nat_lt, slice_index_or, IfOk};
 ghost use Rattle.std.specs.List.{position_or_len};
-ghost use Rattle.cell_core.specs.declared.cell.Cell.TheVariants.{Nil};
 ghost use Rattle.cell_core.specs.declared.table.Column.{Column as ColumnSeen};
 ghost use Rattle.sql_semantics.specs.Effect.{inserted, placed, row_limit};
 ghost use Rattle.sql_changes.specs.Plans.{change_of};
+ghost use Rattle.sql_changes.specs.Parts.{insert_refusal};
 
-use crate::long::are_rows_too_long;
 use crate::plan::{Plan, Work};
+use crate::stored::{are_rows_too_long, has_null_row};
 use cell_core::{Cell, Column, Memory, Sequence, Table, Word, copy_cells, word_of};
 use sql_semantics::{Refusal, targets};
 use std::alloc::Global;
@@ -29,13 +29,13 @@ fn place_of(listed: &[Word], name: &Word) -> usize
     listed.len()
 }
 
-/// The value that a row has for a column; Nil where it has none.
+/// The value that a row has for a column, or the column's default where it has none.
 fn placed_cell(listed: &[Word], row: &[Cell], column: &Column) -> Result<Cell, Memory>
-    ensures { IfOk result (λ cell. cell ≡ slice_index_or row.now (position_or_len (bytes_eq column.now.name) listed.now) Nil) }
+    ensures { IfOk result (λ cell. cell ≡ slice_index_or row.now (position_or_len (bytes_eq column.now.name) listed.now) column.now.default) }
 {
     match row.get(place_of(listed, &column.name)) {
         Some(cell) => cell.share(),
-        None => Ok(Cell::Nil),
+        None => column.default.share(),
     }
 }
 
@@ -46,7 +46,7 @@ fn placed_cells(
     listed: &[Word],
     row: &[Cell],
 ) -> Result<Sequence<Cell>, Memory>
-    ensures { IfOk result (λ cells. cells ≡ map (λ (column : ColumnSeen). slice_index_or row.now (position_or_len (bytes_eq column.name) listed.now) Nil) columns.now) }
+    ensures { IfOk result (λ cells. cells ≡ map (λ (column : ColumnSeen). slice_index_or row.now (position_or_len (bytes_eq column.name) listed.now) column.default) columns.now) }
 {
     let mut cells = Sequence::new(alloc);
     let mut rest = columns;
@@ -98,6 +98,28 @@ fn passes_limit(rows: usize, more: usize) -> bool
     more > ROW_LIMIT || rows > ROW_LIMIT - more
 }
 
+/// Why an INSERT is refused whose values go to these columns, and make these rows of the table.
+fn refusal_for(
+    alloc: Global,
+    targets: &[Column],
+    rows: &[Sequence<Cell>],
+    placed: &[Sequence<Cell>],
+    table: &Table,
+) -> Result<Option<Refusal>, Memory>
+    ensures { IfOk result (λ found. found ≡ insert_refusal targets.now rows.now placed.now table.now) }
+{
+    if are_rows_too_long(targets, rows) {
+        return Ok(Some(Refusal::TextTooLong));
+    }
+    if has_null_row(table.columns.as_slice(), placed) {
+        return Ok(Some(Refusal::NullStored));
+    }
+    if passes_limit(table.rows.len(), rows.len()) {
+        return Ok(Some(Refusal::Limit(word_of(alloc, "rows")?)));
+    }
+    Ok(None)
+}
+
 /// What an INSERT is to do to a table.
 pub(crate) fn insert_plan(
     alloc: Global,
@@ -109,12 +131,9 @@ pub(crate) fn insert_plan(
 {
     let columns = table.columns.as_slice();
     let targets = targets(alloc, columns, listed)?;
-    if are_rows_too_long(targets.as_slice(), rows) {
-        return Ok(Plan::Refused(Refusal::TextTooLong));
-    }
-    if passes_limit(table.rows.len(), rows.len()) {
-        return Ok(Plan::Refused(Refusal::Limit(word_of(alloc, "rows")?)));
-    }
     let placed = placed_rows(alloc, columns, listed, rows)?;
-    Ok(Plan::Accepted(Work::Adds(placed)))
+    match refusal_for(alloc, targets.as_slice(), rows, placed.as_slice(), table)? {
+        Some(refusal) => Ok(Plan::Refused(refusal)),
+        None => Ok(Plan::Accepted(Work::Adds(placed))),
+    }
 }

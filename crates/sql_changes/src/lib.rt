@@ -5,18 +5,20 @@
 //! conditions of `sql_meaning`. A change of a table is first planned, over rows that are lent, and
 //! then carried out: all memory is taken before the table changes. INSERT leaves the rows that are
 //! there where they are, DELETE moves those that stay, and UPDATE makes rows for those alone of which
-//! its condition is true.
+//! its condition is true. ALTER makes the rows of its table anew.
 #![tactic(auto)]
 
+mod alter;
 mod carry;
 mod copy;
 mod delete;
 mod effect;
 mod fate;
+mod fault;
 mod hits;
 mod insert;
-mod long;
 mod plan;
+mod stored;
 mod update;
 
 pub use effect::{change, slow_effect};

@@ -1,110 +1,22 @@
 //! UPDATE.
-ghost use Rattle.std.specs.Prelude.{◌≡◌, ◌||◌, ◌&&◌, ℕ, List, bytes_eq, find, map, IfOk};
+ghost use Rattle.std.specs.Prelude.{◌≡◌, ℕ, List, bytes_eq, find, map, IfOk};
 ghost use Rattle.std.specs.List.{list_any};
 ghost use Rattle.std.specs.Option.{option_copied, option_map};
-ghost use Rattle.cell_core.specs.declared.table.Column.{Column as ColumnSeen};
 ghost use Rattle.sql_tree.specs.Tree.{ExprTree, cond_tree, set_tree};
-ghost use Rattle.sql_semantics.specs.declared.refusal.Refusal.TheVariants as refusal;
 ghost use Rattle.sql_semantics.specs.Values.{constant_overflows as constant_overflows_of};
-ghost use Rattle.sql_semantics.specs.Effect.{updated_row as updated_row_of, is_too_long as is_too_long_of, is_too_long_set as is_too_long_set_of, overflows_in as overflows_in_of, is_any_set, updated};
+ghost use Rattle.sql_semantics.specs.Effect.{updated_row as updated_row_of, updated};
 ghost use Rattle.sql_changes.specs.Plans.{change_of};
-ghost use Rattle.sql_changes.specs.Parts.{constants_overflow as constants_overflow_of, first_of, set_at, set_cells as set_cells_of, updated_fate};
+ghost use Rattle.sql_changes.specs.Parts.{constants_overflow as constants_overflow_of, set_at, set_cells as set_cells_of, update_refusal, updated_fate};
 
 use crate::fate::Fate;
-use crate::hits::{cell_of, hits, is_true_of, overflows_for};
-use crate::long::is_too_long;
+use crate::fault::{Fault, has_any_fault};
+use crate::hits::{cell_of, hits, is_true_of};
 use crate::plan::{Plan, Work};
 use cell_core::{Cell, Column, Memory, Sequence, Table, Word};
 use sql_meaning::{Row, cond_overflows, constant_overflows};
 use sql_semantics::Refusal;
 use sql_tree::{Cond, Expr};
 use std::alloc::Global;
-
-/// Whether a value is too long for the column with this name.
-fn is_too_long_for(columns: &[Column], name: &Word, cell: &Cell) -> bool
-    ensures { result ≡ list_any (λ (column : ColumnSeen). bytes_eq column.name name.now && is_too_long_of column cell.now) columns.now }
-{
-    let mut rest = columns;
-    'columns: while let [column, more @ ..] = rest {
-        if column.name == *name && is_too_long(column, cell) {
-            return true;
-        }
-        rest = more;
-    }
-    false
-}
-
-/// Whether a value is too long for the column that is set to it.
-fn is_too_long_set(table: &Table, row: &Row<'_>, set: &(Word, Expr)) -> Result<bool, Memory>
-    ensures { IfOk result (λ long. long ≡ is_too_long_set_of table.now row.now (set_tree set.now)) }
-{
-    let cell = cell_of(table, row, &set.1)?;
-    Ok(is_too_long_for(table.columns.as_slice(), &set.0, &cell))
-}
-
-/// Whether one of the values for a row is.
-fn are_sets_too_long(table: &Table, row: &Row<'_>, sets: &[(Word, Expr)]) -> Result<bool, Memory>
-    ensures { IfOk result (λ long. long ≡ list_any (is_too_long_set_of table.now row.now) (map set_tree sets.now)) }
-{
-    let mut rest = sets;
-    'sets: while let [set, more @ ..] = rest {
-        if is_too_long_set(table, row, set)? {
-            return Ok(true);
-        }
-        rest = more;
-    }
-    Ok(false)
-}
-
-/// Whether one of the values for these rows is.
-fn is_too_long_for_rows(
-    table: &Table,
-    sets: &[(Word, Expr)],
-    rows: &[Row<'_>],
-) -> Result<bool, Memory>
-    ensures { IfOk result (λ long. long ≡ is_any_set (is_too_long_set_of table.now) (map set_tree sets.now) rows.now) }
-{
-    let mut rest = rows;
-    'rows: while let [row, more @ ..] = rest {
-        if are_sets_too_long(table, row, sets)? {
-            return Ok(true);
-        }
-        rest = more;
-    }
-    Ok(false)
-}
-
-/// Whether one of the expressions leaves the range for a row.
-fn do_sets_overflow(table: &Table, row: &Row<'_>, sets: &[(Word, Expr)]) -> Result<bool, Memory>
-    ensures { IfOk result (λ overflows. overflows ≡ list_any (overflows_in_of table.now row.now) (map set_tree sets.now)) }
-{
-    let mut rest = sets;
-    'sets: while let [set, more @ ..] = rest {
-        if overflows_for(table, row, &set.1)? {
-            return Ok(true);
-        }
-        rest = more;
-    }
-    Ok(false)
-}
-
-/// Whether one of the expressions leaves the range for one of these rows.
-fn overflows_for_rows(
-    table: &Table,
-    sets: &[(Word, Expr)],
-    rows: &[Row<'_>],
-) -> Result<bool, Memory>
-    ensures { IfOk result (λ overflows. overflows ≡ is_any_set (overflows_in_of table.now) (map set_tree sets.now) rows.now) }
-{
-    let mut rest = rows;
-    'rows: while let [row, more @ ..] = rest {
-        if do_sets_overflow(table, row, sets)? {
-            return Ok(true);
-        }
-        rest = more;
-    }
-    Ok(false)
-}
 
 /// Whether an operator without a column below it leaves the range in one of the expressions.
 fn do_constants_overflow(sets: &[(Word, Expr)]) -> Result<bool, Memory>
@@ -134,12 +46,15 @@ fn refusal_for(
     cond: &Option<Cond>,
     rows: &[Row<'_>],
 ) -> Result<Option<Refusal>, Memory>
-    ensures { IfOk result (λ outcome. outcome ≡ first_of (is_any_set (is_too_long_set_of table.now) (map set_tree sets.now) rows.now) refusal.TextTooLong (constants_overflow_of (map set_tree sets.now) (option_map cond_tree cond.now) || is_any_set (overflows_in_of table.now) (map set_tree sets.now) rows.now) refusal.Overflow) }
+    ensures { IfOk result (λ found. found ≡ update_refusal (map set_tree sets.now) (option_map cond_tree cond.now) table.now rows.now) }
 {
-    if is_too_long_for_rows(table, sets, rows)? {
+    if has_any_fault(Fault::TooLong, table, sets, rows)? {
         return Ok(Some(Refusal::TextTooLong));
     }
-    if constants_overflow(sets, cond)? || overflows_for_rows(table, sets, rows)? {
+    if has_any_fault(Fault::Null, table, sets, rows)? {
+        return Ok(Some(Refusal::NullStored));
+    }
+    if constants_overflow(sets, cond)? || has_any_fault(Fault::Overflow, table, sets, rows)? {
         return Ok(Some(Refusal::Overflow));
     }
     Ok(None)

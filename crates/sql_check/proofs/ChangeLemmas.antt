@@ -10,8 +10,8 @@ use Rattle.sql_semantics.specs.declared.refusal.Refusal.TheVariants.{WrongCount,
 use Rattle.sql_semantics.specs.declared.source.Source.{Source}
 use Rattle.sql_semantics.specs.Sources.{NamedSource}
 use Rattle.sql_tree.specs.Exprs.{exprs_of_cond}
-use Rattle.sql_semantics.specs.Check.{refused_if, unknown_names, names_twice, targets, is_wrong_count, is_misfit_row, is_misfit_set, is_misfit_cond, bad_in_exprs, insert_refusals}
-use Rattle.sql_check.specs.First.{first, first_by, bad_expr, rows_first, delete_list, update_list}
+use Rattle.sql_semantics.specs.Check.{refused_if, unknown_names, names_twice, targets, is_wrong_count, is_misfit_row, is_misfit_set, is_misfit_cond, is_misfit_default, bad_in_exprs, insert_refusals}
+use Rattle.sql_check.specs.First.{first, first_by, bad_expr, column_list, rows_first, delete_list, update_list}
 use Rattle.sql_check.proofs.FirstLemmas.{by_both, bad_by_exprs}
 use Rattle.sql_check.proofs.QueryLemmas.{next}
 
@@ -21,19 +21,26 @@ or_in_turn (Some x) b c = refl
 
 pub insert_first : (listed : List (List ℕ)) (rows : List (List Cell)) (source : Source) (columns found lent : List Column) (unknown twice of_rows : Option Refusal)
     → columns ≡ source.columns → found ≡ targets columns listed → lent ≡ found
-    → unknown ≡ first (unknown_names columns listed) → twice ≡ first (names_twice listed) → of_rows ≡ rows_first columns lent rows
+    → unknown ≡ first (unknown_names columns listed) → twice ≡ first (names_twice listed) → of_rows ≡ rows_first lent rows
     → option_or (option_or unknown twice) of_rows ≡ first (insert_refusals listed rows source)
 insert_first listed rows source columns found lent unknown twice of_rows is_columns is_found is_lent is_unknown is_twice is_rows =
     let own : List Column = source.columns in
     let all : List Column = targets own listed in
     let e_unknown : unknown ≡ first (unknown_names own listed) = is_unknown ∙ ap (λ c. first (unknown_names c listed)) is_columns in
-    let e_rows : of_rows ≡ rows_first own all rows =
-    is_rows ∙ ap (λ l. rows_first columns l rows) (is_lent ∙ is_found ∙ ap (λ c. targets c listed) is_columns) ∙ ap (λ c. rows_first c all rows) is_columns in
+    let e_rows : of_rows ≡ rows_first all rows = is_rows ∙ ap (λ l. rows_first l rows) (is_lent ∙ is_found ∙ ap (λ c. targets c listed) is_columns) in
     ap (option_or (option_or unknown twice)) e_rows
-    ∙ or_in_turn (option_or unknown twice) (first (refused_if (is_wrong_count own all rows) WrongCount)) (first (refused_if (list_any (is_misfit_row all) rows) KindsDiffer))
-    ∙ next _ _ (unknown_names own listed ++ names_twice listed ++ refused_if (is_wrong_count own all rows) WrongCount) (refused_if (list_any (is_misfit_row all) rows) KindsDiffer)
-    (next _ _ (unknown_names own listed ++ names_twice listed) (refused_if (is_wrong_count own all rows) WrongCount)
+    ∙ or_in_turn (option_or unknown twice) (first (refused_if (is_wrong_count all rows) WrongCount)) (first (refused_if (list_any (is_misfit_row all) rows) KindsDiffer))
+    ∙ next _ _ (unknown_names own listed ++ names_twice listed ++ refused_if (is_wrong_count all rows) WrongCount) (refused_if (list_any (is_misfit_row all) rows) KindsDiffer)
+    (next _ _ (unknown_names own listed ++ names_twice listed) (refused_if (is_wrong_count all rows) WrongCount)
     (next _ _ (unknown_names own listed) (names_twice listed) e_unknown is_twice) refl) refl
+
+pub columns_first : (columns : List Column) (names lent : List (List ℕ)) (twice kinds : Option Refusal) (is_wrong : Bool)
+    → names ≡ map (λ (column : Column). column.name) columns → lent ≡ names → twice ≡ first (names_twice lent)
+    → is_wrong ≡ list_any is_misfit_default columns → kinds ≡ first (refused_if is_wrong KindsDiffer)
+    → option_or twice kinds ≡ first (column_list columns)
+columns_first columns names lent twice kinds is_wrong is_names is_lent is_twice is_so is_kinds =
+    next twice kinds (names_twice (map (λ (column : Column). column.name) columns)) (refused_if (list_any is_misfit_default columns) KindsDiffer)
+    (is_twice ∙ ap (λ n. first (names_twice n)) (is_lent ∙ is_names)) (is_kinds ∙ ap (λ b. first (refused_if b KindsDiffer)) is_so)
 
 pub delete_first : (sources : List NamedSource) (c : Option CondTree) (references kinds : Option Refusal) (is_wrong : Bool)
     → references ≡ first_by (bad_expr sources) (exprs_of_cond c) → is_wrong ≡ is_misfit_cond sources c → kinds ≡ first (refused_if is_wrong KindsDiffer)

@@ -1,3 +1,4 @@
 pub mod FirstLemmas
 pub mod QueryLemmas
 pub mod ChangeLemmas
+pub mod SourceLemmas

@@ -17,7 +17,7 @@ use Rattle.sql_semantics.specs.declared.called.Found.TheVariants.{Nowhere, At, T
 use Rattle.sql_semantics.specs.declared.refusal.Refusal.{Refusal}
 use Rattle.sql_semantics.specs.declared.refusal.Refusal.TheVariants.{NoColumn, Ambiguous, NotGrouped, WrongCount, KindsDiffer}
 use Rattle.sql_semantics.specs.Sources.{NamedSource}
-use Rattle.sql_semantics.specs.Check.{bad_key, bad_references, bad_in_exprs, is_group_column, refused_if, unknown_names, names_twice, is_wrong_count, is_misfit_row, is_misfit_set, is_misfit_cond}
+use Rattle.sql_semantics.specs.Check.{bad_key, bad_references, bad_in_exprs, is_group_column, refused_if, unknown_names, names_twice, is_misfit_default, is_wrong_count, is_misfit_row, is_misfit_set, is_misfit_cond}
 use Rattle.sql_tree.specs.Exprs.{exprs_of_cond}
 use Rattle.sql_semantics.specs.References.{references, outer_references}
 
@@ -69,10 +69,14 @@ key_refusal ref Nowhere = NoColumn (name_text ref.column)
 key_refusal ref (At table column) = NoColumn (name_text ref.column)
 key_refusal ref Twice = Ambiguous (name_text ref.column)
 
--- the first refusal of the rows of an INSERT that go to the listed columns
-abbrev pub rows_first : List Column → List Column → List (List Cell) → Option Refusal
-rows_first columns listed rows =
-    option_or (first (refused_if (is_wrong_count columns listed rows) WrongCount)) (first (refused_if (list_any (is_misfit_row listed) rows) KindsDiffer))
+-- the refusals of the columns of a new table
+abbrev pub column_list : List Column → List Refusal
+column_list columns = names_twice (map (λ (column : Column). column.name) columns) ++ refused_if (list_any is_misfit_default columns) KindsDiffer
+
+-- the first refusal of the rows of an INSERT that go to these columns
+abbrev pub rows_first : List Column → List (List Cell) → Option Refusal
+rows_first columns rows =
+    option_or (first (refused_if (is_wrong_count columns rows) WrongCount)) (first (refused_if (list_any (is_misfit_row columns) rows) KindsDiffer))
 
 -- the refusals of a DELETE over these tables
 abbrev pub delete_list : List NamedSource → Option CondTree → List Refusal

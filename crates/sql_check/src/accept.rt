@@ -1,5 +1,6 @@
 //! The check of a statement.
 ghost use Rattle.std.specs.Prelude.{◌≡◌, [], ◌∷◌, map, Some, None, Err, IfOk};
+ghost use Rattle.sql_grammar.specs.Formed.{IsFormed};
 ghost use Rattle.sql_tree.specs.Tree.{stmt_tree};
 ghost use Rattle.sql_tree.specs.declared.tree.FromItem.{FromItem as FromItemSeen};
 ghost use Rattle.sql_tree.specs.Names.{name_text};
@@ -9,7 +10,7 @@ ghost use Rattle.sql_semantics.specs.Check.{check_refusal, sources_named as sour
 ghost use Rattle.sql_check.specs.declared.error.CheckError.TheVariants.{Refused};
 
 use crate::changes::{
-    create_refusal, delete_refusal, drop_refusal, insert_refusal, update_refusal,
+    alter_refusal, create_refusal, delete_refusal, drop_refusal, insert_refusal, update_refusal,
 };
 use crate::error::CheckError;
 use crate::names::source_named;
@@ -27,13 +28,18 @@ fn no_table(alloc: Global, table: &Word) -> Result<Option<Refusal>, Memory>
     Ok(Some(Refusal::NoTable(name)))
 }
 
-/// The first refusal of a statement.
-fn refusal_of(alloc: Global, stmt: &Stmt, schema: &Schema) -> Result<Option<Refusal>, Memory>
+/// The first refusal of a statement over a schema, or none where it is accepted. It copies nothing, and
+/// so serves where the statement isn't kept.
+pub fn refusal_of(alloc: Global, stmt: &Stmt, schema: &Schema) -> Result<Option<Refusal>, Memory>
     ensures { IfOk result (λ refusal. refusal ≡ check_refusal (stmt_tree stmt.now) schema.now) }
 {
     match stmt {
         Stmt::Create { table, columns } => create_refusal(alloc, table, columns.as_slice(), schema),
         Stmt::Drop { table } => drop_refusal(alloc, table, schema),
+        Stmt::Alter { table, column } => match source_named(schema, table) {
+            Some(source) => alter_refusal(alloc, column, source),
+            None => no_table(alloc, table),
+        },
         Stmt::Insert {
             table,
             columns,
@@ -106,6 +112,7 @@ fn sources_of(alloc: Global, stmt: &Stmt, schema: &Schema) -> Result<Sequence<So
     match stmt {
         Stmt::Create { .. } => Ok(Sequence::new(alloc)),
         Stmt::Drop { table } => sources_of_table(alloc, table, schema),
+        Stmt::Alter { table, .. } => sources_of_table(alloc, table, schema),
         Stmt::Insert { table, .. } => sources_of_table(alloc, table, schema),
         Stmt::Delete { table, .. } => sources_of_table(alloc, table, schema),
         Stmt::Update { table, .. } => sources_of_table(alloc, table, schema),
@@ -114,10 +121,23 @@ fn sources_of(alloc: Global, stmt: &Stmt, schema: &Schema) -> Result<Sequence<So
     }
 }
 
+/// An accepted statement with the tables that it speaks of.
+fn typed_over(alloc: Global, stmt: &Stmt, schema: &Schema) -> Result<Typed, Memory>
+    requires formed { IsFormed (stmt_tree stmt.now) }
+    requires accepted { check_refusal (stmt_tree stmt.now) schema.now ≡ None }
+    ensures statement { IfOk result (λ typed. stmt_tree typed.stmt ≡ stmt_tree stmt.now) }
+    ensures sources { IfOk result (λ typed. typed.sources ≡ sources_named_of (tables_of (stmt_tree stmt.now)) schema.now) }
+{
+    let sources = sources_of(alloc, stmt, schema)?;
+    let copy = stmt.copy(alloc)?;
+    Typed::new(copy, sources)
+}
+
 /// The statement with the tables that it speaks of, if the check accepts it over the schema, and
 /// else its first refusal. A schema with a table of 2^32 columns or more is answered as want of
 /// memory.
 pub fn check(alloc: Global, stmt: &Stmt, schema: &Schema) -> Result<Typed, CheckError>
+    requires formed { IsFormed (stmt_tree stmt.now) }
     ensures accepted { IfOk result (λ typed. check_refusal (stmt_tree stmt.now) schema.now ≡ None) }
     ensures statement { IfOk result (λ typed. stmt_tree typed.stmt ≡ stmt_tree stmt.now) }
     ensures sources { IfOk result (λ typed. typed.sources ≡ sources_named_of (tables_of (stmt_tree stmt.now)) schema.now) }
@@ -126,8 +146,6 @@ pub fn check(alloc: Global, stmt: &Stmt, schema: &Schema) -> Result<Typed, Check
     if let Some(refusal) = refusal_of(alloc, stmt, schema)? {
         return Err(CheckError::Refused(refusal));
     }
-    let sources = sources_of(alloc, stmt, schema)?;
-    let copy = stmt.copy(alloc)?;
-    let typed = Typed::new(copy, sources)?;
+    let typed = typed_over(alloc, stmt, schema)?;
     Ok(typed)
 }

@@ -5,8 +5,8 @@ ghost use Rattle.std.specs.List.{list_any};
 ghost use Rattle.std.specs.Option.{option_map};
 ghost use Rattle.sql_tree.specs.Tree.{ExprTree, cond_tree, set_tree};
 ghost use Rattle.sql_semantics.specs.declared.refusal.Refusal.TheVariants.{WrongCount};
-ghost use Rattle.sql_semantics.specs.Check.{refused_if, create_refusals, drop_refusals, insert_refusals, delete_refusals, update_refusals, own_source, is_left_out as is_left_out_of, is_wrong_count as is_wrong_count_of, is_misfit_row as is_misfit_row_of, is_misfit_set as is_misfit_set_of, is_misfit_cond};
-ghost use Rattle.sql_check.specs.First.{first, rows_first, delete_list, update_list};
+ghost use Rattle.sql_semantics.specs.Check.{refused_if, create_refusals, drop_refusals, alter_refusals, insert_refusals, delete_refusals, update_refusals, own_source, is_misfit_default as is_misfit_default_of, is_misfit_row as is_misfit_row_of, is_misfit_set as is_misfit_set_of, is_misfit_cond};
+ghost use Rattle.sql_check.specs.First.{first, column_list, rows_first, delete_list, update_list};
 
 use crate::kinds::{is_cond_misfit, is_misfit, kind_of_expr};
 use crate::names::{column_names, name_twice, source_named, unknown_name};
@@ -17,6 +17,31 @@ use cell_core::{Cell, Column, Memory, Sequence, Word};
 use sql_semantics::{Called, Refusal, Schema, Source, column_named, targets};
 use sql_tree::{Cond, Expr, printed_name};
 use std::alloc::Global;
+
+/// Whether a column's default is of another kind.
+fn is_misfit_default(column: &Column) -> bool
+    ensures { result ≡ is_misfit_default_of column.now }
+{
+    !agrees(kind_of(&column.default), Some(column.kind))
+}
+
+/// Whether the default of one of the columns is of another kind.
+fn are_defaults_misfit(columns: &[Column]) -> bool
+    ensures { result ≡ list_any is_misfit_default_of columns.now }
+{
+    columns.iter().any(|column| is_misfit_default(column))
+}
+
+/// The refusal of the columns of a new table.
+fn columns_refusal(alloc: Global, columns: &[Column]) -> Result<Option<Refusal>, Memory>
+    ensures { IfOk result (λ refusal. refusal ≡ first (column_list columns.now)) }
+{
+    let names = column_names(alloc, columns)?;
+    let twice = name_twice(alloc, names.as_slice())?;
+    let kinds = kinds_differ(are_defaults_misfit(columns));
+    let refusal = either(twice, kinds);
+    Ok(refusal)
+}
 
 /// The refusal of CREATE.
 pub(crate) fn create_refusal(
@@ -30,9 +55,7 @@ pub(crate) fn create_refusal(
     if source_named(schema, table).is_some() {
         return Ok(Some(Refusal::TableExists(printed_name(alloc, table)?)));
     }
-    let names = column_names(alloc, columns)?;
-    let refusal = name_twice(alloc, names.as_slice())?;
-    Ok(refusal)
+    columns_refusal(alloc, columns)
 }
 
 /// The refusal of DROP.
@@ -49,28 +72,21 @@ pub(crate) fn drop_refusal(
     Ok(Some(Refusal::NoTable(printed_name(alloc, table)?)))
 }
 
-/// Whether a column isn't listed.
-fn is_left_out(listed: &[Column], column: &Column) -> bool
-    ensures { result ≡ is_left_out_of listed.now column.now }
+/// The refusal of ALTER of a table.
+pub(crate) fn alter_refusal(
+    alloc: Global,
+    column: &Column,
+    source: &Source,
+) -> Result<Option<Refusal>, Memory>
+    ensures { IfOk result (λ refusal. refusal ≡ first (alter_refusals column.now source.now)) }
 {
-    column_named(listed, &column.name).is_none()
-}
-
-/// Whether one of the columns isn't listed.
-fn lacks_column(columns: &[Column], listed: &[Column]) -> bool
-    ensures { result ≡ list_any (is_left_out_of listed.now) columns.now }
-{
-    let mut rest = columns;
-    'columns: while let [column, more @ ..] = rest {
-        if is_left_out(listed, column) {
-            return true;
-        }
-        rest = more;
+    if column_named(source.columns.as_slice(), &column.name).is_some() {
+        return Ok(Some(Refusal::NameTwice(printed_name(alloc, &column.name)?)));
     }
-    false
+    Ok(kinds_differ(is_misfit_default(column)))
 }
 
-/// Whether a row has more or fewer values than there are columns listed.
+/// Whether a row has more or fewer values than there are columns that they go to.
 fn has_other_length(count: usize, rows: &[Sequence<Cell>]) -> bool
     ensures { result ≡ list_any (λ (row : List CellSeen). not (length row == count)) rows.now }
 {
@@ -82,13 +98,6 @@ fn has_other_length(count: usize, rows: &[Sequence<Cell>]) -> bool
         rest = more;
     }
     false
-}
-
-/// Whether rows have as many values as there are columns listed, and all columns are listed.
-fn is_wrong_count(columns: &[Column], listed: &[Column], rows: &[Sequence<Cell>]) -> bool
-    ensures { result ≡ is_wrong_count_of columns.now listed.now rows.now }
-{
-    lacks_column(columns, listed) || has_other_length(listed.len(), rows)
 }
 
 /// The refusal of a wrong number of values.
@@ -135,11 +144,11 @@ fn are_rows_misfit(columns: &[Column], rows: &[Sequence<Cell>]) -> bool
 }
 
 /// The first refusal of rows that go to these columns.
-fn rows_refusal(columns: &[Column], listed: &[Column], rows: &[Sequence<Cell>]) -> Option<Refusal>
-    ensures { result ≡ rows_first columns.now listed.now rows.now }
+fn rows_refusal(columns: &[Column], rows: &[Sequence<Cell>]) -> Option<Refusal>
+    ensures { result ≡ rows_first columns.now rows.now }
 {
-    let count = wrong_count(is_wrong_count(columns, listed, rows));
-    let kinds = kinds_differ(are_rows_misfit(listed, rows));
+    let count = wrong_count(has_other_length(columns.len(), rows));
+    let kinds = kinds_differ(are_rows_misfit(columns, rows));
     either(count, kinds)
 }
 
@@ -156,7 +165,7 @@ pub(crate) fn insert_refusal(
     let unknown = unknown_name(alloc, columns, listed)?;
     let twice = name_twice(alloc, listed)?;
     let found = targets(alloc, columns, listed)?;
-    let of_rows = rows_refusal(columns, found.as_slice(), rows);
+    let of_rows = rows_refusal(found.as_slice(), rows);
     let names = either(unknown, twice);
     let refusal = either(names, of_rows);
     Ok(refusal)

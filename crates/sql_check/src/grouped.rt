@@ -126,6 +126,10 @@ fn ungrouped_in_tree(
             Some(refusal) => Ok(Some(refusal)),
             None => ungrouped_in_two(alloc, sources, groups, low, high),
         },
+        Cond::IsNull(of) => match ungrouped_in_expr(alloc, sources, groups, of)? {
+            Some(refusal) => Ok(Some(refusal)),
+            None => Ok(None),
+        },
         Cond::Not(cond) => ungrouped_in_tree(alloc, sources, groups, cond),
         Cond::And(left, right) => match ungrouped_in_tree(alloc, sources, groups, left)? {
             Some(refusal) => Ok(Some(refusal)),

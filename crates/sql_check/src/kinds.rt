@@ -127,6 +127,7 @@ fn is_tree_misfit(sources: &[Called<'_>], cond: &Cond) -> bool
                 || !compares(sources, of, low)
                 || !compares(sources, of, high)
         }
+        Cond::IsNull(of) => is_misfit(sources, of),
         Cond::Not(cond) => is_tree_misfit(sources, cond),
         Cond::And(left, right) => is_tree_misfit(sources, left) || is_tree_misfit(sources, right),
         Cond::Or(left, right) => is_tree_misfit(sources, left) || is_tree_misfit(sources, right),

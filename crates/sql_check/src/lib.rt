@@ -1,8 +1,8 @@
 //! Whether a statement is accepted over a schema, and which refusal it gets if it isn't.
 //!
-//! It stands on `sql_semantics`, whose definition of the check its one public call (`check`) gives
-//! exactly: the first of a statement's refusals, in their order, or the statement with the tables that
-//! it speaks of. Kinds are those of `cell_calc`. Each part is looked at once; want of memory alone is
+//! It stands on `sql_semantics`, whose definition of the check `check` gives exactly: the first of a
+//! statement's refusals, in their order, or the statement with the tables that it speaks of;
+//! `refusal_of` tells the refusal alone. Kinds are those of `cell_calc`. Each part is looked at once; want of memory alone is
 //! free.
 #![tactic(auto)]
 
@@ -16,5 +16,5 @@ mod names;
 mod query;
 mod references;
 
-pub use accept::check;
+pub use accept::{check, refusal_of};
 pub use error::CheckError;

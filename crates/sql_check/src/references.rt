@@ -149,6 +149,10 @@ fn bad_in_tree(
             Some(refusal) => Ok(Some(refusal)),
             None => bad_in_two(alloc, sources, low, high),
         },
+        Cond::IsNull(of) => match bad_in_expr(alloc, sources, of)? {
+            Some(refusal) => Ok(Some(refusal)),
+            None => Ok(None),
+        },
         Cond::Not(cond) => bad_in_tree(alloc, sources, cond),
         Cond::And(left, right) => match bad_in_tree(alloc, sources, left)? {
             Some(refusal) => Ok(Some(refusal)),

@@ -1,6 +1,7 @@
 -- What the grammar says of small statements: a derivation, its tokens and its tree.
-use Rattle.std.proofs.Common.{◌≡◌, ℕ, ◌+◌, [], ◌∷◌, true, Some, None, pos, negsuc, codes, refl}
+use Rattle.std.proofs.Common.{◌≡◌, ℕ, ◌+◌, [], ◌∷◌, true, false, Some, None, pos, negsuc, codes, refl, lit<}
 use Rattle.cell_core.specs.declared.cell.Cell.TheVariants as cell
+use Rattle.cell_core.specs.declared.cell.Kind.TheVariants as kind
 use Rattle.sql_grammar.specs.Grammar.{sign, ExprRule, FactorRule, OperandRule, expr_of, write_expr}
 use Rattle.sql_grammar.specs.Grammar.NameRule.{BareName}
 use Rattle.sql_grammar.specs.Grammar.ColumnRule.{PlainColumn}
@@ -9,24 +10,29 @@ use Rattle.sql_grammar.specs.Grammar.TermsRule.{NoTerm, MoreTerms}
 use Rattle.sql_grammar.specs.Grammar.TermRule.{Product}
 use Rattle.sql_grammar.specs.Grammar.FactorsRule.{NoFactor, MoreFactors}
 use Rattle.sql_grammar.specs.Grammar.FactorRule.{Number, Operand}
-use Rattle.sql_grammar.specs.Grammar.OperandRule.{NegativeNumber, ColumnOperand, Negated}
+use Rattle.sql_grammar.specs.Grammar.OperandRule.{NegativeNumber, NullOperand, ColumnOperand, Negated}
 use Rattle.sql_grammar.specs.Grammar.SignRule.{MinusSign}
-use Rattle.sql_grammar.specs.Grammar.TestRule.{InTest}
+use Rattle.sql_grammar.specs.Grammar.TestRule.{InTest, NullTest}
 use Rattle.sql_grammar.specs.Grammar.CondRule.{Disjunction}
 use Rattle.sql_grammar.specs.Grammar.ConjsRule.{NoConj}
 use Rattle.sql_grammar.specs.Grammar.ConjRule.{Conjunction}
 use Rattle.sql_grammar.specs.Grammar.UnitsRule.{NoUnit}
 use Rattle.sql_grammar.specs.Grammar.UnitRule.{TestUnit}
 use Rattle.sql_grammar.specs.Statements.{write_stmt, stmt_of, StmtRule}
-use Rattle.sql_grammar.specs.Statements.StmtRule.{DeleteRule}
+use Rattle.sql_grammar.specs.Statements.StmtRule.{DeleteRule, AlterRule}
+use Rattle.sql_grammar.specs.Statements.ColumnEnd.{DefaultNotNull}
+use Rattle.sql_grammar.specs.Statements.TypeRule.{TextType}
+use Rattle.sql_grammar.specs.Grammar.LiteralRule.{StringLiteral}
+use Rattle.sql_grammar.specs.Formed.{IsFormed}
 use Rattle.sql_grammar.specs.Refused.{rule_at, left_out}
 use Rattle.sql_tree.specs.Tree.{ExprTree, CondTree}
-use Rattle.sql_tree.specs.Tree.ExprTree.{Literal, ColumnOf, Operator}
-use Rattle.sql_tree.specs.Tree.CondTree.{Compare, Negation, Either}
-use Rattle.sql_tree.specs.Tree.StmtTree.{DeleteFrom}
+use Rattle.sql_tree.specs.Tree.ExprTree.{Literal, ColumnOf, Operator, AggregateAll}
+use Rattle.sql_tree.specs.Tree.CondTree.{Compare, IsNull, Negation, Either}
+use Rattle.sql_tree.specs.Tree.StmtTree.{DeleteFrom, AlterTable}
 use Rattle.sql_tree.specs.declared.token.Keyword.TheVariants as word
 use Rattle.sql_tree.specs.declared.token.Symbol.TheVariants as symbol
-use Rattle.sql_tree.specs.declared.token.Token.TheVariants.{Name, Digits, Key, Unsupported}
+use Rattle.sql_tree.specs.declared.token.Token.TheVariants.{Name, Text, Digits, Key}
+use Rattle.sql_tree.specs.declared.tree.AggOp.TheVariants as aggregate
 use Rattle.sql_tree.specs.declared.tree.ArithOp.TheVariants as arith
 use Rattle.sql_tree.specs.declared.tree.CmpOp.TheVariants as compare
 
@@ -72,19 +78,40 @@ deletion_is_written = refl
 deletion_stands_for : stmt_of deletion ≡ DeleteFrom (codes "t") (Some (Negation (Either (Either (a_is 1) (a_is 2)) (a_is 3))))
 deletion_stands_for = refl
 
+-- it is formed, and with an aggregate for a it isn't
+deletion_is_formed : IsFormed (stmt_of deletion)
+deletion_is_formed = record { shaped = (((tt, lit< tt), (tt, lit< tt)), (tt, lit< tt)); kept = refl; within = refl }
+
+aggregates_are_not_formed : IsFormed (DeleteFrom (codes "t") (Some (Compare compare.Eq (AggregateAll aggregate.Count) (number 1)))) → ⊥
+aggregates_are_not_formed formed = formed.shaped.0
+
+-- - NULL is 0 - NULL
+null_negated : expr_of (plain (Operand (Negated NullOperand))) ≡ Operator arith.Minus (number 0) (Literal cell.Nil)
+null_negated = refl
+
+-- DELETE FROM t WHERE a IS NOT NULL
+abbrev known_deletion : StmtRule
+known_deletion = DeleteRule (BareName (codes "t")) (Some (Disjunction (Conjunction (TestUnit (NullTest (plain (Operand column_a)) true)) NoUnit) NoConj))
+
+known_deletion_is_written : write_stmt known_deletion ≡ Key word.Delete ∷ Key word.From ∷ Name (codes "t") ∷ Key word.Where ∷ Name (codes "a") ∷ Key word.Is ∷ Key word.Not ∷ Key word.Null ∷ []
+known_deletion_is_written = refl
+
+known_deletion_stands_for : stmt_of known_deletion ≡ DeleteFrom (codes "t") (Some (Negation (IsNull tree_a)))
+known_deletion_stands_for = refl
+
+-- ALTER TABLE t ADD a TEXT DEFAULT 'x' NOT NULL
+abbrev alteration : StmtRule
+alteration = AlterRule (BareName (codes "t")) false (record { name = BareName (codes "a"); kind = TextType; end = DefaultNotNull (StringLiteral (codes "x")) })
+
+alteration_is_written : write_stmt alteration ≡ Key word.Alter ∷ Key word.Table ∷ Name (codes "t") ∷ Key word.Add ∷ Name (codes "a") ∷ Key word.Text ∷ Key word.Default ∷ Text (codes "x") ∷ Key word.Not ∷ Key word.Null ∷ []
+alteration_is_written = refl
+
+alteration_stands_for : stmt_of alteration ≡ AlterTable (codes "t") (record { name = codes "a"; kind = kind.Text; width = 0; not_null = true; default = cell.Text (codes "x") })
+alteration_stands_for = refl
+
 -- ## What is refused
 
--- a INT NOT NULL in a CREATE, and a call
-null_of_a_column : rule_at (Key word.Create ∷ Key word.Table ∷ Name (codes "t") ∷ sign symbol.Open ∷ Name (codes "a") ∷ Key word.Int ∷ Key word.Not ∷ Unsupported (codes "null") ∷ sign symbol.Close ∷ []) 7 ≡ None
-null_of_a_column = refl
-
--- ORDER INT NOT NULL: ORDER is no name, so no column stands there
-null_without_a_column : rule_at (Key word.Create ∷ Key word.Table ∷ Name (codes "t") ∷ sign symbol.Open ∷ Key word.Order ∷ Key word.Int ∷ Key word.Not ∷ Unsupported (codes "null") ∷ sign symbol.Close ∷ []) 7 ≡ Some (codes "NULL")
-null_without_a_column = refl
-
-other_null : rule_at (Key word.Select ∷ Unsupported (codes "null") ∷ []) 1 ≡ Some (codes "NULL")
-other_null = refl
-
+-- a call, a number with a point, a query inside another
 a_call : rule_at (Key word.Select ∷ Name (codes "f") ∷ sign symbol.Open ∷ []) 1 ≡ Some (codes "FUNCTION")
 a_call = refl
 

@@ -7,7 +7,7 @@ use Rattle.cell_core.specs.declared.cell.Cell.{Cell}
 use Rattle.cell_core.specs.declared.cell.Cell.TheVariants as cell
 use Rattle.sql_tree.specs.Tree.{ExprTree, CondTree}
 use Rattle.sql_tree.specs.Tree.ExprTree.{Literal, ColumnOf, Operator, AggregateAll, Aggregate}
-use Rattle.sql_tree.specs.Tree.CondTree.{Compare, Within, Negation, Both, Either}
+use Rattle.sql_tree.specs.Tree.CondTree.{Compare, Within, IsNull, Negation, Both, Either}
 use Rattle.sql_tree.specs.declared.token.Keyword.{Keyword}
 use Rattle.sql_tree.specs.declared.token.Keyword.TheVariants as word
 use Rattle.sql_tree.specs.declared.token.Symbol.{Symbol}
@@ -80,24 +80,27 @@ number_of digits = digits_value 10 digits
 abbrev pub negative_of : List ℕ → ℤ
 negative_of digits = neg_ℤ (pos (digits_value 10 digits))
 
--- literal = ["-"] digits | string | DATE string
+-- literal = ["-"] digits | string | DATE string | NULL
 pub data LiteralRule : Type 0 where
   PlainDigits : List ℕ → LiteralRule
   MinusDigits : List ℕ → LiteralRule
   StringLiteral : List ℕ → LiteralRule
   DateLiteral : (text : List ℕ) → IsDayText text → LiteralRule
+  NullLiteral : LiteralRule
 
 abbrev pub write_literal : LiteralRule → List Token → List Token
 write_literal (PlainDigits digits) rest = Digits digits ∷ rest
 write_literal (MinusDigits digits) rest = sign symbol.Minus ∷ Digits digits ∷ rest
 write_literal (StringLiteral text) rest = Text text ∷ rest
 write_literal (DateLiteral text is) rest = Key word.Date ∷ Text text ∷ rest
+write_literal NullLiteral rest = Key word.Null ∷ rest
 
 abbrev pub literal_cell : LiteralRule → Cell
 literal_cell (PlainDigits digits) = cell.Int (pos (number_of digits))
 literal_cell (MinusDigits digits) = cell.Int (negative_of digits)
 literal_cell (StringLiteral text) = cell.Text text
 literal_cell (DateLiteral text is) = cell.Day (day_in text)
+literal_cell NullLiteral = cell.Nil
 
 -- column = name ["." name]
 pub data ColumnRule : Type 0 where
@@ -141,11 +144,12 @@ mutual
     Number : List ℕ → FactorRule
     Operand : OperandRule → FactorRule
 
-  -- operand = "-" digits | string | DATE string | column | "-" operand | "(" expr ")"
+  -- operand = "-" digits | string | DATE string | NULL | column | "-" operand | "(" expr ")"
   pub data OperandRule : Type 0 where
     NegativeNumber : List ℕ → OperandRule
     StringOperand : List ℕ → OperandRule
     DateOperand : (text : List ℕ) → IsDayText text → OperandRule
+    NullOperand : OperandRule
     ColumnOperand : ColumnRule → OperandRule
     Negated : OperandRule → OperandRule
     Parenthesised : ExprRule → OperandRule
@@ -177,6 +181,7 @@ abbrev mutual
   write_operand (NegativeNumber digits) rest = sign symbol.Minus ∷ Digits digits ∷ rest
   write_operand (StringOperand text) rest = Text text ∷ rest
   write_operand (DateOperand text is) rest = Key word.Date ∷ Text text ∷ rest
+  write_operand NullOperand rest = Key word.Null ∷ rest
   write_operand (ColumnOperand column) rest = write_column column rest
   write_operand (Negated operand) rest = sign symbol.Minus ∷ write_operand operand rest
   write_operand (Parenthesised e) rest = sign symbol.Open ∷ write_expr e (sign symbol.Close ∷ rest)
@@ -209,6 +214,7 @@ abbrev mutual
   operand_of (NegativeNumber digits) = Literal (cell.Int (negative_of digits))
   operand_of (StringOperand text) = Literal (cell.Text text)
   operand_of (DateOperand text is) = Literal (cell.Day (day_in text))
+  operand_of NullOperand = Literal cell.Nil
   operand_of (ColumnOperand column) = ColumnOf (column_of column)
   operand_of (Negated operand) = Operator arith.Minus (Literal (cell.Int (pos 0))) (operand_of operand)
   operand_of (Parenthesised e) = expr_of e
@@ -275,11 +281,12 @@ cmp_of LessEqualSign = compare.Le
 cmp_of GreaterSign = compare.Gt
 cmp_of GreaterEqualSign = compare.Ge
 
--- test = e cmp e | e [NOT] BETWEEN e AND e | e [NOT] IN "(" e {"," e} ")"
+-- test = e cmp e | e [NOT] BETWEEN e AND e | e [NOT] IN "(" e {"," e} ")" | e IS [NOT] NULL
 pub data TestRule (E : Type 0) : Type 0 where
   Comparison : E → CmpRule → E → TestRule E
   BetweenTest : E → Bool → E → E → TestRule E
   InTest : E → Bool → E × List E → TestRule E
+  NullTest : E → Bool → TestRule E
 
 mutual
   -- cond = conj {OR conj}
@@ -304,16 +311,17 @@ mutual
     CondUnit : CondRule E → UnitRule E
     TestUnit : TestRule E → UnitRule E
 
-module _ {E : Type 0} (write : E → List Token → List Token) where
-  -- [NOT] before a word
-  abbrev write_not : Bool → List Token → List Token
-  write_not true rest = Key word.Not ∷ rest
-  write_not false rest = rest
+-- [NOT] before a word
+abbrev pub write_not : Bool → List Token → List Token
+write_not true rest = Key word.Not ∷ rest
+write_not false rest = rest
 
+module _ {E : Type 0} (write : E → List Token → List Token) where
   abbrev pub write_test : TestRule E → List Token → List Token
   write_test (Comparison left cmp right) rest = write left (write_cmp cmp ∷ write right rest)
   write_test (BetweenTest of denied low high) rest = write of (write_not denied (Key word.Between ∷ write low (Key word.And ∷ write high rest)))
   write_test (InTest of denied members) rest = write of (write_not denied (Key word.In ∷ write_enclosed write members rest))
+  write_test (NullTest of denied) rest = write of (Key word.Is ∷ write_not denied (Key word.Null ∷ rest))
 
   abbrev mutual
     pub write_cond : CondRule E → List Token → List Token
@@ -349,6 +357,7 @@ module _ {E : Type 0} (tree : E → ExprTree) where
   test_of (Comparison left cmp right) = Compare (cmp_of cmp) (tree left) (tree right)
   test_of (BetweenTest of denied low high) = denied_if denied (Within (tree of) (tree low) (tree high))
   test_of (InTest of denied members) = denied_if denied (members_of (Compare compare.Eq (tree of) (tree members.0)) (tree of) (map tree members.1))
+  test_of (NullTest of denied) = denied_if denied (IsNull (tree of))
 
   -- repeated operators group to the left
   abbrev mutual

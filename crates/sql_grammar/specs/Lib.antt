@@ -3,3 +3,4 @@ pub mod Statements
 pub mod Refused
 pub mod Reads
 pub mod Written
+pub mod Formed

@@ -9,8 +9,8 @@ use Rattle.cell_core.specs.declared.table.Column.{Column}
 use Rattle.sql_tree.specs.Exprs.{exprs_of_cond}
 use Rattle.sql_tree.specs.Tree.{ExprTree, CondTree, ItemTree, QueryTree, StmtTree}
 use Rattle.sql_tree.specs.Tree.ExprTree.{Literal, ColumnOf, Operator, AggregateAll, Aggregate}
-use Rattle.sql_tree.specs.Tree.CondTree.{Compare, Within, Negation, Both, Either}
-use Rattle.sql_tree.specs.Tree.StmtTree.{CreateTable, InsertInto, DeleteFrom, UpdateTable, Select, ExplainSelect}
+use Rattle.sql_tree.specs.Tree.CondTree.{Compare, Within, IsNull, Negation, Both, Either}
+use Rattle.sql_tree.specs.Tree.StmtTree.{CreateTable, AlterTable, InsertInto, DeleteFrom, UpdateTable, Select, ExplainSelect}
 use Rattle.sql_tree.specs.declared.token.Keyword.TheVariants as word
 use Rattle.sql_tree.specs.declared.token.Symbol.TheVariants as symbol
 use Rattle.sql_tree.specs.declared.token.Token.{Token}
@@ -35,17 +35,9 @@ abbrev pub is_select : Option Token → Bool
 is_select (Some (Key word.Select)) = true
 is_select other = false
 
-abbrev pub is_not : Option Token → Bool
-is_not (Some (Key word.Not)) = true
-is_not other = false
-
 abbrev pub is_open : Option Token → Bool
 is_open (Some (token.Symbol symbol.Open)) = true
 is_open other = false
-
-abbrev pub is_close : Option Token → Bool
-is_close (Some (token.Symbol symbol.Close)) = true
-is_close other = false
 
 abbrev pub is_star : Option Token → Bool
 is_star (Some (token.Symbol symbol.Star)) = true
@@ -55,29 +47,7 @@ abbrev pub is_digits : Option Token → Bool
 is_digits (Some (Digits digits)) = true
 is_digits other = false
 
-abbrev pub is_varchar : Option Token → Bool
-is_varchar (Some (Key word.Varchar)) = true
-is_varchar other = false
-
-abbrev pub is_create : Option Token → Bool
-is_create (Some (Key word.Create)) = true
-is_create other = false
-
--- a type of one word
-abbrev pub is_type_word : Option Token → Bool
-is_type_word (Some (Key word.Int)) = true
-is_type_word (Some (Key word.Integer)) = true
-is_type_word (Some (Key word.Bigint)) = true
-is_type_word (Some (Key word.Text)) = true
-is_type_word (Some (Key word.Date)) = true
-is_type_word other = false
-
-abbrev pub is_name : Option Token → Bool
-is_name (Some (Name name)) = true
-is_name (Some (Quoted name)) = true
-is_name other = false
-
--- a statement in which no function may be called
+-- the first word of a statement in which a call is refused: one that has expressions
 abbrev pub has_expressions : Option Token → Bool
 has_expressions (Some (Key word.Select)) = true
 has_expressions (Some (Key word.Explain)) = true
@@ -88,18 +58,6 @@ has_expressions other = false
 -- the first token, or the one directly behind a first EXPLAIN
 abbrev pub leads : List Token → ℕ → Bool
 leads tokens i = (i == 0) || ((i == 1) && is_explain (slice_get tokens 0))
-
--- a column's name and its type end before the place
-abbrev pub ends_column : List Token → ℕ → Bool
-ends_column tokens zero = false
-ends_column tokens (suc i) =
-    (is_type_word (slice_get tokens i) && is_name (before tokens i))
-    || (is_close (slice_get tokens i) && is_digits (before tokens i) && is_open (before tokens (i - 1)) && is_varchar (before tokens (i - 2)) && is_name (before tokens (i - 3)))
-
--- NOT stands before the place, and a column's name and its type before that
-abbrev pub follows_not_of_column : List Token → ℕ → Bool
-follows_not_of_column tokens zero = false
-follows_not_of_column tokens (suc i) = is_create (slice_get tokens 0) && is_not (slice_get tokens i) && ends_column tokens i
 
 -- a word in upper case
 abbrev pub upper : List ℕ → List ℕ
@@ -116,7 +74,7 @@ dot_rule tokens i =
 
 -- the name of what the profile leaves out, where a rule applies to the token
 abbrev pub rule_of : List Token → ℕ → Option Token → Option (List ℕ)
-rule_of tokens i (Some (Unsupported word)) = if bytes_eq word (codes "null") && follows_not_of_column tokens i then None else Some (upper word)
+rule_of tokens i (Some (Unsupported word)) = Some (upper word)
 rule_of tokens i (Some (Key word.Select)) = if leads tokens i then None else Some (codes "SUBQUERY")
 rule_of tokens i (Some (Key word.Distinct)) = if is_select (before tokens i) && leads tokens (i - 1) then None else Some (codes "DISTINCT")
 rule_of tokens i (Some (token.Symbol symbol.Slash)) = Some (codes "DIVISION")
@@ -149,7 +107,7 @@ open_behind outer run (token.Symbol symbol.Open) = outer ++ (run + 1) ∷ []
 open_behind outer run (token.Symbol symbol.Close) = take (length outer - 1) outer
 open_behind outer run other = outer
 
--- more than 512 levels at some token: those of the open parentheses, and the NOT and `-` directly before it
+-- somewhere stand more than 512 levels: those of open parentheses, and the run of NOT and `-` that goes on there
 abbrev pub is_too_deep : List ℕ → ℕ → List Token → Bool
 is_too_deep outer run [] = false
 is_too_deep outer run (t ∷ tokens) = nat_lt 512 (sum outer + run) || is_too_deep (open_behind outer run t) (next_run run t) tokens
@@ -171,6 +129,7 @@ is_column_arithmetic other = false
 abbrev pub has_column_arithmetic : CondTree → Bool
 has_column_arithmetic (Compare op left right) = is_column_arithmetic left || is_column_arithmetic right
 has_column_arithmetic (Within of low high) = is_column_arithmetic of || is_column_arithmetic low || is_column_arithmetic high
+has_column_arithmetic (IsNull of) = is_column_arithmetic of
 has_column_arithmetic (Negation cond) = has_column_arithmetic cond
 has_column_arithmetic (Both left right) = has_column_arithmetic left || has_column_arithmetic right
 has_column_arithmetic (Either left right) = has_column_arithmetic left || has_column_arithmetic right
@@ -205,6 +164,7 @@ expr_nodes (Aggregate f of) = expr_nodes of
 abbrev pub cond_nodes : CondTree → ℕ
 cond_nodes (Compare op left right) = 1
 cond_nodes (Within of low high) = 1
+cond_nodes (IsNull of) = 1
 cond_nodes (Negation cond) = cond_nodes cond + 1
 cond_nodes (Both left right) = cond_nodes left + cond_nodes right + 1
 cond_nodes (Either left right) = cond_nodes left + cond_nodes right + 1
@@ -243,8 +203,14 @@ is_wide_limit (Some n) = is_out_of_range (pos n)
 abbrev pub has_wide_number : QueryTree → Bool
 has_wide_number query = list_any (λ (key : SortKey). is_wide_place key.at) query.keys || is_wide_limit query.limit
 
+-- the default of some column is a number outside that range
+abbrev pub has_wide_default : List Column → Bool
+has_wide_default columns = list_any (λ (column : Column). is_wide_cell column.default) columns
+
 -- a literal, a position or a LIMIT past the limit `literal`
 abbrev pub passes_literal : StmtTree → Bool
+passes_literal (CreateTable table columns) = has_wide_default columns
+passes_literal (AlterTable table column) = has_wide_default (column ∷ [])
 passes_literal (InsertInto table columns rows) = list_any (λ row. list_any is_wide_cell row) rows
 passes_literal (Select query) = list_any has_wide_literal (stmt_exprs (Select query)) || has_wide_number query
 passes_literal (ExplainSelect query) = list_any has_wide_literal (stmt_exprs (Select query)) || has_wide_number query
@@ -256,8 +222,10 @@ is_long_name (Name name) = nat_lt 64 (length name)
 is_long_name (Quoted name) = nat_lt 64 (length name)
 is_long_name other = false
 
+-- the columns that a statement writes pass a test
 abbrev pub columns_pass : (List Column → Bool) → StmtTree → Bool
 columns_pass test (CreateTable table columns) = test columns
+columns_pass test (AlterTable table column) = test (column ∷ [])
 columns_pass test other = false
 
 abbrev pub query_passes : (QueryTree → Bool) → StmtTree → Bool
@@ -276,12 +244,10 @@ passes_conditions (DeleteFrom table cond) = nat_lt 128 (nodes_of_cond cond)
 passes_conditions (UpdateTable table sets cond) = nat_lt 128 (nodes_of_cond cond)
 passes_conditions other = false
 
--- the first limit that a statement passes, in their order; `bytes` runs from its first token to its last
-abbrev pub passed_limits : ℕ → List Token → StmtTree → List (Bool × List ℕ)
-passed_limits bytes tokens statement =
-    (nat_lt 65536 bytes, codes "statement")
-    ∷ (list_any is_long_name tokens, codes "name")
-    ∷ (passes_literal statement, codes "literal")
+-- the limits that its tree alone decides, in their order, and whether a statement passes each
+abbrev pub tree_limits : StmtTree → List (Bool × List ℕ)
+tree_limits statement =
+    (passes_literal statement, codes "literal")
     ∷ (columns_pass (list_any (λ (column : Column). nat_lt 65535 column.width)) statement, codes "length")
     ∷ (columns_pass (λ columns. nat_lt 64 (length columns)) statement, codes "columns")
     ∷ (query_passes (λ query. nat_lt 4 (length query.froms)) statement, codes "tables")
@@ -292,6 +258,14 @@ passed_limits bytes tokens statement =
     ∷ (list_any (λ e. nat_lt 64 (expr_nodes e)) (stmt_exprs statement), codes "expression")
     ∷ []
 
+-- all limits in their order, and whether a statement passes each; `bytes` runs from its first token to its last
+abbrev pub passed_limits : ℕ → List Token → StmtTree → List (Bool × List ℕ)
+passed_limits bytes tokens statement =
+    (nat_lt 65536 bytes, codes "statement")
+    ∷ (list_any is_long_name tokens, codes "name")
+    ∷ tree_limits statement
+
+-- the name of the first that is passed
 abbrev pub first_passed : List (Bool × List ℕ) → Option (List ℕ)
 first_passed [] = None
 first_passed (limit ∷ limits) = if limit.0 then Some limit.1 else first_passed limits

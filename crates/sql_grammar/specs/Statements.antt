@@ -1,19 +1,19 @@
 -- The grammar of queries and statements, in the same form as that of expressions and conditions.
-use Rattle.std.specs.Prelude.{◌≡◌, ℕ, List, [], ◌∷◌, map, ◌==◌, if◌then◌else◌, codes, Bool, true, false, Option, Some, None}
+use Rattle.std.specs.Prelude.{◌≡◌, ℕ, List, [], ◌∷◌, map, ◌==◌, if◌then◌else◌, Bool, true, false, Option, Some, None}
 use Rattle.std.specs.Option.{option_map}
 use Rattle.cell_core.specs.declared.cell.Cell.{Cell}
+use Rattle.cell_core.specs.declared.cell.Cell.TheVariants as cell
 use Rattle.cell_core.specs.declared.cell.Kind.{Kind}
 use Rattle.cell_core.specs.declared.cell.Kind.TheVariants as kind
 use Rattle.cell_core.specs.declared.table.Column.{Column}
 use Rattle.sql_grammar.specs.Grammar.{sign, write_some, write_enclosed, write_behind, all_of, any_of, NameRule, write_name, name_of, number_of, LiteralRule, write_literal, literal_cell, ColumnRule, write_column, column_of, ExprRule, write_expr, expr_of, ValueRule, write_value, value_of, WhereRule, write_where, where_of, HavingRule, write_cond, cond_of}
 use Rattle.sql_tree.specs.Tree.{CondTree, ExprTree, ItemTree, QueryTree, StmtTree}
 use Rattle.sql_tree.specs.Tree.CondTree.{Both}
-use Rattle.sql_tree.specs.Tree.StmtTree.{CreateTable, DropTable, InsertInto, DeleteFrom, UpdateTable, Select, ExplainSelect}
+use Rattle.sql_tree.specs.Tree.StmtTree.{CreateTable, DropTable, AlterTable, InsertInto, DeleteFrom, UpdateTable, Select, ExplainSelect}
 use Rattle.sql_tree.specs.declared.token.Keyword.TheVariants as word
 use Rattle.sql_tree.specs.declared.token.Symbol.TheVariants as symbol
 use Rattle.sql_tree.specs.declared.token.Token.{Token}
 use Rattle.sql_tree.specs.declared.token.Token.TheVariants.{Digits, Key}
-use Rattle.sql_tree.specs.declared.token.Token.TheVariants as token
 use Rattle.sql_tree.specs.declared.tree.FromItem.{FromItem}
 use Rattle.sql_tree.specs.declared.tree.Place.{Place}
 use Rattle.sql_tree.specs.declared.tree.Place.TheVariants.{Position, Named}
@@ -64,7 +64,7 @@ write_source source rest = write_name source.0 (write_alias source.1 rest)
 abbrev pub source_of : NameRule × AliasRule → FromItem
 source_of source = record { table = name_of source.0; alias = alias_of source.1 }
 
--- "," source | [INNER] JOIN source ON cond
+-- one more source: behind a comma, or behind JOIN with its condition
 pub data JoinRule : Type 0 where
   CommaSource : NameRule × AliasRule → JoinRule
   JoinOn : Bool → NameRule × AliasRule → WhereRule → JoinRule
@@ -87,13 +87,13 @@ abbrev pub and_also : Option CondTree → CondTree → Option CondTree
 and_also None cond = Some cond
 and_also (Some left) cond = Some (Both left cond)
 
--- the conditions of ON, left to right, behind those so far
+-- what each ON asks, as they are written, joined behind what is asked so far
 abbrev pub on_conds : Option CondTree → List JoinRule → Option CondTree
 on_conds so_far [] = so_far
 on_conds so_far (CommaSource source ∷ joins) = on_conds so_far joins
 on_conds so_far (JoinOn inner source cond ∷ joins) = on_conds (and_also so_far (where_of cond)) joins
 
--- and then that of WHERE
+-- and what WHERE asks, last
 abbrev pub with_where : Option CondTree → Option WhereRule → Option CondTree
 with_where so_far None = so_far
 with_where so_far (Some cond) = and_also so_far (where_of cond)
@@ -132,8 +132,7 @@ is_ascending DescOrder = false
 abbrev pub key_of : PlaceRule × OrderRule → SortKey
 key_of key = record { at = place_of key.0; ascending = is_ascending key.1 }
 
--- FROM source {"," source | [INNER] JOIN source ON cond} [WHERE cond] [GROUP BY column {"," column}]
--- [HAVING hcond] [ORDER BY key {"," key}] [LIMIT digits]
+-- the part of a query that begins with FROM: each clause in its place, most of which may be missing
 pub record FromRule : Type 0 where
   pub source : NameRule × AliasRule
   pub joins : List JoinRule
@@ -143,7 +142,7 @@ pub record FromRule : Type 0 where
   pub keys : Option ((PlaceRule × OrderRule) × List (PlaceRule × OrderRule))
   pub limit : Option (List ℕ)
 
--- query = SELECT [DISTINCT] ("*" | item {"," item}) [FROM ..]
+-- a query: DISTINCT or not, its items, and the part that begins with FROM, without which it is refused later
 pub record QueryRule : Type 0 where
   pub distinct : Bool
   pub items : ItemsRule
@@ -191,7 +190,7 @@ query_of query = query_from query.distinct (items_of query.items) query.from
 
 -- ## Statements
 
--- type = INT | INTEGER | BIGINT | TEXT | DATE | VARCHAR "(" digits ")"
+-- a type: three words for numbers, one for texts, one for days, and texts up to a length
 pub data TypeRule : Type 0 where
   IntType : TypeRule
   IntegerType : TypeRule
@@ -225,25 +224,65 @@ abbrev pub width_of : TypeRule → ℕ
 width_of (VarcharType digits) = length_of (number_of digits)
 width_of other = 0
 
--- coldef = name type [NOT NULL]
+-- what stands behind the type: nothing, or NOT NULL and DEFAULT literal in either order, or one of these
+pub data ColumnEnd : Type 0 where
+  PlainEnd : ColumnEnd
+  NotNullEnd : ColumnEnd
+  DefaultEnd : LiteralRule → ColumnEnd
+  NotNullDefault : LiteralRule → ColumnEnd
+  DefaultNotNull : LiteralRule → ColumnEnd
+
+-- coldef = name type column-end
 pub record ColdefRule : Type 0 where
   pub name : NameRule
   pub kind : TypeRule
-  pub not_null : Bool
+  pub end : ColumnEnd
 
--- NULL, which the profile leaves out elsewhere
-abbrev pub null_word : Token
-null_word = token.Unsupported (codes "null")
+abbrev pub write_not_null : List Token → List Token
+write_not_null rest = Key word.Not ∷ Key word.Null ∷ rest
 
-abbrev pub write_not_null : Bool → List Token → List Token
-write_not_null true rest = Key word.Not ∷ null_word ∷ rest
-write_not_null false rest = rest
+abbrev pub write_default : LiteralRule → List Token → List Token
+write_default literal rest = Key word.Default ∷ write_literal literal rest
+
+abbrev pub write_end : ColumnEnd → List Token → List Token
+write_end PlainEnd rest = rest
+write_end NotNullEnd rest = write_not_null rest
+write_end (DefaultEnd literal) rest = write_default literal rest
+write_end (NotNullDefault literal) rest = write_not_null (write_default literal rest)
+write_end (DefaultNotNull literal) rest = write_default literal (write_not_null rest)
+
+-- NOT NULL is written
+abbrev pub is_required : ColumnEnd → Bool
+is_required PlainEnd = false
+is_required NotNullEnd = true
+is_required (DefaultEnd literal) = false
+is_required (NotNullDefault literal) = true
+is_required (DefaultNotNull literal) = true
+
+-- the default, or Nil where none is written
+abbrev pub default_of : ColumnEnd → Cell
+default_of PlainEnd = cell.Nil
+default_of NotNullEnd = cell.Nil
+default_of (DefaultEnd literal) = literal_cell literal
+default_of (NotNullDefault literal) = literal_cell literal
+default_of (DefaultNotNull literal) = literal_cell literal
 
 abbrev pub write_coldef : ColdefRule → List Token → List Token
-write_coldef coldef rest = write_name coldef.name (write_type coldef.kind (write_not_null coldef.not_null rest))
+write_coldef coldef rest = write_name coldef.name (write_type coldef.kind (write_end coldef.end rest))
 
 abbrev pub coldef_of : ColdefRule → Column
-coldef_of coldef = record { name = name_of coldef.name; kind = kind_of coldef.kind; width = width_of coldef.kind; not_null = coldef.not_null }
+coldef_of coldef = record {
+  name = name_of coldef.name;
+  kind = kind_of coldef.kind;
+  width = width_of coldef.kind;
+  not_null = is_required coldef.end;
+  default = default_of coldef.end;
+}
+
+-- [COLUMN] before a column definition
+abbrev pub write_column_word : Bool → List Token → List Token
+write_column_word true rest = Key word.Column ∷ rest
+write_column_word false rest = rest
 
 -- name "=" expr
 abbrev pub write_set : NameRule × ExprRule → List Token → List Token
@@ -264,10 +303,11 @@ write_row row rest = write_enclosed write_literal row rest
 abbrev pub row_of : LiteralRule × List LiteralRule → List Cell
 row_of row = map literal_cell (all_of row)
 
--- statement = create | drop | insert | delete | update | query | EXPLAIN query
+-- a statement of each kind; a query may stand behind EXPLAIN
 pub data StmtRule : Type 0 where
   CreateRule : NameRule → ColdefRule × List ColdefRule → StmtRule
   DropRule : NameRule → StmtRule
+  AlterRule : NameRule → Bool → ColdefRule → StmtRule
   InsertRule : NameRule → Option (NameRule × List NameRule) → (LiteralRule × List LiteralRule) × List (LiteralRule × List LiteralRule) → StmtRule
   DeleteRule : NameRule → Option WhereRule → StmtRule
   UpdateRule : NameRule → (NameRule × ExprRule) × List (NameRule × ExprRule) → Option WhereRule → StmtRule
@@ -278,6 +318,7 @@ pub data StmtRule : Type 0 where
 abbrev pub write_stmt : StmtRule → List Token
 write_stmt (CreateRule table coldefs) = Key word.Create ∷ Key word.Table ∷ write_name table (write_enclosed write_coldef coldefs [])
 write_stmt (DropRule table) = Key word.Drop ∷ Key word.Table ∷ write_name table []
+write_stmt (AlterRule table column_word coldef) = Key word.Alter ∷ Key word.Table ∷ write_name table (Key word.Add ∷ write_column_word column_word (write_coldef coldef []))
 write_stmt (InsertRule table columns rows) = Key word.Insert ∷ Key word.Into ∷ write_name table (write_column_list columns (Key word.Values ∷ write_some write_row rows []))
 write_stmt (DeleteRule table cond) = Key word.Delete ∷ Key word.From ∷ write_name table (write_behind write_where (word.Where ∷ []) cond [])
 write_stmt (UpdateRule table sets cond) = Key word.Update ∷ write_name table (Key word.Set ∷ write_some write_set sets (write_behind write_where (word.Where ∷ []) cond []))
@@ -288,6 +329,7 @@ write_stmt (ExplainRule query) = Key word.Explain ∷ write_query query []
 abbrev pub stmt_of : StmtRule → StmtTree
 stmt_of (CreateRule table coldefs) = CreateTable (name_of table) (map coldef_of (all_of coldefs))
 stmt_of (DropRule table) = DropTable (name_of table)
+stmt_of (AlterRule table column_word coldef) = AlterTable (name_of table) (coldef_of coldef)
 stmt_of (InsertRule table columns rows) = InsertInto (name_of table) (map name_of (any_of columns)) (map row_of (all_of rows))
 stmt_of (DeleteRule table cond) = DeleteFrom (name_of table) (option_map where_of cond)
 stmt_of (UpdateRule table sets cond) = UpdateTable (name_of table) (map set_of (all_of sets)) (option_map where_of cond)

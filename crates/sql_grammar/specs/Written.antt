@@ -1,15 +1,16 @@
--- Trees that some tokens derive: what of the trees the grammar reaches.
+-- Plain expressions, which hold no aggregate and whose cells literals give, and what is made of them.
 use Rattle.std.specs.Prelude.{◌≡◌, ℕ, ◌<◌, ◌^◌, List, pos, negsuc}
 use Rattle.cell_core.specs.Day.{IsDayText, day_in}
 use Rattle.cell_core.specs.declared.cell.Cell.{Cell}
 use Rattle.cell_core.specs.declared.cell.Cell.TheVariants as cell
-use Rattle.sql_grammar.specs.Grammar.{WhereRule, where_of}
 use Rattle.sql_tree.specs.Tree.{ExprTree, CondTree}
 use Rattle.sql_tree.specs.Tree.ExprTree.{Literal, ColumnOf, Operator, AggregateAll, Aggregate}
-use Rattle.sql_tree.specs.Tree.CondTree.{Compare, Within, Negation, Both, Either}
+use Rattle.sql_tree.specs.declared.tree.AggOp.TheVariants as aggregate
+use Rattle.sql_tree.specs.Tree.CondTree.{Compare, Within, IsNull, Negation, Both, Either}
 
 -- a cell that a literal gives
 abbrev pub IsLiteral : Cell → Type 0
+IsLiteral cell.Nil = Unit {0}
 IsLiteral (cell.Int (pos n)) = n < 2 ^ 63
 IsLiteral (cell.Int (negsuc n)) = n < 2 ^ 63
 IsLiteral (cell.Text text) = Unit {0}
@@ -24,14 +25,27 @@ IsPlain (Operator op left right) = IsPlain left × IsPlain right
 IsPlain (AggregateAll f) = ⊥
 IsPlain (Aggregate f of) = ⊥
 
--- a condition over such expressions
-abbrev pub IsPlainCond : CondTree → Type 0
-IsPlainCond (Compare op left right) = IsPlain left × IsPlain right
-IsPlainCond (Within of low high) = IsPlain of × IsPlain low × IsPlain high
-IsPlainCond (Negation cond) = IsPlainCond cond
-IsPlainCond (Both left right) = IsPlainCond left × IsPlainCond right
-IsPlainCond (Either left right) = IsPlainCond left × IsPlainCond right
+-- a condition whose operands are all of a form
+abbrev pub IsCondOver : (ExprTree → Type 0) → CondTree → Type 0
+IsCondOver HasForm (Compare op left right) = HasForm left × HasForm right
+IsCondOver HasForm (Within of low high) = HasForm of × HasForm low × HasForm high
+IsCondOver HasForm (IsNull of) = HasForm of
+IsCondOver HasForm (Negation cond) = IsCondOver HasForm cond
+IsCondOver HasForm (Both left right) = IsCondOver HasForm left × IsCondOver HasForm right
+IsCondOver HasForm (Either left right) = IsCondOver HasForm left × IsCondOver HasForm right
 
--- each condition over plain expressions is derived from some tokens
-abbrev pub EachIsDerived : Type 0
-EachIsDerived = (cond : CondTree) → IsPlainCond cond → (rule : WhereRule) × (where_of rule ≡ cond)
+-- a condition over plain expressions
+abbrev pub IsPlainCond : CondTree → Type 0
+IsPlainCond = IsCondOver IsPlain
+
+-- a plain expression, or an aggregate of one: what an item is, and an operand of HAVING
+abbrev pub IsValue : ExprTree → Type 0
+IsValue (Literal literal) = IsPlain (Literal literal)
+IsValue (ColumnOf column) = IsPlain (ColumnOf column)
+IsValue (Operator op left right) = IsPlain (Operator op left right)
+IsValue (AggregateAll f) = f ≡ aggregate.Count
+IsValue (Aggregate f of) = IsPlain of
+
+-- a condition over such values
+abbrev pub IsValueCond : CondTree → Type 0
+IsValueCond = IsCondOver IsValue

@@ -61,29 +61,3 @@ fn next_run(run: usize, token: &Token) -> usize
         _ => 0,
     }
 }
-
-#[cfg(test)]
-mod tests {
-    use super::*;
-    use std::test::Fail;
-
-    fn nested(alloc: Global, times: usize) -> Result<Vec<Placed>, Memory> {
-        let mut tokens = Vec::new(alloc);
-        for at in 0..times {
-            tokens.push(Placed {
-                token: Token::Symbol(Symbol::Open),
-                start: at,
-                end: at,
-            })?;
-        }
-        Ok(tokens)
-    }
-
-    #[test]
-    fn levels_are_counted(rt: HostRuntime) -> Result<(), Fail> {
-        let alloc = rt.alloc();
-        assert!(rt; !is_too_deep(alloc, &nested(alloc, 513)?)?);
-        assert!(rt; is_too_deep(alloc, &nested(alloc, 514)?)?);
-        Ok(())
-    }
-}

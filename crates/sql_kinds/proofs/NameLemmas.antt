@@ -1,14 +1,14 @@
 -- Names that differ.
 use Rattle.std.proofs.Common.{◌≡◌, ℕ, ◌+◌, List, [], ◌∷◌, ◌++◌, map, filter, length, take, Bool, true, false, ◌||◌, cond, Some, refl, ap, sym, ◌∙◌}
-use Rattle.std.specs.Prelude.{bytes_eq}
+use Rattle.std.specs.Prelude.{bytes_eq, is_some, not}
 use Rattle.std.specs.List.{list_any, enumerate_from}
-use Rattle.std.proofs.lemmas.Bool.{both_ways, and_from, or_parts, or_from, not_from_false, false_from_ne_true, cond-true, cond-false}
+use Rattle.std.proofs.lemmas.Bool.{both_ways, and_parts, and_from, not-true, or_parts, or_from, not_from_false, false_from_ne_true, cond-true, cond-false}
 use Rattle.std.proofs.lemmas.List.{append_assoc, length-append}
 use Rattle.std.proofs.lemmas.List.Folds.{list_any-append}
 use Rattle.std.proofs.lemmas.Slice.Eq.{bytes_eq-Decides}
 use Rattle.cell_core.specs.declared.table.Column.{Column}
 use Rattle.sql_semantics.specs.Check.{names_twice, column_named}
-use Rattle.sql_kinds.specs.HoldsKinds.{names_differ, column_names}
+use Rattle.sql_semantics.specs.Valid.{names_differ, column_names}
 
 -- ## Equal names
 
@@ -81,7 +81,26 @@ differ_behind before (name ∷ names) e =
 pub differ : (names : List (List ℕ)) → names_twice names ≡ [] → names_differ names ≡ true
 differ names e = (differ_behind [] names (map_empty _ _ (map_empty _ _ e))).0
 
+-- one name more at the end
+pub names_more : (names : List (List ℕ)) (name : List ℕ) → names_differ names ≡ true → list_any (bytes_eq name) names ≡ false → names_differ (names ++ name ∷ []) ≡ true
+names_more [] name differ none = refl
+names_more (first ∷ names) name differ none =
+    let parts : (not (list_any (bytes_eq first) names) ≡ true) × (names_differ names ≡ true) = and_parts _ _ differ in
+    let others : (bytes_eq name first ≡ false) × (list_any (bytes_eq name) names ≡ false) = or_parts _ _ none in
+    and_from _ _
+    (not_from_false _ (list_any-append (bytes_eq first) names (name ∷ []) ∙ or_from _ _ (not-true _ parts.0) (or_from _ _ (other_name name first others.0) refl)))
+    (names_more names name parts.1 others.1)
+
 -- ## Columns by their names
+
+-- a name under which there is no column is no column's
+pub not_there : (name : List ℕ) (columns : List Column) → is_some (column_named columns name) ≡ false → list_any (bytes_eq name) (column_names columns) ≡ false
+not_there name [] e = refl
+not_there name (column ∷ columns) e =
+    elim (bytes_eq column.name name) as (λ b. bytes_eq column.name name ≡ b → is_some (cond b (Some column) (column_named columns name)) ≡ false → list_any (bytes_eq name) (column_names (column ∷ columns)) ≡ false) [
+      | true ↦ λ t f. cc
+      | false ↦ λ t f. or_from _ _ (other_name column.name name t) (not_there name columns f)
+    ] refl e
 
 -- a column that is found has another name than those that none has
 found_other : (name other : List ℕ) (columns : List Column) (column : Column) → list_any (bytes_eq name) (column_names columns) ≡ false

@@ -1,7 +1,7 @@
 -- Rows that a statement makes fit the columns of their table.
-use Rattle.std.proofs.Common.{◌≡◌, ℕ, suc, ◌+◌, ◌==◌, List, [], ◌∷◌, map, filter, length, zip, Bool, true, false, not, cond, Option, Some, None, refl, ap, sym, subst, ◌∙◌, arith}
+use Rattle.std.proofs.Common.{◌≡◌, ℕ, suc, ◌+◌, ◌==◌, List, [], ◌∷◌, ◌++◌, map, filter, length, zip, Bool, true, false, not, cond, Option, Some, None, refl, ap, sym, subst, ◌∙◌, arith}
 use Rattle.std.specs.Prelude.{bytes_eq, find, is_none, slice_index_or, filter_map}
-use Rattle.std.specs.List.{list_any, position_or_len, cons_option}
+use Rattle.std.specs.List.{list_any, list_all, position_or_len, cons_option}
 use Rattle.std.specs.Option.{option_to_list}
 use Rattle.std.proofs.lemmas.Bool.{and_parts, and_from, or_parts, not-true, not-false, eqb-true}
 use Rattle.cell_core.specs.declared.cell.Cell.{Cell}
@@ -13,7 +13,7 @@ use Rattle.sql_tree.specs.Tree.{ExprTree}
 use Rattle.sql_semantics.specs.Check.{column_named, targets, is_misfit_row, is_misfit_set, own_source}
 use Rattle.sql_semantics.specs.Effect.{placed, own_table, set_cell, updated_row}
 use Rattle.sql_semantics.specs.Kinds.{kind_of_expr, is_misfit}
-use Rattle.sql_kinds.specs.HoldsKinds.{names_differ, column_names, fits_columns}
+use Rattle.sql_semantics.specs.Valid.{names_differ, column_names, fits_columns, is_valid_column, are_valid_columns}
 use Rattle.sql_kinds.proofs.NameLemmas.{same_name, still_named, first_named, left_out}
 use Rattle.sql_kinds.proofs.CellLemmas.{cell_agrees, value_fits}
 
@@ -22,6 +22,34 @@ shorter a b e = grind arith
 
 longer : (a : ℕ) → suc a ≡ 0 → a ≡ suc a
 longer a e = grind arith
+
+-- ## Columns
+
+pub columns_differ : (columns : List Column) → are_valid_columns columns ≡ true → names_differ (column_names columns) ≡ true
+columns_differ columns valid = (and_parts _ _ valid).1
+
+pub columns_valid : (columns : List Column) → are_valid_columns columns ≡ true → list_all is_valid_column columns ≡ true
+columns_valid columns valid = (and_parts _ _ (and_parts _ _ valid).0).1
+
+-- the default of a column that is found
+pub default_fits : (columns : List Column) (column : Column) (name : List ℕ) → list_all is_valid_column columns ≡ true → column_named columns name ≡ Some column
+    → is_of_kind (Some column.kind) column.default ≡ true
+default_fits [] column name valid found = cc
+default_fits (first ∷ columns) column name valid found =
+    elim (bytes_eq first.name name) as (λ b. cond b (Some first) (column_named columns name) ≡ Some column → is_of_kind (Some column.kind) column.default ≡ true) [
+      | true ↦ λ is. let same : first ≡ column = cc in subst (λ (c : Column). is_of_kind (Some c.kind) c.default ≡ true) same (and_parts _ _ (and_parts _ _ valid).0).1
+      | false ↦ λ is. default_fits columns column name (and_parts _ _ valid).1 is
+    ] found
+
+-- a row with the default of a column that is added
+pub fits_more : (columns : List Column) (row : List Cell) (column : Column) → is_of_kind (Some column.kind) column.default ≡ true → fits_columns columns row ≡ true
+    → fits_columns (columns ++ column ∷ []) (row ++ column.default ∷ []) ≡ true
+fits_more [] [] column default fits = and_from _ _ default refl
+fits_more [] (c ∷ row) column default fits = cc
+fits_more (first ∷ columns) [] column default fits = cc
+fits_more (first ∷ columns) (c ∷ row) column default fits =
+    let parts : (is_of_kind (Some first.kind) c ≡ true) × (fits_columns columns row ≡ true) = and_parts _ _ fits in
+    and_from _ _ parts.0 (fits_more columns row column default parts.1)
 
 -- ## INSERT
 
@@ -45,24 +73,24 @@ made_row f (column ∷ columns) differ fits =
     (made_row f columns parts.1 (λ other found. fits other (still_named column columns other (not-true _ parts.0) found)))
 
 -- the place of a name behind another one
-behind : (b : Bool) (c : Cell) (row : List Cell) (n : ℕ) → slice_index_or (c ∷ row) (cond (not b) (1 + n) 0) cell.Nil ≡ cond b c (slice_index_or row n cell.Nil)
-behind true c row n = refl
-behind false c row n = ap (λ k. slice_index_or (c ∷ row) k cell.Nil) (one_more n)
+behind : (b : Bool) (c other : Cell) (row : List Cell) (n : ℕ) → slice_index_or (c ∷ row) (cond (not b) (1 + n) 0) other ≡ cond b c (slice_index_or row n other)
+behind true c other row n = refl
+behind false c other row n = ap (λ k. slice_index_or (c ∷ row) k other) (one_more n)
   where
     one_more : (n : ℕ) → 1 + n ≡ suc n
     one_more n = grind arith
 
 -- the value that is placed in a column
-module _ (columns : List Column) (column : Column) (found : column_named columns column.name ≡ Some column) where
+module _ (columns : List Column) (column : Column) (found : column_named columns column.name ≡ Some column) (default_fits : is_of_kind (Some column.kind) column.default ≡ true) where
   abbrev value_at : List (List ℕ) → List Cell → Cell
-  value_at listed row = slice_index_or row (position_or_len (bytes_eq column.name) listed) cell.Nil
+  value_at listed row = slice_index_or row (position_or_len (bytes_eq column.name) listed) column.default
 
   -- a value beside its own column's name, or beside another one
   placed_here : (name : List ℕ) (listed : List (List ℕ)) (c : Cell) (row : List Cell) (target : Column) → column_named columns name ≡ Some target
       → agrees (kind_of c) (Some target.kind) ≡ true → is_of_kind (Some column.kind) (value_at listed row) ≡ true
       → is_of_kind (Some column.kind) (value_at (name ∷ listed) (c ∷ row)) ≡ true
   placed_here name listed c row target is agreed rest =
-      ap (λ x. is_of_kind (Some column.kind) x) (behind (bytes_eq column.name name) c row (position_or_len (bytes_eq column.name) listed))
+      ap (λ x. is_of_kind (Some column.kind) x) (behind (bytes_eq column.name name) c column.default row (position_or_len (bytes_eq column.name) listed))
       ∙ elim (bytes_eq column.name name) as (λ b. bytes_eq column.name name ≡ b → is_of_kind (Some column.kind) (cond b c (value_at listed row)) ≡ true) [
         | true ↦ λ same. subst (λ (x : Column). is_of_kind (Some x.kind) c ≡ true)
             (same_column target column (sym is ∙ ap (column_named columns) (sym (same_name column.name name same)) ∙ found))
@@ -76,9 +104,9 @@ module _ (columns : List Column) (column : Column) (found : column_named columns
   placed_cell : (listed : List (List ℕ)) (row : List Cell) → filter (λ name. is_none (column_named columns name)) listed ≡ []
       → length row ≡ length (filter_map (column_named columns) listed) → is_misfit_row (filter_map (column_named columns) listed) row ≡ false
       → is_of_kind (Some column.kind) (value_at listed row) ≡ true
-  placed_cell [] [] known e fits = refl
+  placed_cell [] [] known e fits = default_fits
   placed_cell [] (c ∷ row) known e fits = absurd (omega (arith, e))
-  placed_cell (name ∷ listed) [] known e fits = refl
+  placed_cell (name ∷ listed) [] known e fits = default_fits
   placed_cell (name ∷ listed) (c ∷ row) known e fits =
       let out : (is_none (column_named columns name) ≡ false) × (filter (λ n. is_none (column_named columns n)) listed ≡ []) =
       left_out (is_none (column_named columns name)) name (filter (λ n. is_none (column_named columns n)) listed) known in
@@ -98,15 +126,15 @@ is_listed : (name : List ℕ) (listed : List (List ℕ)) → (length (name ∷ l
 is_listed name listed = grind arith
 
 -- the row that a row of VALUES gives
-pub placed_fits : (columns : List Column) (listed : List (List ℕ)) (row : List Cell) → names_differ (column_names columns) ≡ true
+pub placed_fits : (columns : List Column) (listed : List (List ℕ)) (row : List Cell) → are_valid_columns columns ≡ true
     → filter (λ name. is_none (column_named columns name)) listed ≡ []
     → (length row == length (targets columns listed)) ≡ true → is_misfit_row (targets columns listed) row ≡ false
     → fits_columns columns (placed columns listed row) ≡ true
-placed_fits columns [] row differ known count fits = whole_row columns row (eqb-true (length row) (length columns) count) fits
-placed_fits columns (name ∷ listed) row differ known count fits =
-    ap (λ b. fits_columns columns (cond b row (map (λ (column : Column). slice_index_or row (position_or_len (bytes_eq column.name) (name ∷ listed)) cell.Nil) columns))) (is_listed name listed)
-    ∙ made_row (λ (column : Column). slice_index_or row (position_or_len (bytes_eq column.name) (name ∷ listed)) cell.Nil) columns differ
-    (λ column found. placed_cell columns column found (name ∷ listed) row known (eqb-true (length row) (length all) (ap (λ ts. length row == length ts) targets_are ∙ count))
+placed_fits columns [] row valid known count fits = whole_row columns row (eqb-true (length row) (length columns) count) fits
+placed_fits columns (name ∷ listed) row valid known count fits =
+    ap (λ b. fits_columns columns (cond b row (map (λ (column : Column). slice_index_or row (position_or_len (bytes_eq column.name) (name ∷ listed)) column.default) columns))) (is_listed name listed)
+    ∙ made_row (λ (column : Column). slice_index_or row (position_or_len (bytes_eq column.name) (name ∷ listed)) column.default) columns (columns_differ columns valid)
+    (λ column found. placed_cell columns column found (default_fits columns column column.name (columns_valid columns valid) found) (name ∷ listed) row known (eqb-true (length row) (length all) (ap (λ ts. length row == length ts) targets_are ∙ count))
     (ap (λ ts. is_misfit_row ts row) targets_are ∙ fits))
   where
     all : List Column

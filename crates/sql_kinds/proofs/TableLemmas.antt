@@ -6,12 +6,10 @@ use Rattle.std.specs.Option.{option_map}
 use Rattle.std.proofs.lemmas.Bool.{and_parts, and_from, or_parts, or_from, not-true, not_from_false}
 use Rattle.std.proofs.lemmas.List.{map-append}
 use Rattle.std.proofs.lemmas.List.Folds.{list_any-append}
-use Rattle.cell_core.specs.declared.cell.Cell.{Cell}
 use Rattle.cell_core.specs.declared.table.Table.{Table}
 use Rattle.cell_core.specs.Tables.{first_named}
 use Rattle.sql_semantics.specs.declared.source.Source.{Source}
-use Rattle.sql_semantics.specs.Effect.{with_new_rows}
-use Rattle.sql_kinds.specs.HoldsKinds.{names_differ, table_names, column_names, fits_columns, holds_kinds}
+use Rattle.sql_semantics.specs.Valid.{names_differ, table_names, is_valid_table}
 use Rattle.sql_kinds.proofs.NameLemmas.{same_name, other_name}
 
 -- ## Lists
@@ -23,9 +21,9 @@ all_left p keep (x ∷ xs) e = elim (keep x) as (λ b. list_all p (cond b (x ∷
   | false ↦ all_left p keep xs (and_parts _ _ e).1
 ]
 
-pub all_changed : {X : Type 0} (p : X → Bool) (f : X → X) → ((x : X) → p x ≡ true → p (f x) ≡ true) → (xs : List X) → list_all p xs ≡ true → list_all p (map f xs) ≡ true
-all_changed p f keeps [] e = refl
-all_changed p f keeps (x ∷ xs) e = and_from (p (f x)) (list_all p (map f xs)) (keeps x (and_parts _ _ e).0) (all_changed p f keeps xs (and_parts _ _ e).1)
+pub all_mapped : {X Y : Type 0} (p : X → Bool) (q : Y → Bool) (f : X → Y) → ((x : X) → p x ≡ true → q (f x) ≡ true) → (xs : List X) → list_all p xs ≡ true → list_all q (map f xs) ≡ true
+all_mapped p q f keeps [] e = refl
+all_mapped p q f keeps (x ∷ xs) e = and_from (q (f x)) (list_all q (map f xs)) (keeps x (and_parts _ _ e).0) (all_mapped p q f keeps xs (and_parts _ _ e).1)
 
 pub all_made : {X Y : Type 0} (p q : X → Bool) (r : Y → Bool) (f : X → Y) → ((x : X) → p x ≡ false → q x ≡ false → r (f x) ≡ true)
     → (xs : List X) → list_any p xs ≡ false → list_any q xs ≡ false → list_all r (map f xs) ≡ true
@@ -47,50 +45,53 @@ source_is name (table ∷ tables) =
 same_table : (a b : Table) → Some a ≡ Some b → a ≡ b
 same_table a b h = cc
 
-pub found_holds : (name : List ℕ) (tables : List Table) (table : Table) → list_all holds_kinds tables ≡ true → first_named name tables ≡ Some table → holds_kinds table ≡ true
+pub found_holds : (name : List ℕ) (tables : List Table) (table : Table) → list_all is_valid_table tables ≡ true → first_named name tables ≡ Some table → is_valid_table table ≡ true
 found_holds name [] table holds e = cc
 found_holds name (first ∷ tables) table holds e =
-    elim (bytes_eq first.name name) as (λ b. cond b (Some first) (first_named name tables) ≡ Some table → holds_kinds table ≡ true) [
-      | true ↦ λ found. subst (λ t. holds_kinds t ≡ true) (same_table first table found) (and_parts _ _ holds).0
+    elim (bytes_eq first.name name) as (λ b. cond b (Some first) (first_named name tables) ≡ Some table → is_valid_table table ≡ true) [
+      | true ↦ λ found. subst (λ t. is_valid_table t ≡ true) (same_table first table found) (and_parts _ _ holds).0
       | false ↦ λ found. found_holds name tables table (and_parts _ _ holds).1 found
     ] e
 
 -- ## A change
 
-pub same_names : (name : List ℕ) (rows : List (List Cell)) (tables : List Table) → table_names (map (with_new_rows name rows) tables) ≡ table_names tables
-same_names name rows [] = refl
-same_names name rows (table ∷ tables) =
-    elim (bytes_eq table.name name) as (λ b. ◌≡◌ {A = List (List ℕ)} ((cond b (record table { rows = rows }) table).name ∷ table_names (map (with_new_rows name rows) tables)) (table.name ∷ table_names tables)) [
-      | true ↦ ap (λ ns. table.name ∷ ns) (same_names name rows tables)
-      | false ↦ ap (λ ns. table.name ∷ ns) (same_names name rows tables)
+-- a table that is changed where it has the name
+abbrev pub where_named : List ℕ → (Table → Table) → Table → Table
+where_named name f table = cond (bytes_eq table.name name) (f table) table
+
+pub same_names : (name : List ℕ) (f : Table → Table) → ((table : Table) → (f table).name ≡ table.name) → (tables : List Table) → table_names (map (where_named name f) tables) ≡ table_names tables
+same_names name f keeps [] = refl
+same_names name f keeps (table ∷ tables) =
+    elim (bytes_eq table.name name) as (λ b. ◌≡◌ {A = List (List ℕ)} ((cond b (f table) table).name ∷ table_names (map (where_named name f) tables)) (table.name ∷ table_names tables)) [
+      | true ↦ ap (λ n. n ∷ table_names (map (where_named name f) tables)) (keeps table) ∙ ap (λ ns. table.name ∷ ns) (same_names name f keeps tables)
+      | false ↦ ap (λ ns. table.name ∷ ns) (same_names name f keeps tables)
     ]
 
 -- tables of other names stay
-others_hold : (name : List ℕ) (rows : List (List Cell)) (tables : List Table) → list_any (bytes_eq name) (table_names tables) ≡ false
-    → list_all holds_kinds tables ≡ true → list_all holds_kinds (map (with_new_rows name rows) tables) ≡ true
-others_hold name rows [] other holds = refl
-others_hold name rows (table ∷ tables) other holds =
+others_hold : (name : List ℕ) (f : Table → Table) (tables : List Table) → list_any (bytes_eq name) (table_names tables) ≡ false
+    → list_all is_valid_table tables ≡ true → list_all is_valid_table (map (where_named name f) tables) ≡ true
+others_hold name f [] other holds = refl
+others_hold name f (table ∷ tables) other holds =
     and_from _ _
-    (ap (λ b. holds_kinds (cond b (record table { rows = rows }) table)) (other_name name table.name (or_parts _ _ other).0) ∙ (and_parts _ _ holds).0)
-    (others_hold name rows tables (or_parts _ _ other).1 (and_parts _ _ holds).1)
+    (ap (λ b. is_valid_table (cond b (f table) table)) (other_name name table.name (or_parts _ _ other).0) ∙ (and_parts _ _ holds).0)
+    (others_hold name f tables (or_parts _ _ other).1 (and_parts _ _ holds).1)
 
--- new rows that fit the columns of the first table with that name
-pub changed_hold : (name : List ℕ) (rows : List (List Cell)) (tables : List Table) (table : Table) → names_differ (table_names tables) ≡ true
-    → list_all holds_kinds tables ≡ true → first_named name tables ≡ Some table → list_all (fits_columns table.columns) rows ≡ true
-    → list_all holds_kinds (map (with_new_rows name rows) tables) ≡ true
-changed_hold name rows [] table differ holds e fit = refl
-changed_hold name rows (first ∷ tables) table differ holds e fit =
+-- a change of the first table with that name
+pub changed_hold : (name : List ℕ) (f : Table → Table) (tables : List Table) (table : Table) → names_differ (table_names tables) ≡ true
+    → list_all is_valid_table tables ≡ true → first_named name tables ≡ Some table → is_valid_table (f table) ≡ true
+    → list_all is_valid_table (map (where_named name f) tables) ≡ true
+changed_hold name f [] table differ holds e fit = refl
+changed_hold name f (first ∷ tables) table differ holds e fit =
     elim (bytes_eq first.name name) as (λ b. bytes_eq first.name name ≡ b → cond b (Some first) (first_named name tables) ≡ Some table
-    → (holds_kinds (cond b (record first { rows = rows }) first) && list_all holds_kinds (map (with_new_rows name rows) tables)) ≡ true) [
+    → (is_valid_table (cond b (f first) first) && list_all is_valid_table (map (where_named name f) tables)) ≡ true) [
       | true ↦ λ same found.
-          and_from (holds_kinds (record first { rows = rows })) (list_all holds_kinds (map (with_new_rows name rows) tables))
-          (and_from (names_differ (column_names first.columns)) (list_all (fits_columns first.columns) rows) (and_parts _ _ (and_parts _ _ holds).0).0
-          (subst (λ (t : Table). list_all (fits_columns t.columns) rows ≡ true) (sym (same_table first table found)) fit))
-          (others_hold name rows tables
+          and_from (is_valid_table (f first)) (list_all is_valid_table (map (where_named name f) tables))
+          (subst (λ (t : Table). is_valid_table (f t) ≡ true) (sym (same_table first table found)) fit)
+          (others_hold name f tables
           (ap (λ n. list_any (bytes_eq n) (table_names tables)) (sym (same_name first.name name same)) ∙ not-true _ (and_parts _ _ differ).0) (and_parts _ _ holds).1)
       | false ↦ λ other found.
-          and_from (holds_kinds first) (list_all holds_kinds (map (with_new_rows name rows) tables)) (and_parts _ _ holds).0
-          (changed_hold name rows tables table (and_parts _ _ differ).1 (and_parts _ _ holds).1 found fit)
+          and_from (is_valid_table first) (list_all is_valid_table (map (where_named name f) tables)) (and_parts _ _ holds).0
+          (changed_hold name f tables table (and_parts _ _ differ).1 (and_parts _ _ holds).1 found fit)
     ] refl e
 
 -- ## One more table, one table less

@@ -1,1 +1,1 @@
-pub mod HoldsKinds
+pub mod Laws

@@ -1,18 +1,20 @@
 //! That a database stays what its columns say.
 //!
-//! It stands on `sql_semantics` for what statements do. A database holds kinds where the names of its
-//! tables differ, so do the names of each table's columns, and each row has one cell for each column,
-//! which is Nil or of the column's kind (`specs/HoldsKinds.antt`). Its one public call states a law and
-//! runs nothing: every statement, accepted or refused, keeps that.
+//! It stands on `sql_semantics` for what statements do and for which databases are valid: names of tables
+//! and of a table's columns differ, a table has at least one column, columns are of the kinds that tables
+//! store, each default is Nil or of its column's kind, and so is each cell of a row, which has one for
+//! each column. Its one public call states a law and runs nothing: every statement that reading may give,
+//! accepted or refused, keeps that.
 #![tactic(auto)]
 
 ghost use Rattle.std.specs.Prelude.{[]};
-ghost use Rattle.sql_kinds.specs.HoldsKinds.{HoldsKinds, StatementsKeepKinds, ReplaysHoldKinds};
+ghost use Rattle.sql_semantics.specs.Valid.{IsValid};
+ghost use Rattle.sql_kinds.specs.Laws.{StatementsKeepValid, ReplaysAreValid};
 
-/// A law, with nothing to run: a database that holds kinds still does after any statement, so one that
-/// statements made from nothing does.
-pub fn statements_keep_kinds()
-    ensures empty { HoldsKinds (record { tables = [] }) }
-    ensures kept { StatementsKeepKinds }
-    ensures replayed { ReplaysHoldKinds }
+/// A law, with nothing to run: a valid database is still valid after any formed statement, so one that
+/// such statements made from nothing is.
+pub fn statements_keep_valid()
+    ensures empty { IsValid (record { tables = [] }) }
+    ensures kept { StatementsKeepValid }
+    ensures replayed { ReplaysAreValid }
 {}

@@ -9,7 +9,7 @@ ghost use Rattle.std.specs.Prelude.{◌≡◌, ◌<◌};
 use bat_kernel::Kernel;
 use causes::{FileScripts, OutSink};
 use cell_core::{Steps, Word, word_of};
-use sql_shell::top;
+use sql_shell::{STATUS_MEMORY, STATUS_SERVED, STATUS_WORDS, top};
 use std::alloc::Global;
 use std::io::Write;
 use std::marker::Brand;
@@ -32,7 +32,7 @@ fn main(rt: HostRuntime) -> ExitCode {
         ),
         Err(outcome) => outcome,
     };
-    if status != 0 {
+    if status != STATUS_SERVED {
         let _ = eprintln!(rt; "status {status} at {at}");
     }
     ExitCode::from(status)
@@ -63,16 +63,16 @@ fn run<L: Ledger, F: Files + Drop, W: Write + Drop>(
 fn words_of(rt: &HostRuntime) -> Result<Vec<Word>, Outcome> {
     let args = match env::args(rt) {
         Ok(args) => args,
-        Err(e) if e.kind() == io::ErrorKind::OutOfMemory => return Err((5, 0)),
-        Err(_) => return Err((1, 0)),
+        Err(e) if e.kind() == io::ErrorKind::OutOfMemory => return Err((STATUS_MEMORY, 0)),
+        Err(_) => return Err((STATUS_WORDS, 0)),
     };
     let mut words = Vec::new(rt.alloc());
     for arg in args.skip(1) {
         let Ok(word) = word_of(rt.alloc(), arg.as_str()) else {
-            return Err((5, 0));
+            return Err((STATUS_MEMORY, 0));
         };
         if words.push(word).is_err() {
-            return Err((5, 0));
+            return Err((STATUS_MEMORY, 0));
         }
     }
     Ok(words)

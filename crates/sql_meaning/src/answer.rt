@@ -166,6 +166,7 @@ pub fn slow_answer(
         Stmt::Explain(query) => rows_or_overflow(answer_of_query(alloc, query, db)?),
         Stmt::Create { .. }
         | Stmt::Drop { .. }
+        | Stmt::Alter { .. }
         | Stmt::Insert { .. }
         | Stmt::Delete { .. }
         | Stmt::Update { .. } => unreachable!(),

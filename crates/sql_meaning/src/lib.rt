@@ -4,7 +4,7 @@
 //! the functions and aggregates of cells: loops over choices of rows, groups and cells, without columns,
 //! hashes or plans. A choice holds rows that are lent, so no
 //! row is copied before it is shown. The values of expressions and the truth of a condition over such a
-//! choice (`cell_over`, `overflows_over`, `is_kept`) serve the crate of changes too.
+//! choice (`value_over`, `cell_over`, `overflows_over`, `is_kept`) serve the crate of changes too.
 #![tactic(auto)]
 
 mod answer;
@@ -21,4 +21,4 @@ mod value;
 pub use answer::slow_answer;
 pub use kept::{cond_overflows, is_kept};
 pub use row::Row;
-pub use value::{cell_over, constant_overflows, overflows_over};
+pub use value::{cell_over, constant_overflows, overflows_over, value_over};

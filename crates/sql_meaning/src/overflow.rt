@@ -10,7 +10,7 @@ ghost use Rattle.sql_meaning.specs.Exprs.{exprs_of};
 
 use crate::kept::cond_overflows;
 use crate::row::Row;
-use crate::value::{constant_overflows, value};
+use crate::value::{constant_overflows, value_over};
 use cell_core::{Memory, Sequence};
 use sql_semantics::Called;
 use sql_tree::{Cond, Expr, Item};
@@ -51,7 +51,7 @@ fn overflows(
 {
     let mut rest = choices;
     'choices: while let [choice, more @ ..] = rest {
-        if value(sources, choice.as_slice(), expr)?.is_none() {
+        if value_over(sources, choice.as_slice(), expr)?.is_none() {
             return Ok(true);
         }
         rest = more;
@@ -113,6 +113,7 @@ fn tree_overflows_over(
                 || part_overflows(sources, choices, low)?
                 || part_overflows(sources, choices, high)?,
         ),
+        Cond::IsNull(of) => part_overflows(sources, choices, of),
         Cond::Not(cond) => tree_overflows_over(sources, choices, cond),
         Cond::And(left, right) => Ok(
             tree_overflows_over(sources, choices, left)?

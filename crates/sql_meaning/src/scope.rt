@@ -111,6 +111,10 @@ fn truth(
             let below = compare_by(CmpOp::Le, &x, &high);
             Ok(both(&above, &below))
         }
+        Cond::IsNull(of) => {
+            let x = cell_in(alloc, sources, scope, of)?;
+            Ok(Cell::Bit(matches!(x, Cell::Nil)))
+        }
         Cond::Not(cond) => {
             let x = truth(alloc, sources, scope, cond)?;
             Ok(opposite(&x))

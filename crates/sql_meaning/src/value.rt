@@ -41,7 +41,7 @@ fn cell_at<'a>(choice: &[Row<'a>], place: (usize, usize)) -> Option<&'a Cell>
 }
 
 /// The value of an expression over a choice, or none where an operator in it leaves the range.
-pub(crate) fn value(
+pub fn value_over(
     sources: &[Called<'_>],
     choice: &[Row<'_>],
     expr: &Expr,
@@ -52,10 +52,10 @@ pub(crate) fn value(
         Expr::Lit(cell) => Ok(Some(cell.share()?)),
         Expr::Col(reference) => Ok(Some(column_cell(sources, choice, reference)?)),
         Expr::Arith { op, left, right } => {
-            let Some(x) = value(sources, choice, left)? else {
+            let Some(x) = value_over(sources, choice, left)? else {
                 return Ok(None);
             };
-            let Some(y) = value(sources, choice, right)? else {
+            let Some(y) = value_over(sources, choice, right)? else {
                 return Ok(None);
             };
             Ok(calculate(*op, &x, &y))
@@ -69,7 +69,7 @@ pub(crate) fn value(
 pub fn cell_over(sources: &[Called<'_>], choice: &[Row<'_>], expr: &Expr) -> Result<Cell, Memory>
     ensures { IfOk result (λ cell. cell ≡ cell_over_of sources.now choice.now (expr_tree expr.now)) }
 {
-    match value(sources, choice, expr)? {
+    match value_over(sources, choice, expr)? {
         Some(cell) => Ok(cell),
         None => Ok(Cell::Nil),
     }
@@ -83,7 +83,7 @@ pub fn overflows_over(
 ) -> Result<bool, Memory>
     ensures { IfOk result (λ overflows. overflows ≡ is_none (value_of sources.now choice.now (expr_tree expr.now))) }
 {
-    Ok(value(sources, choice, expr)?.is_none())
+    Ok(value_over(sources, choice, expr)?.is_none())
 }
 
 /// Whether no column stands in an expression.
@@ -109,7 +109,7 @@ pub fn constant_overflows(expr: &Expr) -> Result<bool, Memory>
             if constant_overflows(left)? || constant_overflows(right)? {
                 return Ok(true);
             }
-            Ok(is_constant(expr) && value(&[], &[], expr)?.is_none())
+            Ok(is_constant(expr) && value_over(&[], &[], expr)?.is_none())
         }
         Expr::Agg { of: None, .. } => Ok(false),
         Expr::Agg { of: Some(of), .. } => constant_overflows(of),

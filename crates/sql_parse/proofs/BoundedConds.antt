@@ -5,17 +5,16 @@ use Rattle.std.specs.Prelude.{if◌then◌else◌}
 use Rattle.std.specs.List.{list_any}
 use Rattle.std.proofs.lemmas.List.{map-append}
 use Rattle.std.proofs.lemmas.List.Folds.{list_any-append}
-use Rattle.cell_core.specs.declared.cell.Cell.TheVariants as cell
 use Rattle.sql_tree.specs.Exprs.{cond_exprs}
 use Rattle.sql_grammar.specs.Refused.{expr_nodes, cond_nodes, has_column_arithmetic, has_wide_literal}
 use Rattle.sql_parse.proofs.BoundedExprs.{arithmetic_kept, unread_kept, expr_whole}
 use Rattle.sql_parse.proofs.Lists.{both, or_left, or_right, or_swapped, or_false, added, unchanged, of_choice, is_past, is_within, same_past}
 use Rattle.sql_reader.specs.Bounded.{some_column, has_unread, cond_has_unread, with_arithmetic, with_unread_test, with_cond_signs, bounded_join, bounded}
 use Rattle.sql_reader.specs.Derived.{expr_with, cond_with}
-use Rattle.sql_refusals.specs.Unread.{read_cond}
+use Rattle.sql_refusals.specs.Unread.{unread_cell, read_cond}
 use Rattle.sql_tree.specs.Tree.{ExprTree, CondTree}
 use Rattle.sql_tree.specs.Tree.ExprTree.{Literal, Operator}
-use Rattle.sql_tree.specs.Tree.CondTree.{Compare, Within, Negation, Both, Either}
+use Rattle.sql_tree.specs.Tree.CondTree.{Compare, Within, IsNull, Negation, Both, Either}
 use Rattle.sql_tree.specs.declared.tree.ArithOp.TheVariants as arith
 use Rattle.sql_tree.specs.declared.tree.CmpOp.TheVariants as compare
 
@@ -26,7 +25,7 @@ abbrev column_test : CondTree
 column_test = Compare compare.Eq (Operator arith.Plus some_column some_column) some_column
 
 abbrev unread_test : CondTree
-unread_test = Compare compare.Eq (Literal cell.Nil) (Literal cell.Nil)
+unread_test = IsNull (Literal unread_cell)
 
 arithmetic_of_signs : (other c : CondTree) → has_column_arithmetic (with_cond_signs other c) ≡ (has_column_arithmetic c || has_column_arithmetic other)
 arithmetic_of_signs other c =
@@ -100,6 +99,7 @@ module _ (join : CondTree → CondTree → CondTree) where
 pub cond_arithmetic_kept : (c : CondTree) → has_column_arithmetic (cond_with bounded c) ≡ has_column_arithmetic c
 cond_arithmetic_kept (Compare op left right) = both _ _ _ _ (arithmetic_kept left) (arithmetic_kept right)
 cond_arithmetic_kept (Within of low high) = both _ _ _ _ (both _ _ _ _ (arithmetic_kept of) (arithmetic_kept low)) (arithmetic_kept high)
+cond_arithmetic_kept (IsNull of) = arithmetic_kept of
 cond_arithmetic_kept (Negation cond) = cond_arithmetic_kept cond
 cond_arithmetic_kept (Both left right) = arithmetic_of_join Both (λ c d. refl) (cond_with bounded left) (cond_with bounded right) ∙ both _ _ _ _ (cond_arithmetic_kept left) (cond_arithmetic_kept right)
 cond_arithmetic_kept (Either left right) = arithmetic_of_join Either (λ c d. refl) (cond_with bounded left) (cond_with bounded right) ∙ both _ _ _ _ (cond_arithmetic_kept left) (cond_arithmetic_kept right)
@@ -107,6 +107,7 @@ cond_arithmetic_kept (Either left right) = arithmetic_of_join Either (λ c d. re
 pub cond_unread_kept : (c : CondTree) → cond_has_unread (cond_with bounded c) ≡ cond_has_unread (read_cond c)
 cond_unread_kept (Compare op left right) = both _ _ _ _ (unread_kept left) (ap (λ b. b || false) (unread_kept right))
 cond_unread_kept (Within of low high) = both _ _ _ _ (unread_kept of) (both _ _ _ _ (unread_kept low) (ap (λ b. b || false) (unread_kept high)))
+cond_unread_kept (IsNull of) = ap (λ b. b || false) (unread_kept of)
 cond_unread_kept (Negation cond) = cond_unread_kept cond
 cond_unread_kept (Both left right) =
     unread_of_join Both unread_of_both (cond_with bounded left) (cond_with bounded right) ∙ both _ _ _ _ (cond_unread_kept left) (cond_unread_kept right) ∙ sym (unread_of_both (read_cond left) (read_cond right))
@@ -123,6 +124,7 @@ one_more m n e = omega arith
 nodes_kept : (c : CondTree) → min 129 (cond_nodes (cond_with bounded c)) ≡ min 129 (cond_nodes c)
 nodes_kept (Compare op left right) = refl
 nodes_kept (Within of low high) = refl
+nodes_kept (IsNull of) = refl
 nodes_kept (Negation cond) = one_more _ _ (nodes_kept cond)
 nodes_kept (Both left right) = joined_nodes _ _ _ _ _ (nodes_of_join Both (λ c d. refl) (cond_with bounded left) (cond_with bounded right)) (nodes_kept left) (nodes_kept right)
 nodes_kept (Either left right) = joined_nodes _ _ _ _ _ (nodes_of_join Either (λ c d. refl) (cond_with bounded left) (cond_with bounded right)) (nodes_kept left) (nodes_kept right)
@@ -142,6 +144,7 @@ joined_exprs left right e f = ap (λ xs. xs ++ cond_exprs (cond_with bounded rig
 within_exprs : (c : CondTree) → cond_nodes c ≤ 128 → cond_exprs (cond_with bounded c) ≡ map (expr_with bounded) (cond_exprs c)
 within_exprs (Compare op left right) h = refl
 within_exprs (Within of low high) h = refl
+within_exprs (IsNull of) h = refl
 within_exprs (Negation cond) h = within_exprs cond (omega arith)
 within_exprs (Both left right) h =
     ap cond_exprs (join_within Both (cond_with bounded left) (cond_with bounded right) (small_kept left (omega arith)) (small_kept right (omega arith)))
@@ -170,6 +173,7 @@ within_whole (Compare op left right) h k =
 within_whole (Within of low high) h k =
     ap (λ e. Within e (expr_with bounded low) (expr_with bounded high)) (expr_whole of (or_left _ _ h)) ∙ ap (λ e. Within of e (expr_with bounded high)) (expr_whole low (or_left _ _ (or_right _ _ h)))
     ∙ ap (Within of low) (expr_whole high (or_left _ _ (or_right _ _ (or_right _ _ h))))
+within_whole (IsNull of) h k = ap IsNull (expr_whole of (or_left _ _ h))
 within_whole (Negation cond) h k = ap Negation (within_whole cond h (omega arith))
 within_whole (Both left right) h k =
     ap (λ c. bounded_join Both c (cond_with bounded right)) (within_whole left (append_left (cond_exprs left) (cond_exprs right) h) (omega arith))

@@ -8,7 +8,7 @@ use Rattle.sql_grammar.specs.Refused.{expr_nodes, has_column, is_column_arithmet
 use Rattle.sql_parse.proofs.Lists.{both, or_left, or_right, or_swapped, added, unchanged, of_choice, is_past, is_within, same_past}
 use Rattle.sql_reader.specs.Bounded.{number_cell, some_column, has_unread, with_column, with_unread, with_signs, bounded_operator, bounded}
 use Rattle.sql_reader.specs.Derived.{cell_with, expr_with}
-use Rattle.sql_refusals.specs.Unread.{has_literal, is_unread_cell, read_cell, read_expr}
+use Rattle.sql_refusals.specs.Unread.{has_literal, unread_cell, is_unread_cell, read_cell, read_expr}
 use Rattle.sql_tree.specs.Tree.{ExprTree}
 use Rattle.sql_tree.specs.Tree.ExprTree.{Literal, ColumnOf, Operator, AggregateAll, Aggregate}
 use Rattle.sql_tree.specs.declared.tree.ArithOp.{ArithOp}
@@ -42,7 +42,7 @@ nodes_of_choice false e more = omega arith
 nodes_of_signs : (other e : ExprTree) → expr_nodes e ≤ expr_nodes (with_signs other e)
 nodes_of_signs other e =
     let first = nodes_of_choice (has_column other && not (has_column e)) e some_column in
-    let second = nodes_of_choice (has_unread other && not (has_unread (with_column other e))) (with_column other e) (Literal cell.Nil) in omega (arith, first, second)
+    let second = nodes_of_choice (has_unread other && not (has_unread (with_column other e))) (with_column other e) (Literal unread_cell) in omega (arith, first, second)
 
 -- ## Operators
 
@@ -146,7 +146,7 @@ pub cell_whole : (c : Cell) → is_wide_cell c ≡ false → cell_with number_ce
 cell_whole cell.Nil h = refl
 cell_whole (cell.Int n) h = go (is_out_of_range n) h
   where
-    go : (b : Bool) → b ≡ false → (if b then cell.Nil else cell.Int n) ≡ cell.Int n
+    go : (b : Bool) → b ≡ false → (if b then unread_cell else cell.Int n) ≡ cell.Int n
     go true e = cc
     go false e = refl
 cell_whole (cell.Huge n) h = refl

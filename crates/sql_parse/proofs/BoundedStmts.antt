@@ -16,10 +16,10 @@ use Rattle.sql_parse.proofs.Lists.{both, or_left, or_right, any_same, any_alike}
 use Rattle.sql_reader.specs.Bounded.{bounded, number_cell}
 use Rattle.sql_reader.specs.Derived.{cell_with, expr_with, cond_with}
 use Rattle.sql_refusals.specs.Laws.{KeepsLimits, LimitsAsRead}
-use Rattle.sql_refusals.specs.Unread.{Kept, has_literal, is_unread_cell, stmt_has_wide_number, passes_literal_as_read, read_limits, read_cell, read_cond, read_place, read_key, read_item, read_set, read_query, read_stmt}
+use Rattle.sql_refusals.specs.Unread.{Kept, has_literal, is_unread_cell, stmt_has_wide_number, passes_literal_as_read, read_limits, read_cell, read_cond, read_place, read_key, read_column, read_item, read_set, read_query, read_stmt}
 use Rattle.sql_statements.specs.Derived.{column_with, place_with, key_with, item_with, set_with, query_with, stmt_with, at_most, count_64, length_32}
 use Rattle.sql_tree.specs.Tree.{ExprTree, CondTree, ItemTree, QueryTree, StmtTree}
-use Rattle.sql_tree.specs.Tree.StmtTree.{CreateTable, DropTable, InsertInto, DeleteFrom, UpdateTable, Select, ExplainSelect}
+use Rattle.sql_tree.specs.Tree.StmtTree.{CreateTable, DropTable, AlterTable, InsertInto, DeleteFrom, UpdateTable, Select, ExplainSelect}
 use Rattle.sql_tree.specs.declared.token.Token.{Token}
 use Rattle.sql_tree.specs.declared.tree.Place.{Place}
 use Rattle.sql_tree.specs.declared.tree.Place.TheVariants.{Position, Named}
@@ -58,6 +58,7 @@ query_left_out_kept query =
 pub left_out_kept : (s : StmtTree) → left_out (kept_stmt s) ≡ left_out s
 left_out_kept (CreateTable table columns) = refl
 left_out_kept (DropTable table) = refl
+left_out_kept (AlterTable table column) = refl
 left_out_kept (InsertInto table columns rows) = refl
 left_out_kept (DeleteFrom table cond) = ap (λ (b : Bool). if b then Some (codes "ARITHMETIC IN WHERE") else None) (cond_left_out_kept cond)
 left_out_kept (UpdateTable table sets cond) = ap (λ (b : Bool). if b then Some (codes "ARITHMETIC IN WHERE") else None) (cond_left_out_kept cond)
@@ -127,9 +128,14 @@ wide_alike query =
 cells_unread : (row : List _) → list_any is_unread_cell (map (cell_with number_cell) row) ≡ list_any is_unread_cell (map read_cell row)
 cells_unread row = any_alike (cell_with number_cell) read_cell is_unread_cell is_unread_cell (λ c. ap is_unread_cell (cell_kept c)) row
 
+defaults_unread : (columns : List Column) → list_any (λ (column : Column). is_unread_cell column.default) (map kept_column columns) ≡ list_any (λ (column : Column). is_unread_cell column.default) (map (read_column (record { number = count_64; width = length_32 })) columns)
+defaults_unread columns =
+    any_alike kept_column (read_column (record { number = count_64; width = length_32 })) (λ (column : Column). is_unread_cell column.default) (λ (column : Column). is_unread_cell column.default) (λ column. ap is_unread_cell (cell_kept column.default)) columns
+
 literal_alike : (s : StmtTree) → passes_literal_as_read (kept_stmt s) ≡ passes_literal_as_read (read_stmt (record { number = count_64; width = length_32 }) s)
-literal_alike (CreateTable table columns) = refl
+literal_alike (CreateTable table columns) = ap (λ b. b || false) (defaults_unread columns)
 literal_alike (DropTable table) = refl
+literal_alike (AlterTable table column) = ap (λ b. b || false) (defaults_unread (column ∷ []))
 literal_alike (InsertInto table columns rows) =
     ap (λ b. b || false) (any_alike (map (cell_with number_cell)) (map read_cell) (list_any is_unread_cell) (list_any is_unread_cell) cells_unread rows)
 literal_alike (DeleteFrom table cond) = ap (λ b. b || false) (of_cond_unread cond)
@@ -158,6 +164,7 @@ of_cond_kept (Some c) = large_cond_kept c
 conditions_kept : (s : StmtTree) → passes_conditions (kept_stmt s) ≡ passes_conditions s
 conditions_kept (CreateTable table columns) = refl
 conditions_kept (DropTable table) = refl
+conditions_kept (AlterTable table column) = refl
 conditions_kept (InsertInto table columns rows) = refl
 conditions_kept (DeleteFrom table cond) = of_cond_kept cond
 conditions_kept (UpdateTable table sets cond) = of_cond_kept cond
@@ -167,6 +174,7 @@ conditions_kept (ExplainSelect query) = both _ _ _ _ (of_cond_kept query.cond) (
 columns_kept : (test : List Column → Bool) → ((columns : List Column) → test (map kept_column columns) ≡ test columns) → (s : StmtTree) → columns_pass test (kept_stmt s) ≡ columns_pass test s
 columns_kept test same (CreateTable table columns) = same columns
 columns_kept test same (DropTable table) = refl
+columns_kept test same (AlterTable table column) = same (column ∷ [])
 columns_kept test same (InsertInto table columns rows) = refl
 columns_kept test same (DeleteFrom table cond) = refl
 columns_kept test same (UpdateTable table sets cond) = refl
@@ -176,6 +184,7 @@ columns_kept test same (ExplainSelect query) = refl
 query_kept : (test : QueryTree → Bool) → ((query : QueryTree) → test (kept_query query) ≡ test query) → (s : StmtTree) → query_passes test (kept_stmt s) ≡ query_passes test s
 query_kept test same (CreateTable table columns) = refl
 query_kept test same (DropTable table) = refl
+query_kept test same (AlterTable table column) = refl
 query_kept test same (InsertInto table columns rows) = refl
 query_kept test same (DeleteFrom table cond) = refl
 query_kept test same (UpdateTable table sets cond) = refl
@@ -208,6 +217,7 @@ query_exprs query h =
 stmt_exprs_kept : (s : StmtTree) → passes_conditions s ≡ false → stmt_exprs (kept_stmt s) ≡ map (expr_with bounded) (stmt_exprs s)
 stmt_exprs_kept (CreateTable table columns) h = refl
 stmt_exprs_kept (DropTable table) h = refl
+stmt_exprs_kept (AlterTable table column) h = refl
 stmt_exprs_kept (InsertInto table columns rows) h = refl
 stmt_exprs_kept (DeleteFrom table cond) h = of_cond_exprs cond h
 stmt_exprs_kept (UpdateTable table sets cond) h = joined (map (λ (set : List ℕ × ExprTree). set.1) sets) (exprs_of_cond cond) _ _ (sets_exprs sets) (of_cond_exprs cond h)

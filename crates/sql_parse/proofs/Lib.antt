@@ -4,4 +4,5 @@ mod BoundedConds
 mod BoundedStmts
 mod WholeStmts
 mod TextsRead
+mod FormedStmts
 mod ErrorLemmas

@@ -1,6 +1,6 @@
 -- What a text reads as, by the steps that are taken, and that it reads as one thing.
 use Rattle.std.proofs.Common.{◌≡◌, ℕ, List, [], Bool, true, false, Option, Some, None, Result, Ok, Err, refl, ap, sym, ◌∙◌, subst, arith, nat_lt}
-use Rattle.std.specs.Prelude.{codes, IfOk}
+use Rattle.std.specs.Prelude.{codes, IfOk, OnOk}
 use Rattle.std.specs.Option.{option_map}
 use Rattle.sql_grammar.specs.Reads.{Reading, ArePlain, statement_bytes, tokens_in, reading_of, TokensRead, IsReadAs}
 use Rattle.sql_grammar.specs.Reads.Reading.{ReadsAs, NoSyntax, LeavesOut, PassesLimit}
@@ -85,6 +85,10 @@ module _ (as_read : LimitsAsRead) (all : List Placed) (plain : ArePlain (tokens_
       let whole : read.statement ≡ t = sym (none_passed (statement_bytes all) (tokens_in all) read.statement (kept_limits ∙ none)) ∙ read.tree_is in
       subst (λ (t : StmtTree). AreAnswered all (Ok t)) whole
       (by_reading all plain read.statement read.derived (ReadsAs read.statement) (whole_reading all read.statement kept_left (kept_limits ∙ none)))
+
+  pub if_within : (result : Result (Unit {0}) ParseError) → OnOk result (first_passed (read_limits (statement_bytes all) (tokens_in all) t) ≡ None) → OnOk result (AreAnswered all (Ok t))
+  if_within (Ok done) none = by_statement none
+  if_within (Err e) none = tt
 
 -- ## Answers to texts
 

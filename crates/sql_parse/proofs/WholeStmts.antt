@@ -6,7 +6,7 @@ use Rattle.std.specs.Option.{option_map}
 use Rattle.std.proofs.lemmas.Bool.Decides.{nat_tests}
 use Rattle.cell_core.specs.declared.table.Column.{Column}
 use Rattle.sql_tree.specs.Exprs.{exprs_of_cond}
-use Rattle.sql_grammar.specs.Refused.{is_out_of_range, is_wide_cell, has_wide_literal, has_wide_number, is_wide_place, is_wide_limit, expr_nodes, nodes_of_cond, stmt_exprs, passes_literal, columns_pass, passes_conditions, passed_limits, first_passed}
+use Rattle.sql_grammar.specs.Refused.{is_out_of_range, is_wide_cell, has_wide_literal, has_wide_number, has_wide_default, is_wide_place, is_wide_limit, expr_nodes, nodes_of_cond, stmt_exprs, passes_literal, columns_pass, passes_conditions, passed_limits, first_passed}
 use Rattle.sql_parse.proofs.BoundedExprs.{cell_whole, expr_whole}
 use Rattle.sql_parse.proofs.BoundedConds.{is_past_limits, append_left, append_right, cond_whole}
 use Rattle.sql_parse.proofs.BoundedStmts.{kept_stmt, kept_query, kept_item, kept_set, kept_key, kept_column}
@@ -15,7 +15,7 @@ use Rattle.sql_reader.specs.Bounded.{bounded, number_cell}
 use Rattle.sql_reader.specs.Derived.{cell_with, cond_with}
 use Rattle.sql_statements.specs.Derived.{place_with, at_most, count_64, length_32}
 use Rattle.sql_tree.specs.Tree.{ExprTree, CondTree, ItemTree, QueryTree, StmtTree}
-use Rattle.sql_tree.specs.Tree.StmtTree.{CreateTable, DropTable, InsertInto, DeleteFrom, UpdateTable, Select, ExplainSelect}
+use Rattle.sql_tree.specs.Tree.StmtTree.{CreateTable, DropTable, AlterTable, InsertInto, DeleteFrom, UpdateTable, Select, ExplainSelect}
 use Rattle.sql_tree.specs.declared.token.Token.{Token}
 use Rattle.sql_tree.specs.declared.tree.Place.{Place}
 use Rattle.sql_tree.specs.declared.tree.Place.TheVariants.{Position, Named}
@@ -52,8 +52,16 @@ limit_whole : (limit : Option ℕ) → is_wide_limit limit ≡ false → option_
 limit_whole None h = refl
 limit_whole (Some n) h = ap Some (count_whole n h)
 
-column_whole : (column : Column) → nat_lt 65535 column.width ≡ false → kept_column column ≡ column
-column_whole column h = ap (λ (w : ℕ). let made : Column = record { name = column.name; kind = column.kind; width = w; not_null = column.not_null } in made) (length_whole column.width h)
+column_whole : (column : Column) → is_wide_cell column.default ≡ false → nat_lt 65535 column.width ≡ false → kept_column column ≡ column
+column_whole column wide long =
+    let width_part = length_whole column.width long in
+    let default_part = cell_whole column.default wide in
+    λ i. record { name = column.name; kind = column.kind; width = width_part i; not_null = column.not_null; default = default_part i }
+
+columns_whole : (columns : List Column) → has_wide_default columns ≡ false → list_any (λ (column : Column). nat_lt 65535 column.width) columns ≡ false → map kept_column columns ≡ columns
+columns_whole [] wide long = refl
+columns_whole (column ∷ columns) wide long =
+    ap (λ (x : Column). x ∷ map kept_column columns) (column_whole column (or_left _ _ wide) (or_left _ _ long)) ∙ ap (λ (xs : List Column). column ∷ xs) (columns_whole columns (or_right _ _ wide) (or_right _ _ long))
 
 item_whole : (item : ItemTree) → is_past_limits item.expr ≡ false → kept_item item ≡ item
 item_whole item h = ap (λ (e : ExprTree). let made : ItemTree = record { expr = e; alias = item.alias } in made) (expr_whole item.expr h)
@@ -111,8 +119,9 @@ rows_whole rows h = map_same (map (cell_with number_cell)) (λ row. list_any is_
 
 stmt_whole : (s : StmtTree) → passes_literal s ≡ false → columns_pass (list_any (λ (column : Column). nat_lt 65535 column.width)) s ≡ false → passes_conditions s ≡ false
     → list_any (λ e. nat_lt 64 (expr_nodes e)) (stmt_exprs s) ≡ false → kept_stmt s ≡ s
-stmt_whole (CreateTable table columns) literal width nodes large = ap (CreateTable table) (map_same kept_column (λ (column : Column). nat_lt 65535 column.width) column_whole columns width)
+stmt_whole (CreateTable table columns) literal width nodes large = ap (CreateTable table) (columns_whole columns literal width)
 stmt_whole (DropTable table) literal width nodes large = refl
+stmt_whole (AlterTable table column) literal width nodes large = ap (AlterTable table) (column_whole column (or_left _ _ literal) (or_left _ _ width))
 stmt_whole (InsertInto table columns rows) literal width nodes large = ap (InsertInto table columns) (rows_whole rows literal)
 stmt_whole (DeleteFrom table cond) literal width nodes large = ap (DeleteFrom table) (optional_whole cond (neither (exprs_of_cond cond) literal large) nodes)
 stmt_whole (UpdateTable table sets cond) literal width nodes large =
@@ -124,11 +133,11 @@ stmt_whole (Select query) literal width nodes large = ap Select (query_whole que
 stmt_whole (ExplainSelect query) literal width nodes large = ap ExplainSelect (query_whole query (neither (stmt_exprs (Select query)) (or_left _ (has_wide_number query) literal) large) (or_right (list_any has_wide_literal (stmt_exprs (Select query))) _ literal) nodes)
 
 -- where no limit is passed, a limit that is asked isn't, and no later one is
-not_here : (a : Bool) (name : List ℕ) (x : Option (List ℕ)) → (if a then Some name else x) ≡ None → a ≡ false
+pub not_here : (a : Bool) (name : List ℕ) (x : Option (List ℕ)) → (if a then Some name else x) ≡ None → a ≡ false
 not_here true name x h = cc
 not_here false name x h = refl
 
-not_later : (a : Bool) (name : List ℕ) (x : Option (List ℕ)) → (if a then Some name else x) ≡ None → x ≡ None
+pub not_later : (a : Bool) (name : List ℕ) (x : Option (List ℕ)) → (if a then Some name else x) ≡ None → x ≡ None
 not_later true name x h = cc
 not_later false name x h = h
 

@@ -1,5 +1,6 @@
 -- What a text is answered with: the statement that it is, or its refusal.
 use Rattle.std.specs.Prelude.{◌≡◌, ℕ, List, Result, Ok, Err}
+use Rattle.sql_grammar.specs.Formed.{IsFormed}
 use Rattle.sql_grammar.specs.Reads.{Reading, IsReadAs}
 use Rattle.sql_grammar.specs.Reads.Reading.{ReadsAs, NoSyntax, LeavesOut, PassesLimit}
 use Rattle.sql_semantics.specs.declared.refusal.Refusal.{Refusal}
@@ -22,3 +23,7 @@ pub record Reads (text : List ℕ) (answer : Result StmtTree Refusal) : Type 0 w
 -- no text reads as two things
 abbrev pub EachReadsAsOne : Type 0
 EachReadsAsOne = (text : List ℕ) (a b : Result StmtTree Refusal) → Reads text a → Reads text b → a ≡ b
+
+-- what a text reads as is formed
+abbrev pub EachIsFormed : Type 0
+EachIsFormed = (text : List ℕ) (statement : StmtTree) → Reads text (Ok statement) → IsFormed statement

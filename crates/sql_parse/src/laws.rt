@@ -1,5 +1,6 @@
-ghost use Rattle.sql_parse.specs.Answered.{EachReadsAsOne};
+ghost use Rattle.sql_parse.specs.Answered.{EachIsFormed, EachReadsAsOne};
 
+use sql_printed::read_is_printable;
 use sql_statements::one_stmt;
 use sql_tokens::one_list;
 
@@ -9,4 +10,11 @@ pub fn one_reading()
 {
     one_list();
     one_stmt();
+}
+
+/// Each statement that a text reads as is formed.
+pub fn each_is_formed()
+    ensures { EachIsFormed }
+{
+    read_is_printable();
 }

@@ -1,12 +1,13 @@
-use crate::{ParseError, one_reading, parse, split};
+use crate::{ParseError, SplitError, each_is_formed, one_reading, parse, split};
 use cell_core::Memory;
 use sql_semantics::Refusal;
 use sql_tree::print_stmt;
 use std::alloc::{AllocError, Global};
+use std::fmt::Write;
 use std::test::Fail;
 
 /// Texts with what they are answered with: a refusal's words, or the statement's canonical text.
-const TEXTS: [(&str, &str); 52] = [
+const TEXTS: [(&str, &str); 89] = [
     ("", "syntax"),
     ("-- nothing", "syntax"),
     ("SELECT @", "syntax"),
@@ -26,11 +27,6 @@ const TEXTS: [(&str, &str); 52] = [
     ("SELECT t . 5 FROM t", "unsupported DECIMAL"),
     ("SELECT t.* FROM t", "unsupported QUALIFIED STAR"),
     ("DELETE FROM t WHERE \"f\"(a) = 1", "unsupported FUNCTION"),
-    (
-        "CREATE TABLE t (a INT NOT NULL, b VARCHAR(3) NOT NULL NULL)",
-        "unsupported NULL",
-    ),
-    ("CREATE TABLE t (a INT NULL)", "unsupported NULL"),
     (
         "SELECT a FROM t WHERE a IN () AND b / 2 = 1",
         "unsupported DIVISION",
@@ -116,10 +112,103 @@ const TEXTS: [(&str, &str); 52] = [
         "INSERT INTO t (a, b) VALUES (-1, 'x'), (2, DATE '1994-01-01')",
     ),
     ("SELECT/**/a--x\nFROM t", "SELECT a FROM t"),
+    ("CREATE TABLE t (a INT NULL)", "syntax"),
+    (
+        "CREATE TABLE t (a INT NOT NULL, b VARCHAR(3) NOT NULL NULL)",
+        "syntax",
+    ),
+    (
+        "CREATE TABLE t (a INT not null default 7, b TEXT Default 'x' not null, c DATE default DATE '1994-01-01', d INT default null, e INT default null not null, f INT default - 3)",
+        "CREATE TABLE t (a INT NOT NULL DEFAULT 7, b TEXT NOT NULL DEFAULT 'x', c DATE DEFAULT DATE '1994-01-01', d INT, e INT NOT NULL, f INT DEFAULT -3)",
+    ),
+    ("CREATE TABLE t (a INT DEFAULT 1 DEFAULT 2)", "syntax"),
+    (
+        "CREATE TABLE t (a INT NOT NULL DEFAULT 1 NOT NULL)",
+        "syntax",
+    ),
+    ("CREATE TABLE t (a INT DEFAULT 1 + 1)", "syntax"),
+    ("CREATE TABLE t (a INT DEFAULT)", "syntax"),
+    (
+        "CREATE TABLE t (a VARCHAR(0) DEFAULT 9223372036854775808)",
+        "limit literal",
+    ),
+    (
+        "CREATE TABLE t (a INT DEFAULT -9223372036854775808)",
+        "CREATE TABLE t (a INT DEFAULT -9223372036854775808)",
+    ),
+    (
+        "alter table T add b VarChar(3) default 'x' not null",
+        "ALTER TABLE t ADD COLUMN b VARCHAR(3) NOT NULL DEFAULT 'x'",
+    ),
+    (
+        "ALTER TABLE t ADD COLUMN \"column\" DATE",
+        "ALTER TABLE t ADD COLUMN \"column\" DATE",
+    ),
+    (
+        "ALTER TABLE t ADD COLUMN c INT NOT NULL DEFAULT -9223372036854775809",
+        "limit literal",
+    ),
+    ("ALTER TABLE t ADD c VARCHAR(65536)", "limit length"),
+    ("ALTER TABLE t ADD COLUMN column INT", "syntax"),
+    ("ALTER TABLE t c INT", "syntax"),
+    ("ALTER TABLE t ADD c INT, d INT", "syntax"),
+    ("ALTER TABLE f (a) ADD b INT", "syntax"),
+    (
+        "SELECT a FROM t WHERE a IS NULL and b is not null or not c is null",
+        "SELECT a FROM t WHERE (a IS NULL AND (NOT b IS NULL)) OR (NOT c IS NULL)",
+    ),
+    (
+        "SELECT a FROM t WHERE NOT a IS NOT NULL",
+        "SELECT a FROM t WHERE NOT (NOT a IS NULL)",
+    ),
+    ("SELECT a FROM t WHERE a IS NOT 1", "syntax"),
+    ("SELECT a FROM t WHERE a NOT NULL", "syntax"),
+    ("SELECT a FROM t WHERE a IS NULL IS NULL", "syntax"),
+    (
+        "SELECT a FROM t WHERE a + 1 IS NULL",
+        "unsupported ARITHMETIC IN WHERE",
+    ),
+    (
+        "SELECT NULL, -NULL, NULL + 1 FROM t WHERE a IN (NULL, 1) AND a BETWEEN NULL AND 2",
+        "SELECT NULL, 0 - NULL, NULL + 1 FROM t WHERE ((a = NULL) OR (a = 1)) AND a BETWEEN NULL AND 2",
+    ),
+    (
+        "SELECT NULL FROM t WHERE 1 + 9223372036854775808 IS NULL",
+        "limit literal",
+    ),
+    (
+        "SELECT MAX(a) FROM t HAVING MAX(a) IS NULL OR SUM(a + 1) IS NOT NULL",
+        "SELECT MAX(a) FROM t HAVING (MAX(a) IS NULL) OR (NOT SUM(a + 1) IS NULL)",
+    ),
+    ("SELECT a FROM t WHERE MAX(a) IS NULL", "syntax"),
+    ("SELECT a FROM t LIMIT NULL", "syntax"),
+    ("SELECT null null FROM t", "syntax"),
+    ("SELECT a AS \"null\" FROM t", "SELECT a AS \"null\" FROM t"),
+    ("SELECT a FROM default", "syntax"),
+    (
+        "INSERT INTO t VALUES (NULL, 1), (2, null)",
+        "INSERT INTO t VALUES (NULL, 1), (2, NULL)",
+    ),
+    ("INSERT INTO t VALUES (-NULL)", "syntax"),
+    (
+        "UPDATE t SET a = NULL, b = - null WHERE a IS NOT NULL",
+        "UPDATE t SET a = NULL, b = 0 - NULL WHERE NOT a IS NULL",
+    ),
+    ("UPDATE t SET a = DEFAULT", "syntax"),
+    (
+        "SELECT a FROM t WHERE f (NULL) IS NULL",
+        "unsupported FUNCTION",
+    ),
+    ("SELECT 1-/* */-2 FROM t", "SELECT 1 - -2 FROM t"),
+    (
+        "SELECT a FROM t WHERE b = '\u{e4}'",
+        "SELECT a FROM t WHERE b = '\u{e4}'",
+    ),
+    ("SELECT \u{e4} FROM t", "syntax"),
 ];
 
 /// Texts with a part that stands so many times, and how what they are answered with begins.
-const LONG: [(&str, &str, u32, &str, &str); 38] = [
+const LONG: [(&str, &str, u32, &str, &str); 49] = [
     ("SELECT a", " ", 65_522, "FROM t", "SELECT "),
     ("SELECT a", " ", 65_523, "FROM t", "limit statement"),
     (
@@ -242,6 +331,73 @@ const LONG: [(&str, &str, u32, &str, &str); 38] = [
         "a = 1",
         "limit nesting",
     ),
+    (
+        "SELECT a FROM t WHERE a IS NULL",
+        " AND a IS NULL",
+        63,
+        "",
+        "SELECT ",
+    ),
+    (
+        "SELECT a FROM t WHERE a IS NULL",
+        " AND a IS NULL",
+        64,
+        "",
+        "limit conditions",
+    ),
+    (
+        "SELECT a FROM t WHERE a = 1",
+        " OR a IS NULL",
+        100,
+        " OR a + 1 IS NULL",
+        "unsupported ARITHMETIC IN WHERE",
+    ),
+    (
+        "SELECT a FROM t WHERE a = 1",
+        " OR a IS NULL",
+        100,
+        " OR 9223372036854775808 IS NULL",
+        "limit literal",
+    ),
+    ("SELECT NULL", " + NULL", 31, " FROM t", "SELECT "),
+    ("SELECT NULL", " + NULL", 32, " FROM t", "limit expression"),
+    (
+        "SELECT a FROM t WHERE 1 = 1",
+        " + NULL",
+        99,
+        " + 9223372036854775808",
+        "limit literal",
+    ),
+    ("ALTER TABLE t ADD ", "a", 64, " INT", "ALTER "),
+    ("ALTER TABLE t ADD ", "a", 65, " INT", "limit name"),
+    (
+        "SELECT a FROM t WHERE ",
+        "NOT ",
+        126,
+        "a IS NOT NULL",
+        "SELECT ",
+    ),
+    (
+        "SELECT a FROM t WHERE ",
+        "NOT ",
+        127,
+        "a IS NOT NULL",
+        "limit conditions",
+    ),
+];
+
+/// Scripts with their pieces, a `|` behind each.
+const SCRIPTS: [(&str, &str); 10] = [
+    ("", ""),
+    (" -- a;b\n;/* ; */", ""),
+    ("a;", "a|"),
+    (";;a b;; ;\n", "a b|"),
+    ("a;';';\";\"", "a|';'|\";\"|"),
+    ("'a'';b' ; c", "'a'';b' | c|"),
+    ("a--;\nb;/*;*/c", "a--;\nb|/*;*/c|"),
+    ("a;'b;c", "a|'b;c|"),
+    ("a;/*/;b", "a|"),
+    ("@;", "@|"),
 ];
 
 /// What is printed of a refusal.
@@ -280,6 +436,7 @@ fn repeated(
 #[test]
 fn texts_are_answered(rt: HostRuntime) -> Result<(), Fail> {
     one_reading();
+    each_is_formed();
     let alloc = rt.alloc();
     for (text, want) in &TEXTS {
         let answer = answer(alloc, text)?;
@@ -306,6 +463,22 @@ fn parentheses_are_levels(rt: HostRuntime) -> Result<(), Fail> {
     let text = repeated(alloc, text.as_str(), ")", 512, " FROM t")?;
     let answer = answer(alloc, text.as_str())?;
     assert!(rt; answer.as_slice() == b"SELECT a FROM t".as_slice());
-    assert_eq!(rt; split(alloc, "SELECT a; SELECT b")?.len(), 2);
+    Ok(())
+}
+
+#[test]
+fn scripts_are_split(rt: HostRuntime) -> Result<(), Fail> {
+    let alloc = rt.alloc();
+    for (script, want) in &SCRIPTS {
+        let mut found = String::new(alloc);
+        for piece in split(alloc, script)?.iter() {
+            write!(found, "{}|", piece.text())?;
+        }
+        assert_eq!(rt; found.as_str(), *want, "at {script}");
+    }
+    let most = "a;".repeat(alloc, 256)?;
+    assert_eq!(rt; split(alloc, most.as_str())?.len(), 256);
+    let more = format!(in alloc; "{}b", most.as_str())?;
+    assert!(rt; matches!(split(alloc, more.as_str()), Err(SplitError::TooMany)));
     Ok(())
 }

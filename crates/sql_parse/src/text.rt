@@ -1,4 +1,7 @@
-ghost use Rattle.std.specs.Prelude.{◌≡◌, Ok, Err, IfOk};
+ghost use Rattle.std.specs.Prelude.{◌≡◌, Ok, Err, IfOk, OnOk};
+ghost use Rattle.sql_grammar.specs.Formed.{IsFormed};
+ghost use Rattle.sql_grammar.specs.Reads.{ArePlain, tokens_in};
+ghost use Rattle.sql_statements.specs.Derived.{IsReadStmt};
 ghost use Rattle.sql_parse.specs.Answered.{Reads};
 ghost use Rattle.sql_parse.specs.Steps.{AreAnswered};
 ghost use Rattle.sql_parse.specs.declared.error.ParseError.TheVariants.{Refused};
@@ -6,7 +9,9 @@ ghost use Rattle.sql_semantics.specs.declared.refusal.Refusal.{Refusal as Refusa
 ghost use Rattle.sql_tree.specs.Tree.{stmt_tree};
 
 use crate::error::ParseError;
+use crate::laws::each_is_formed;
 use crate::steps::{check_left_out, check_levels, check_limits, check_rules};
+use sql_refusals::limits_as_read;
 use sql_statements::read_stmt;
 use sql_tokens::tokens;
 use sql_tree::{Placed, Stmt};
@@ -19,8 +24,10 @@ use std::alloc::Global;
 /// first of them).
 pub fn parse(alloc: Global, text: &str) -> Result<Stmt, ParseError>
     ensures read { IfOk result (λ stmt. Reads text.now (Ok (stmt_tree stmt))) }
+    ensures formed { IfOk result (λ stmt. IsFormed (stmt_tree stmt)) }
     ensures refused { (refusal : RefusalSeen) → result ≡ Err (Refused refusal) → Reads text.now (Err refusal) }
 {
+    each_is_formed();
     let tokens = tokens(alloc, text)?;
     parse_tokens(alloc, tokens.as_slice())
 }
@@ -33,7 +40,24 @@ fn parse_tokens(alloc: Global, tokens: &[Placed]) -> Result<Stmt, ParseError>
     check_rules(alloc, tokens)?;
     check_levels(alloc, tokens)?;
     let stmt = read_stmt(alloc, tokens)?;
-    check_left_out(alloc, &stmt)?;
-    check_limits(alloc, tokens, &stmt)?;
-    Ok(stmt)
+    match check_stmt(alloc, tokens, &stmt) {
+        Ok(()) => Ok(stmt),
+        Err(e) => {
+            // By name, since what a `?` drops in place here is more than the checker takes.
+            drop(stmt);
+            Err(e)
+        }
+    }
+}
+
+/// Refuses a statement of which the profile leaves something out, or that passes a limit.
+fn check_stmt(alloc: Global, tokens: &[Placed], stmt: &Stmt) -> Result<(), ParseError>
+    requires plain { ArePlain (tokens_in tokens.now) }
+    requires read { IsReadStmt (tokens_in tokens.now) (stmt_tree stmt.now) }
+    ensures read { OnOk result (AreAnswered tokens.now (Ok (stmt_tree stmt.now))) }
+    ensures refused { (refusal : RefusalSeen) → result ≡ Err (Refused refusal) → AreAnswered tokens.now (Err refusal) }
+{
+    limits_as_read();
+    check_left_out(alloc, stmt)?;
+    check_limits(alloc, tokens, stmt)
 }

@@ -12,18 +12,18 @@ use Rattle.cell_core.specs.declared.cell.Kind.TheVariants as kind
 use Rattle.cell_core.specs.declared.table.Column.{Column}
 use Rattle.sql_grammar.specs.Grammar.{all_of, any_of, name_of, literal_cell, column_of, LiteralRule, FactorRule, expr_of, factor_of, value_of, cmp_of, cond_of, unit_of, where_of, WhereRule}
 use Rattle.sql_grammar.specs.Grammar.NameRule.{BareName, QuotedName}
-use Rattle.sql_grammar.specs.Grammar.LiteralRule.{PlainDigits, MinusDigits, StringLiteral, DateLiteral}
-use Rattle.sql_grammar.specs.Statements.{alias_of, item_of, items_of, source_of, joined_source, on_conds, with_where, place_of, is_ascending, key_of, query_of, kind_of, length_of, width_of, coldef_of, set_of, row_of, stmt_of}
+use Rattle.sql_grammar.specs.Grammar.LiteralRule.{PlainDigits, MinusDigits, StringLiteral, DateLiteral, NullLiteral}
+use Rattle.sql_grammar.specs.Statements.{alias_of, item_of, items_of, source_of, joined_source, on_conds, with_where, place_of, is_ascending, key_of, query_of, kind_of, length_of, width_of, is_required, default_of, coldef_of, set_of, row_of, stmt_of}
 use Rattle.sql_grammar.specs.Grammar.{number_of}
 use Rattle.sql_grammar.specs.Written.{IsLiteral}
-use Rattle.sql_printed.specs.CanonRules.{canon_all, canon_some, canon_any, canon_option, canon_name, canon_literal, column_rule, canon_reference, factor_rule, operator_rule, canon_factor, canon_operand, canon_expr, canon_value, canon_value_operand, canon_cmp, canon_cond, canon_part, canon_where, canon_having, canon_alias, canon_item, canon_items, canon_source, canon_join, canon_column_of, canon_place, canon_order, canon_key, canon_limit, canon_sources, canon_from, canon_query, canon_type, canon_coldef, canon_listed_name, canon_row, canon_set, canon_stmt}
+use Rattle.sql_printed.specs.CanonRules.{canon_all, canon_some, canon_any, canon_option, canon_name, canon_literal, column_rule, canon_reference, factor_rule, operator_rule, canon_factor, canon_operand, canon_expr, canon_value, canon_value_operand, canon_cmp, canon_cond, canon_part, canon_where, canon_having, canon_alias, canon_item, canon_items, canon_source, canon_join, canon_column_of, canon_place, canon_order, canon_key, canon_limit, canon_sources, canon_from, canon_query, canon_type, canon_end, canon_coldef, canon_listed_name, canon_row, canon_set, canon_stmt}
 use Rattle.sql_printed.specs.Printable.{EachOfSome, IfThere, IsName, IsReference, IsPrintableExpr, IsPrintableValue, IsPrintableCond, IsPrintableWhere, IsPrintableHaving, IsPrintableItem, IsPrintableSource, IsPrintablePlace, IsPrintableKey, IsPrintableLimit, IsPrintableQuery, IsPrintableKind, IsPrintableColumn, IsPrintableSet, IsPrintable}
 use Rattle.sql_printed.specs.Laws.{PrintedDerives}
 use Rattle.sql_tree.specs.Names.{is_bare_name}
 use Rattle.sql_tree.specs.Tree.{ExprTree, CondTree, ItemTree, QueryTree, StmtTree}
 use Rattle.sql_tree.specs.Tree.ExprTree.{Literal, ColumnOf, Operator, AggregateAll, Aggregate}
-use Rattle.sql_tree.specs.Tree.CondTree.{Compare, Within, Negation, Both, Either}
-use Rattle.sql_tree.specs.Tree.StmtTree.{CreateTable, DropTable, InsertInto, DeleteFrom, UpdateTable, Select, ExplainSelect}
+use Rattle.sql_tree.specs.Tree.CondTree.{Compare, Within, IsNull, Negation, Both, Either}
+use Rattle.sql_tree.specs.Tree.StmtTree.{CreateTable, DropTable, AlterTable, InsertInto, DeleteFrom, UpdateTable, Select, ExplainSelect}
 use Rattle.sql_tree.specs.declared.tree.AggOp.{AggOp}
 use Rattle.sql_tree.specs.declared.tree.AggOp.TheVariants as aggregate
 use Rattle.sql_tree.specs.declared.tree.ArithOp.{ArithOp}
@@ -68,7 +68,7 @@ literal_again (cell.Int (pos n)) is = ap (λ k. cell.Int (pos k)) (digits_again 
 literal_again (cell.Int (negsuc n)) is = ap (λ k. cell.Int (neg_ℤ (pos k))) (digits_again (suc n) (omega (arith, is)))
 literal_again (cell.Text text) is = refl
 literal_again (cell.Day day) is = ap cell.Day is.2
-literal_again cell.Nil is = absurd is
+literal_again cell.Nil is = refl
 literal_again (cell.Huge n) is = absurd is
 literal_again (cell.Bit b) is = absurd is
 literal_again (cell.Oid n) is = absurd is
@@ -87,6 +87,7 @@ factor_is (PlainDigits digits) = refl
 factor_is (MinusDigits digits) = refl
 factor_is (StringLiteral text) = refl
 factor_is (DateLiteral text is) = refl
+factor_is NullLiteral = refl
 
 operator_is : (op : ArithOp) (x y : FactorRule) → expr_of (operator_rule op x y) ≡ Operator op (factor_of x) (factor_of y)
 operator_is arithmetic.Plus x y = refl
@@ -145,6 +146,7 @@ module _ {E : Type 0} (P : ExprTree → Type 0) (canon : (e : ExprTree) → P e 
     cond_again : (c : CondTree) (is : IsPrintableCond P c) → cond_of tree (canon_cond P canon c is) ≡ c
     cond_again (Compare op left right) is = λ i. Compare (cmp_again op i) (again left is.0 i) (again right is.1 i)
     cond_again (Within of low high) is = λ i. Within (again of is.0 i) (again low is.1 i) (again high is.2 i)
+    cond_again (IsNull of) is = ap IsNull (again of is)
     cond_again (Negation c) is = ap Negation (part_again c is)
     cond_again (Both left right) is = λ i. Both (part_again left is.0 i) (part_again right is.1 i)
     cond_again (Either left right) is = λ i. Either (cond_again left is.0 i) (cond_again right is.1 i)
@@ -152,6 +154,7 @@ module _ {E : Type 0} (P : ExprTree → Type 0) (canon : (e : ExprTree) → P e 
     part_again : (c : CondTree) (is : IsPrintableCond P c) → unit_of tree (canon_part P canon c is) ≡ c
     part_again (Compare op left right) is = λ i. Compare (cmp_again op i) (again left is.0 i) (again right is.1 i)
     part_again (Within of low high) is = λ i. Within (again of is.0 i) (again low is.1 i) (again high is.2 i)
+    part_again (IsNull of) is = ap IsNull (again of is)
     part_again (Negation c) is = ap Negation (part_again c is)
     part_again (Both left right) is = λ i. Both (part_again left is.0 i) (part_again right is.1 i)
     part_again (Either left right) is = λ i. Either (cond_again left is.0 i) (cond_again right is.1 i)
@@ -263,8 +266,26 @@ width_again kind.Huge width is = absurd is
 width_again kind.Bit width is = absurd is
 width_again kind.Oid width is = absurd is
 
+required_again : (required : Bool) (default : Cell) (is : IsLiteral default) → is_required (canon_end required default is) ≡ required
+required_again true cell.Nil is = refl
+required_again false cell.Nil is = refl
+required_again true default is = refl
+required_again false default is = refl
+
+default_again : (required : Bool) (default : Cell) (is : IsLiteral default) → default_of (canon_end required default is) ≡ default
+default_again true cell.Nil is = refl
+default_again false cell.Nil is = refl
+default_again true default is = literal_again default is
+default_again false default is = literal_again default is
+
 coldef_again : (column : Column) (is : IsPrintableColumn column) → coldef_of (canon_coldef column is) ≡ column
-coldef_again column is = λ i. record { name = name_again column.name i; kind = kind_again column.kind column.width is.1 i; width = width_again column.kind column.width is.1 i; not_null = column.not_null }
+coldef_again column is = λ i. record {
+  name = name_again column.name i;
+  kind = kind_again column.kind column.width is.1 i;
+  width = width_again column.kind column.width is.1 i;
+  not_null = required_again column.not_null column.default is.2 i;
+  default = default_again column.not_null column.default is.2 i;
+}
 
 listed_name_again : (name : List ℕ) (is : IsName name) → name_of (canon_listed_name name is) ≡ name
 listed_name_again name is = name_again name
@@ -278,6 +299,7 @@ set_again set is = λ i. (name_again set.0 i, expr_again set.1 is.1 i)
 pub stmt_again : (s : StmtTree) (is : IsPrintable s) → stmt_of (canon_stmt s is) ≡ s
 stmt_again (CreateTable table columns) is = λ i. CreateTable (name_again table i) (some_again IsPrintableColumn canon_coldef coldef_of coldef_again columns is.1 i)
 stmt_again (DropTable table) is = ap DropTable (name_again table)
+stmt_again (AlterTable table column) is = λ i. AlterTable (name_again table i) (coldef_again column is.1 i)
 stmt_again (InsertInto table columns rows) is = λ i. InsertInto (name_again table i) (any_again IsName canon_listed_name name_of listed_name_again columns is.1 i) (some_again (EachOfSome IsLiteral) canon_row row_of row_again rows is.2 i)
 stmt_again (DeleteFrom table cond) is = λ i. DeleteFrom (name_again table i) (option_again IsPrintableWhere canon_where where_of where_again cond is.1 i)
 stmt_again (UpdateTable table sets cond) is = λ i. UpdateTable (name_again table i) (some_again IsPrintableSet canon_set set_of set_again sets is.1 i) (option_again IsPrintableWhere canon_where where_of where_again cond is.2 i)

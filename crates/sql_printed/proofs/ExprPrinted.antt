@@ -7,18 +7,18 @@ use Rattle.cell_core.specs.declared.cell.Cell.{Cell}
 use Rattle.cell_core.specs.declared.cell.Cell.TheVariants as cell
 use Rattle.sql_grammar.specs.Grammar.{LiteralRule, FactorRule, aggregate_word, write_literal, write_column, write_expr, write_factor, write_agg, write_value, write_cmp, write_cond, write_unit, write_where}
 use Rattle.sql_grammar.specs.Grammar.AggRule.{CountAll, AggregateOf}
-use Rattle.sql_grammar.specs.Grammar.LiteralRule.{PlainDigits, MinusDigits, StringLiteral, DateLiteral}
+use Rattle.sql_grammar.specs.Grammar.LiteralRule.{PlainDigits, MinusDigits, StringLiteral, DateLiteral, NullLiteral}
 use Rattle.sql_grammar.specs.Written.{IsLiteral}
-use Rattle.sql_printed.proofs.CutLemmas.{Middle, Printed, lead_then, then_tail, then_middle, from_lead, spaced_mark, dot_mark, star_mark, in_parentheses}
+use Rattle.sql_printed.proofs.CutLemmas.{Middle, Printed, lead_then, then_tail, then_middle, middle_then, from_lead, spaced_mark, dot_mark, star_mark, in_parentheses}
 use Rattle.sql_printed.proofs.DayLemmas.{prints_day}
 use Rattle.sql_printed.proofs.WordLemmas.{key, key_blank, spaced_key, digits_printed, minus_printed, string_printed, name_printed}
-use Rattle.sql_printed.specs.CanonRules.{canon_literal, column_rule, canon_reference, factor_rule, operator_rule, canon_factor, canon_operand, canon_expr, canon_value, canon_value_operand, canon_cmp, compared_unit, within_unit, canon_cond, canon_part, canon_where, canon_having}
+use Rattle.sql_printed.specs.CanonRules.{canon_literal, column_rule, canon_reference, factor_rule, operator_rule, canon_factor, canon_operand, canon_expr, canon_value, canon_value_operand, canon_cmp, compared_unit, within_unit, null_unit, canon_cond, canon_part, canon_where, canon_having}
 use Rattle.sql_printed.specs.Printable.{IfThere, IsName, IsReference, IsPrintableExpr, IsPrintableValue, IsPrintableCond, IsPrintableWhere, IsPrintableHaving}
-use Rattle.sql_tree.specs.Canon.{quoted_text, enclosed, literal_text, table_text, reference_text, arith_text, aggregate_text, compare_text, expr_text, operand_text, compared_text, within_text, cond_text, part_text}
+use Rattle.sql_tree.specs.Canon.{quoted_text, enclosed, literal_text, table_text, reference_text, arith_text, aggregate_text, compare_text, expr_text, operand_text, compared_text, within_text, null_test_text, cond_text, part_text}
 use Rattle.sql_tree.specs.Names.{name_text}
 use Rattle.sql_tree.specs.Tree.{ExprTree, CondTree}
 use Rattle.sql_tree.specs.Tree.ExprTree.{Literal, ColumnOf, Operator, AggregateAll, Aggregate}
-use Rattle.sql_tree.specs.Tree.CondTree.{Compare, Within, Negation, Both, Either}
+use Rattle.sql_tree.specs.Tree.CondTree.{Compare, Within, IsNull, Negation, Both, Either}
 use Rattle.sql_tree.specs.declared.token.Keyword.TheVariants as word
 use Rattle.sql_tree.specs.declared.token.Symbol.TheVariants as symbol
 use Rattle.sql_tree.specs.declared.token.Token.{Token}
@@ -50,7 +50,7 @@ literal_printed (cell.Int (pos n)) is = decimal_printed n (omega (arith, is))
 literal_printed (cell.Int (negsuc n)) is = minus_printed (decimal (suc n)) (decimal_is_IsNumeral (suc n) (omega (arith, is))).0
 literal_printed (cell.Text text) is = string_printed text
 literal_printed (cell.Day day) is = day_printed day is.0 is.1 is.2
-literal_printed cell.Nil is = absurd is
+literal_printed cell.Nil is = key word.Null
 literal_printed (cell.Huge n) is = absurd is
 literal_printed (cell.Bit b) is = absurd is
 literal_printed (cell.Oid n) is = absurd is
@@ -69,6 +69,7 @@ literal_factor text (PlainDigits digits) x = x
 literal_factor text (MinusDigits digits) x = x
 literal_factor text (StringLiteral string) x = x
 literal_factor text (DateLiteral day is) x = x
+literal_factor text NullLiteral x = x
 
 operator_printed : (op : ArithOp) (left right : List ℕ) (x y : FactorRule) → Printed left (write_factor x) → Printed right (write_factor y) → Printed (left ++ arith_text op ++ right) (write_expr (operator_rule op x y))
 operator_printed arithmetic.Plus left right x y left_is right_is = lead_then (then_middle left_is (spaced_mark symbol.Plus)) right_is
@@ -138,10 +139,14 @@ module _ {E : Type 0} (P : ExprTree → Type 0) (canon : (e : ExprTree) → P e 
   within_printed : (of low high : ExprTree) (is : P of × P low × P high) → Printed (within_text of low high) (write_unit write (within_unit P canon of low high is))
   within_printed of low high is = lead_then (then_middle (lead_then (then_middle (printed of is.0) (spaced_key word.Between)) (printed low is.1)) (spaced_key word.And)) (printed high is.2)
 
+  null_test_printed : (of : ExprTree) (is : P of) → Printed (null_test_text of) (write_unit write (null_unit P canon of is))
+  null_test_printed of is = then_tail (printed of is) (middle_then (spaced_key word.Is) (key word.Null))
+
   mutual
     cond_printed : (c : CondTree) (is : IsPrintableCond P c) → Printed (cond_text c) (write_cond write (canon_cond P canon c is))
     cond_printed (Compare op left right) is = compared_printed op left right is
     cond_printed (Within of low high) is = within_printed of low high is
+    cond_printed (IsNull of) is = null_test_printed of is
     cond_printed (Negation c) is = lead_then (key_blank word.Not) (part_printed c is)
     cond_printed (Both left right) is = lead_then (then_middle (part_printed left is.0) (spaced_key word.And)) (part_printed right is.1)
     cond_printed (Either left right) is = lead_then (then_middle (in_parentheses (cond_printed left is.0)).tail (spaced_key word.Or)) (in_parentheses (cond_printed right is.1)).tail
@@ -149,6 +154,7 @@ module _ {E : Type 0} (P : ExprTree → Type 0) (canon : (e : ExprTree) → P e 
     part_printed : (c : CondTree) (is : IsPrintableCond P c) → Printed (part_text c) (write_unit write (canon_part P canon c is))
     part_printed (Compare op left right) is = compared_printed op left right is
     part_printed (Within of low high) is = within_printed of low high is
+    part_printed (IsNull of) is = null_test_printed of is
     part_printed (Negation c) is = (in_parentheses (lead_then (key_blank word.Not) (part_printed c is))).tail
     part_printed (Both left right) is = (in_parentheses (lead_then (then_middle (part_printed left is.0) (spaced_key word.And)) (part_printed right is.1))).tail
     part_printed (Either left right) is = (in_parentheses (lead_then (then_middle (in_parentheses (cond_printed left is.0)).tail (spaced_key word.Or)) (in_parentheses (cond_printed right is.1)).tail)).tail

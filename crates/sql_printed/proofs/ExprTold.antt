@@ -6,16 +6,16 @@ use Rattle.std.proofs.lemmas.Bool.Decides.{nat_tests}
 use Rattle.cell_core.specs.declared.cell.Cell.{Cell}
 use Rattle.cell_core.specs.declared.cell.Cell.TheVariants as cell
 use Rattle.sql_grammar.specs.Grammar.{sign, number_of, negative_of, write_literal, literal_cell, ExprRule, TermsRule, TermRule, FactorsRule, FactorRule, OperandRule, write_expr, write_terms, write_term, write_factors, write_factor, write_operand, sign_op, expr_of, terms_of, term_of, factors_of, factor_of, operand_of, write_value, value_of, write_cmp, TestRule, CondRule, ConjsRule, ConjRule, UnitsRule, UnitRule, write_more, write_enclosed, write_test, cmp_of, write_cond, write_conjs, write_conj, write_units, write_unit, members_of, test_of, cond_of, conjs_of, conj_of, units_of, unit_of, write_where, where_of}
-use Rattle.sql_grammar.specs.Grammar.LiteralRule.{PlainDigits, MinusDigits, StringLiteral, DateLiteral}
+use Rattle.sql_grammar.specs.Grammar.LiteralRule.{PlainDigits, MinusDigits, StringLiteral, DateLiteral, NullLiteral}
 use Rattle.sql_grammar.specs.Grammar.ExprRule.{Sum}
 use Rattle.sql_grammar.specs.Grammar.TermsRule.{NoTerm, MoreTerms}
 use Rattle.sql_grammar.specs.Grammar.TermRule.{Product}
 use Rattle.sql_grammar.specs.Grammar.FactorsRule.{NoFactor, MoreFactors}
 use Rattle.sql_grammar.specs.Grammar.FactorRule.{Number, Operand}
-use Rattle.sql_grammar.specs.Grammar.OperandRule.{NegativeNumber, StringOperand, DateOperand, ColumnOperand, Negated, Parenthesised}
+use Rattle.sql_grammar.specs.Grammar.OperandRule.{NegativeNumber, StringOperand, DateOperand, NullOperand, ColumnOperand, Negated, Parenthesised}
 use Rattle.sql_grammar.specs.Grammar.AggRule.{CountAll, AggregateOf}
 use Rattle.sql_grammar.specs.Grammar.ValueRule.{ExprValue, AggValue}
-use Rattle.sql_grammar.specs.Grammar.TestRule.{Comparison, BetweenTest, InTest}
+use Rattle.sql_grammar.specs.Grammar.TestRule.{Comparison, BetweenTest, InTest, NullTest}
 use Rattle.sql_grammar.specs.Grammar.CondRule.{Disjunction}
 use Rattle.sql_grammar.specs.Grammar.ConjsRule.{NoConj, MoreConjs}
 use Rattle.sql_grammar.specs.Grammar.ConjRule.{Conjunction}
@@ -28,7 +28,7 @@ use Rattle.sql_printed.proofs.NamedLemmas.{Named, IsTold, all_parts, column_told
 use Rattle.sql_printed.specs.Printable.{IsPrintableExpr, IsPrintableValue, IsPrintableCond}
 use Rattle.sql_tree.specs.Tree.{ExprTree, CondTree}
 use Rattle.sql_tree.specs.Tree.ExprTree.{Literal, ColumnOf, Operator, AggregateAll, Aggregate}
-use Rattle.sql_tree.specs.Tree.CondTree.{Compare, Within, Both, Either}
+use Rattle.sql_tree.specs.Tree.CondTree.{Compare, Within, IsNull, Both, Either}
 use Rattle.sql_tree.specs.declared.token.Keyword.TheVariants as word
 use Rattle.sql_tree.specs.declared.token.Symbol.TheVariants as symbol
 use Rattle.sql_tree.specs.declared.token.Token.{Token}
@@ -52,6 +52,7 @@ literal_told (PlainDigits digits) rest h = (λ w. in_range (pos (number_of digit
 literal_told (MinusDigits digits) rest h = (λ w. in_range (negative_of digits) w, h.1.1)
 literal_told (StringLiteral text) rest h = (λ w. tt, h.1)
 literal_told (DateLiteral text is) rest h = (λ w. (text, is, refl), h.1.1)
+literal_told NullLiteral rest h = (λ w. tt, h.1)
 
 -- ## Expressions
 
@@ -91,6 +92,7 @@ mutual
   operand_told (NegativeNumber digits) rest h = (λ w. in_range (negative_of digits) w, h.1.1)
   operand_told (StringOperand text) rest h = (λ w. tt, h.1)
   operand_told (DateOperand text is) rest h = (λ w. (text, is, refl), h.1.1)
+  operand_told NullOperand rest h = (λ w. tt, h.1)
   operand_told (ColumnOperand column) rest h = let x = column_told column rest h in (λ w. x.0, x.1)
   operand_told (Negated operand) rest h =
       let x = operand_told operand rest h.1 in
@@ -143,6 +145,9 @@ module _ {E : Type 0} (write : E → List Token → List Token) (tree : E → Ex
       let z = members_told members.1 (Compare compare.Eq (tree of) (tree members.0)) (tree of) (sign symbol.Close ∷ rest) (compared_fine compare.Eq (tree of) (tree members.0) x y.0) x y.1 in
       (z.0, z.1.1)
 
+  null_fine : (of : ExprTree) → (NotWide of → P of) → FineCond P (IsNull of)
+  null_fine of x w = x w.0
+
   test_told : (r : TestRule E) (rest : List Token) → Named (write_test write r rest) → FineCond P (test_of tree r) × Named rest
   test_told (Comparison left cmp right) rest h =
       let x = told left (write_cmp cmp ∷ write right rest) h in
@@ -164,6 +169,8 @@ module _ {E : Type 0} (write : E → List Token → List Token) (tree : E → Ex
   test_told (InTest of false members) rest h =
       let x = told of (Key word.In ∷ write_enclosed write members rest) h in
       in_told of members rest x.0 x.1.1.1
+  test_told (NullTest of true) rest h = let x = told of (Key word.Is ∷ Key word.Not ∷ Key word.Null ∷ rest) h in (null_fine (tree of) x.0, x.1.1.1.1)
+  test_told (NullTest of false) rest h = let x = told of (Key word.Is ∷ Key word.Null ∷ rest) h in (null_fine (tree of) x.0, x.1.1.1)
 
   mutual
     pub cond_told : (r : CondRule E) (rest : List Token) → Named (write_cond write r rest) → FineCond P (cond_of tree r) × Named rest

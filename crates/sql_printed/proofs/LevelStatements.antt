@@ -5,22 +5,23 @@ use Rattle.std.specs.List.{AllByRecursion, list_any}
 use Rattle.std.proofs.lemmas.Bool.{or_parts}
 use Rattle.std.proofs.lemmas.Bool.Decides.{nat_tests}
 use Rattle.cell_core.specs.declared.cell.Cell.{Cell}
+use Rattle.cell_core.specs.declared.cell.Cell.TheVariants as cell
 use Rattle.cell_core.specs.declared.cell.Kind.{Kind}
 use Rattle.cell_core.specs.declared.cell.Kind.TheVariants as kind
 use Rattle.cell_core.specs.declared.table.Column.{Column}
 use Rattle.sql_grammar.specs.Grammar.{sign, write_behind, write_name, write_literal, write_column, write_where, write_cond, write_value}
 use Rattle.sql_tree.specs.Exprs.{exprs_of_cond}
 use Rattle.sql_grammar.specs.Refused.{expr_nodes, is_too_deep, nodes_of_cond, stmt_exprs, passes_conditions}
-use Rattle.sql_grammar.specs.Statements.{write_alias, write_item, write_items, write_source, write_joins, write_place, write_order, write_key, write_digits, write_distinct, write_from, write_query, null_word, write_type, write_not_null, write_coldef, write_set, write_column_list, write_row, write_stmt}
+use Rattle.sql_grammar.specs.Statements.{write_alias, write_item, write_items, write_source, write_joins, write_place, write_order, write_key, write_digits, write_distinct, write_from, write_query, write_type, write_not_null, write_default, write_end, write_coldef, write_set, write_column_list, write_row, write_stmt}
 use Rattle.sql_grammar.specs.Statements.TypeRule.{TextType, VarcharType}
 use Rattle.sql_grammar.specs.Written.{IsLiteral}
 use Rattle.sql_printed.proofs.LevelLemmas.{Deep, Level, flat, denial, enclosed, deeper, levelled, then, levels, both, no_more, shallow, more_level, some_deep, any_level, all_true}
 use Rattle.sql_printed.proofs.LevelTrees.{name_deep, literal_deep, reference_deep, Small, small_expr_deep, value_deep, where_deep, having_deep}
 use Rattle.sql_printed.proofs.NamedLemmas.{all_parts, all_mapped, none_of}
-use Rattle.sql_printed.specs.CanonRules.{canon_any, canon_option, canon_where, canon_having, canon_alias, canon_item, canon_items, canon_source, canon_join, canon_column_of, canon_place, canon_order, canon_key, canon_limit, canon_sources, canon_from, canon_query, canon_literal, canon_type, canon_coldef, canon_listed_name, canon_row, canon_set, canon_stmt}
+use Rattle.sql_printed.specs.CanonRules.{canon_any, canon_option, canon_where, canon_having, canon_alias, canon_item, canon_items, canon_source, canon_join, canon_column_of, canon_place, canon_order, canon_key, canon_limit, canon_sources, canon_from, canon_query, canon_literal, canon_type, canon_end, canon_coldef, canon_listed_name, canon_row, canon_set, canon_stmt}
 use Rattle.sql_printed.specs.Printable.{EachOfSome, IfThere, IsName, IsReference, IsPrintableWhere, IsPrintableHaving, IsPrintableItem, IsPrintableKey, IsPrintableSource, IsPrintableQuery, IsPrintableColumn, IsPrintableSet, IsPrintable}
 use Rattle.sql_tree.specs.Tree.{ExprTree, CondTree, ItemTree, QueryTree, StmtTree}
-use Rattle.sql_tree.specs.Tree.StmtTree.{CreateTable, DropTable, InsertInto, DeleteFrom, UpdateTable, Select, ExplainSelect}
+use Rattle.sql_tree.specs.Tree.StmtTree.{CreateTable, DropTable, AlterTable, InsertInto, DeleteFrom, UpdateTable, Select, ExplainSelect}
 use Rattle.sql_tree.specs.declared.token.Keyword.TheVariants as word
 use Rattle.sql_tree.specs.declared.token.Symbol.TheVariants as symbol
 use Rattle.sql_tree.specs.declared.token.Token.{Token}
@@ -112,7 +113,7 @@ query_deep query is few small =
     (levels (levelled (items_deep query.items is.items_are (all_mapped Small (λ (item : ItemTree). item.expr) query.items front.0)))
     (from_level query is front.1 parts.1 (at_most (nodes_of_cond query.cond) passed.0) (at_most (nodes_of_cond query.having) passed.1))))
 
--- ## Columns of CREATE, rows of INSERT and sets of UPDATE
+-- ## Columns of CREATE and ALTER, rows of INSERT and sets of UPDATE
 
 text_type_deep : (width : ℕ) → Deep 384 (write_type (canon_type kind.Text width))
 text_type_deep width =
@@ -129,12 +130,20 @@ type_deep kind.Huge width = flat (Key word.Int) (λ o r s h. h)
 type_deep kind.Bit width = flat (Key word.Int) (λ o r s h. h)
 type_deep kind.Oid width = flat (Key word.Int) (λ o r s h. h)
 
-not_null_level : (not_null : Bool) → Level 384 (write_not_null not_null)
-not_null_level true = levelled (denial (flat {d = 383} null_word (λ o r s h. h)))
-not_null_level false = no_more
+not_null_level : Level 384 write_not_null
+not_null_level = levelled (denial (flat {d = 383} (Key word.Null) (λ o r s h. h)))
+
+default_level : (default : Cell) (is : IsLiteral default) → Level 384 (write_default (canon_literal default is))
+default_level default is = levelled (both (flat (Key word.Default) (λ o r s h. h)) (deeper (literal_deep default is) (omega arith)))
+
+end_level : (required : Bool) (default : Cell) (is : IsLiteral default) → Level 384 (write_end (canon_end required default is))
+end_level true cell.Nil is = not_null_level
+end_level false cell.Nil is = no_more
+end_level true default is = levels not_null_level (default_level default is)
+end_level false default is = default_level default is
 
 coldef_deep : (column : Column) (is : IsPrintableColumn column) → Unit {0} → Deep 384 (write_coldef (canon_coldef column is))
-coldef_deep column is small = both (name_deep 384 column.name) (then (type_deep column.kind column.width) (not_null_level column.not_null))
+coldef_deep column is small = both (name_deep 384 column.name) (then (type_deep column.kind column.width) (end_level column.not_null column.default is.2))
 
 cell_deep : (c : Cell) (is : IsLiteral c) → Unit {0} → Deep 1 (write_literal (canon_literal c is))
 cell_deep c is small = literal_deep c is
@@ -162,6 +171,9 @@ stmt_shallow (CreateTable table columns) is few small =
     shallow (both (flat (Key word.Create) (λ o r s h. h)) (both (flat (Key word.Table) (λ o r s h. h)) (both (name_deep 385 table)
     (enclosed (some_deep IsPrintableColumn canon_coldef write_coldef (λ x. Unit {0}) 384 coldef_deep columns is.1 (all_true columns)))))) (omega arith)
 stmt_shallow (DropTable table) is few small = shallow (both (flat (Key word.Drop) (λ o r s h. h)) (both (flat (Key word.Table) (λ o r s h. h)) (name_deep 385 table))) (omega arith)
+stmt_shallow (AlterTable table column) is few small =
+    shallow (both (flat (Key word.Alter) (λ o r s h. h)) (both (flat (Key word.Table) (λ o r s h. h)) (both (name_deep 384 table)
+    (both (flat (Key word.Add) (λ o r s h. h)) (both (flat (Key word.Column) (λ o r s h. h)) (coldef_deep column is.1 tt)))))) (omega arith)
 stmt_shallow (InsertInto table columns rows) is few small =
     shallow (both (flat (Key word.Insert) (λ o r s h. h)) (both (flat (Key word.Into) (λ o r s h. h)) (then (name_deep 385 table) (levels (column_list_level columns is.1)
     (levelled (both (flat (Key word.Values) (λ o r s h. h)) (some_deep (EachOfSome IsLiteral) canon_row write_row (λ x. Unit {0}) 385 row_deep rows is.2 (all_true rows)))))))) (omega arith)

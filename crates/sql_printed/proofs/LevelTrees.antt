@@ -12,11 +12,11 @@ use Rattle.sql_grammar.specs.Refused.{expr_nodes, cond_nodes}
 use Rattle.sql_grammar.specs.Written.{IsLiteral}
 use Rattle.sql_printed.proofs.LevelLemmas.{Deep, flat, minus, denial, enclosed, deeper, both}
 use Rattle.sql_printed.proofs.NamedLemmas.{all_parts}
-use Rattle.sql_printed.specs.CanonRules.{canon_name, canon_literal, column_rule, canon_reference, factor_rule, operator_rule, canon_factor, canon_operand, canon_expr, canon_value, canon_value_operand, canon_cmp, compared_unit, within_unit, canon_cond, canon_part, canon_where, canon_having}
+use Rattle.sql_printed.specs.CanonRules.{canon_name, canon_literal, column_rule, canon_reference, factor_rule, operator_rule, canon_factor, canon_operand, canon_expr, canon_value, canon_value_operand, canon_cmp, compared_unit, within_unit, null_unit, canon_cond, canon_part, canon_where, canon_having}
 use Rattle.sql_printed.specs.Printable.{IsPrintableExpr, IsPrintableValue, IsPrintableCond, IsPrintableWhere, IsPrintableHaving}
 use Rattle.sql_tree.specs.Tree.{ExprTree, CondTree}
 use Rattle.sql_tree.specs.Tree.ExprTree.{Literal, ColumnOf, Operator, AggregateAll, Aggregate}
-use Rattle.sql_tree.specs.Tree.CondTree.{Compare, Within, Negation, Both, Either}
+use Rattle.sql_tree.specs.Tree.CondTree.{Compare, Within, IsNull, Negation, Both, Either}
 use Rattle.sql_tree.specs.declared.token.Keyword.TheVariants as word
 use Rattle.sql_tree.specs.declared.token.Symbol.TheVariants as symbol
 use Rattle.sql_tree.specs.declared.token.Token.{Token}
@@ -43,7 +43,7 @@ literal_deep (cell.Int (pos n)) is = flat (Digits (decimal n)) (λ o r s h. h)
 literal_deep (cell.Int (negsuc n)) is = minus (flat {d = 0} (Digits (decimal (suc n))) (λ o r s h. h))
 literal_deep (cell.Text text) is = flat (Text text) (λ o r s h. h)
 literal_deep (cell.Day day) is = both (flat (Key word.Date) (λ o r s h. h)) (flat (Text is.0) (λ o r s h. h))
-literal_deep cell.Nil is = absurd is
+literal_deep cell.Nil is = flat (Key word.Null) (λ o r s h. h)
 literal_deep (cell.Huge n) is = absurd is
 literal_deep (cell.Bit b) is = absurd is
 literal_deep (cell.Oid n) is = absurd is
@@ -62,7 +62,7 @@ number_deep (cell.Int (pos n)) is = flat (Digits (decimal n)) (λ o r s h. h)
 number_deep (cell.Int (negsuc n)) is = minus (flat {d = 0} (Digits (decimal (suc n))) (λ o r s h. h))
 number_deep (cell.Text text) is = flat (Text text) (λ o r s h. h)
 number_deep (cell.Day day) is = both (flat (Key word.Date) (λ o r s h. h)) (flat (Text is.0) (λ o r s h. h))
-number_deep cell.Nil is = absurd is
+number_deep cell.Nil is = flat (Key word.Null) (λ o r s h. h)
 number_deep (cell.Huge n) is = absurd is
 number_deep (cell.Bit b) is = absurd is
 number_deep (cell.Oid n) is = absurd is
@@ -152,10 +152,14 @@ module _ {E : Type 0} (P : ExprTree → Type 0) (canon : (e : ExprTree) → P e 
   within_deep : (of low high : ExprTree) (is : P of × P low × P high) → AllByRecursion Small (of ∷ low ∷ high ∷ []) → Deep 129 (write_unit write (within_unit P canon of low high is))
   within_deep of low high is small = both (deep of is.0 small.0) (both (flat (Key word.Between) (λ o r s h. h)) (both (deep low is.1 small.1.0) (both (flat (Key word.And) (λ o r s h. h)) (deep high is.2 small.1.1.0))))
 
+  null_test_deep : (of : ExprTree) (is : P of) → AllByRecursion Small (of ∷ []) → Deep 129 (write_unit write (null_unit P canon of is))
+  null_test_deep of is small = both (deep of is small.0) (both (flat (Key word.Is) (λ o r s h. h)) (flat (Key word.Null) (λ o r s h. h)))
+
   mutual
     pub cond_deep : (c : CondTree) (is : IsPrintableCond P c) → AllByRecursion Small (cond_exprs c) → Deep (cond_levels c) (write_cond write (canon_cond P canon c is))
     cond_deep (Compare op left right) is small = deeper (compared_deep op left right is small) (omega arith)
     cond_deep (Within of low high) is small = deeper (within_deep of low high is small) (omega arith)
+    cond_deep (IsNull of) is small = deeper (null_test_deep of is small) (omega arith)
     cond_deep (Negation c) is small = deeper (denial (part_deep c is small)) (omega arith)
     cond_deep (Both left right) is small =
         let parts = all_parts Small (cond_exprs left) (cond_exprs right) small in
@@ -167,6 +171,7 @@ module _ {E : Type 0} (P : ExprTree → Type 0) (canon : (e : ExprTree) → P e 
     part_deep : (c : CondTree) (is : IsPrintableCond P c) → AllByRecursion Small (cond_exprs c) → Deep (cond_levels c) (write_unit write (canon_part P canon c is))
     part_deep (Compare op left right) is small = deeper (compared_deep op left right is small) (omega arith)
     part_deep (Within of low high) is small = deeper (within_deep of low high is small) (omega arith)
+    part_deep (IsNull of) is small = deeper (null_test_deep of is small) (omega arith)
     part_deep (Negation c) is small = deeper (enclosed (denial (part_deep c is small))) (omega arith)
     part_deep (Both left right) is small =
         let parts = all_parts Small (cond_exprs left) (cond_exprs right) small in

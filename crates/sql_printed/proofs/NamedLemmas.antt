@@ -66,6 +66,11 @@ tokens_named text all are = subst (λ all. Named (tokens_in all)) are.tokens_are
 
 -- ## Lists
 
+-- what holds of each by two facts
+pub all_both : {X : Type 0} (P Q : X → Type 0) (xs : List X) → AllByRecursion P xs → AllByRecursion Q xs → AllByRecursion (λ x. P x × Q x) xs
+all_both P Q [] h k = tt
+all_both P Q (x ∷ xs) h k = ((h.0, k.0), all_both P Q xs h.1 k.1)
+
 module _ {X : Type 0} (P : X → Type 0) where
   -- what holds of each element of two lists together
   pub all_parts : (xs ys : List X) → AllByRecursion P (xs ++ ys) → AllByRecursion P xs × AllByRecursion P ys

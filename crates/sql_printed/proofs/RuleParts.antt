@@ -9,11 +9,11 @@ use Rattle.sql_grammar.specs.Grammar.TermsRule.{NoTerm, MoreTerms}
 use Rattle.sql_grammar.specs.Grammar.TermRule.{Product}
 use Rattle.sql_grammar.specs.Grammar.FactorsRule.{NoFactor, MoreFactors}
 use Rattle.sql_grammar.specs.Grammar.FactorRule.{Number, Operand}
-use Rattle.sql_grammar.specs.Grammar.OperandRule.{NegativeNumber, StringOperand, DateOperand, ColumnOperand, Negated, Parenthesised}
+use Rattle.sql_grammar.specs.Grammar.OperandRule.{NegativeNumber, StringOperand, DateOperand, NullOperand, ColumnOperand, Negated, Parenthesised}
 use Rattle.sql_grammar.specs.Grammar.AggRule.{CountAll, AggregateOf}
 use Rattle.sql_grammar.specs.Grammar.ValueRule.{ExprValue, AggValue}
 use Rattle.sql_grammar.specs.Grammar.CmpRule.{EqualSign, NotEqualSign, BangEqualSign, LessSign, LessEqualSign, GreaterSign, GreaterEqualSign}
-use Rattle.sql_grammar.specs.Grammar.TestRule.{Comparison, BetweenTest, InTest}
+use Rattle.sql_grammar.specs.Grammar.TestRule.{Comparison, BetweenTest, InTest, NullTest}
 use Rattle.sql_grammar.specs.Grammar.CondRule.{Disjunction}
 use Rattle.sql_grammar.specs.Grammar.ConjsRule.{NoConj, MoreConjs}
 use Rattle.sql_grammar.specs.Grammar.ConjRule.{Conjunction}
@@ -84,6 +84,7 @@ module _ (first : Token) where
     operand_still (NegativeNumber digits) rest h = λ past. (tt, (tt, h.1 (Digits digits ∷ sign symbol.Minus ∷ past)))
     operand_still (StringOperand text) rest h = λ past. (tt, h.1 (Text text ∷ past))
     operand_still (DateOperand text is) rest h = λ past. (tt, (tt, h.1 (Text text ∷ Key word.Date ∷ past)))
+    operand_still NullOperand rest h = λ past. (tt, h.1 (Key word.Null ∷ past))
     operand_still (ColumnOperand column) rest h = (column_calm column rest h).1
     operand_still (Negated operand) rest h = λ past. (tt, operand_still operand rest h (sign symbol.Minus ∷ past))
     operand_still (Parenthesised e) rest h = λ past. (tt, expr_still e (sign symbol.Close ∷ rest) (refl, λ inside. (tt, h.1 (sign symbol.Close ∷ inside))) (sign symbol.Open ∷ past))
@@ -142,6 +143,8 @@ module _ (first : Token) where
     test_still (BetweenTest of false low high) rest h = still of (Key word.Between ∷ write low (Key word.And ∷ write high rest)) (refl, between_still low high rest h)
     test_still (InTest of true members) rest h = still of (Key word.Not ∷ Key word.In ∷ write_enclosed write members rest) (refl, λ past. (tt, in_still members rest h.1 (Key word.Not ∷ past)))
     test_still (InTest of false members) rest h = still of (Key word.In ∷ write_enclosed write members rest) (refl, in_still members rest h.1)
+    test_still (NullTest of true) rest h = still of (Key word.Is ∷ Key word.Not ∷ Key word.Null ∷ rest) (refl, λ past. (tt, (tt, (tt, h.1 (Key word.Null ∷ Key word.Not ∷ Key word.Is ∷ past)))))
+    test_still (NullTest of false) rest h = still of (Key word.Is ∷ Key word.Null ∷ rest) (refl, λ past. (tt, (tt, h.1 (Key word.Null ∷ Key word.Is ∷ past))))
 
     mutual
       pub cond_still : (r : CondRule E) (rest : List Token) → Calm first rest → Still first (write_cond write r rest)

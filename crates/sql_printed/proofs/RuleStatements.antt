@@ -1,20 +1,21 @@
 -- No rule of what the profile leaves out applies to the tokens of a derivation.
-use Rattle.std.proofs.Common.{◌≡◌, ℕ, zero, suc, List, [], ◌∷◌, Bool, true, false, ◌&&◌, ◌||◌, Option, Some, None, refl, ap, arith}
+use Rattle.std.proofs.Common.{◌≡◌, ℕ, zero, suc, List, [], ◌∷◌, Bool, true, false, ◌&&◌, Option, Some, None, refl, ap, arith}
 use Rattle.std.specs.Prelude.{slice_get}
 use Rattle.sql_grammar.specs.Grammar.{sign, write_some, write_enclosed, write_behind, NameRule, write_name, LiteralRule, write_literal, ColumnRule, write_column, ExprRule, write_expr, ValueRule, write_value, WhereRule, write_where, write_cond}
 use Rattle.sql_grammar.specs.Grammar.NameRule.{BareName, QuotedName}
-use Rattle.sql_grammar.specs.Grammar.LiteralRule.{PlainDigits, MinusDigits, StringLiteral, DateLiteral}
-use Rattle.sql_grammar.specs.Refused.{is_name, has_expressions, IsFirstRule}
-use Rattle.sql_grammar.specs.Statements.{AliasRule, write_alias, write_item, ItemsRule, write_items, write_source, JoinRule, write_join, write_joins, PlaceRule, OrderRule, write_place, write_order, write_key, FromRule, QueryRule, write_digits, write_from, write_distinct, write_optional_from, TypeRule, write_type, write_not_null, ColdefRule, write_coldef, write_set, write_column_list, write_row, StmtRule, write_stmt}
+use Rattle.sql_grammar.specs.Grammar.LiteralRule.{PlainDigits, MinusDigits, StringLiteral, DateLiteral, NullLiteral}
+use Rattle.sql_grammar.specs.Refused.{has_expressions, IsFirstRule}
+use Rattle.sql_grammar.specs.Statements.{AliasRule, write_alias, write_item, ItemsRule, write_items, write_source, JoinRule, write_join, write_joins, PlaceRule, OrderRule, write_place, write_order, write_key, FromRule, QueryRule, write_digits, write_from, write_distinct, write_optional_from, TypeRule, write_type, ColumnEnd, write_not_null, write_default, write_end, ColdefRule, write_coldef, write_column_word, write_set, write_column_list, write_row, StmtRule, write_stmt}
 use Rattle.sql_grammar.specs.Statements.AliasRule.{NoAlias, BareAlias, AsAlias}
 use Rattle.sql_grammar.specs.Statements.ItemsRule.{AllColumns, SomeItems}
 use Rattle.sql_grammar.specs.Statements.JoinRule.{CommaSource, JoinOn}
 use Rattle.sql_grammar.specs.Statements.PlaceRule.{PositionKey, ColumnKey}
 use Rattle.sql_grammar.specs.Statements.OrderRule.{NoOrder, AscOrder, DescOrder}
 use Rattle.sql_grammar.specs.Statements.TypeRule.{IntType, IntegerType, BigintType, TextType, DateType, VarcharType}
-use Rattle.sql_grammar.specs.Statements.StmtRule.{CreateRule, DropRule, InsertRule, DeleteRule, UpdateRule, SelectRule, ExplainRule}
+use Rattle.sql_grammar.specs.Statements.ColumnEnd.{PlainEnd, NotNullEnd, DefaultEnd, NotNullDefault, DefaultNotNull}
+use Rattle.sql_grammar.specs.Statements.StmtRule.{CreateRule, DropRule, AlterRule, InsertRule, DeleteRule, UpdateRule, SelectRule, ExplainRule}
 use Rattle.sql_printed.proofs.RuleParts.{Still, Calm, name_calm, column_calm, expr_still, value_still, some_still, enclosed_still, behind_calm, cond_still}
-use Rattle.sql_printed.proofs.RuleWalk.{opens, null_follows, Quiet, quiet_rules}
+use Rattle.sql_printed.proofs.RuleWalk.{opens, quiet_rules}
 use Rattle.sql_tree.specs.declared.token.Keyword.TheVariants as word
 use Rattle.sql_tree.specs.declared.token.Symbol.TheVariants as symbol
 use Rattle.sql_tree.specs.declared.token.Token.{Token}
@@ -128,42 +129,49 @@ module _ (first : Token) (none : has_expressions (Some first) ≡ false) where
   listed_still (BareName name) rest h = λ past. (ap (λ b. b && opens rest) none, h (Name name ∷ past))
   listed_still (QuotedName name) rest h = λ past. (ap (λ b. b && opens rest) none, h (Quoted name ∷ past))
 
-literal_still : (first : Token) (l : LiteralRule) (rest : List Token) → Calm first rest → Still first (write_literal l rest)
-literal_still first (PlainDigits digits) rest h = λ past. (tt, h.1 (Digits digits ∷ past))
-literal_still first (MinusDigits digits) rest h = λ past. (tt, (tt, h.1 (Digits digits ∷ sign symbol.Minus ∷ past)))
-literal_still first (StringLiteral text) rest h = λ past. (tt, h.1 (Text text ∷ past))
-literal_still first (DateLiteral text is) rest h = λ past. (tt, (tt, h.1 (Text text ∷ Key word.Date ∷ past)))
+literal_still : (first : Token) (l : LiteralRule) (rest : List Token) → Still first rest → Still first (write_literal l rest)
+literal_still first (PlainDigits digits) rest h = λ past. (tt, h (Digits digits ∷ past))
+literal_still first (MinusDigits digits) rest h = λ past. (tt, (tt, h (Digits digits ∷ sign symbol.Minus ∷ past)))
+literal_still first (StringLiteral text) rest h = λ past. (tt, h (Text text ∷ past))
+literal_still first (DateLiteral text is) rest h = λ past. (tt, (tt, h (Text text ∷ Key word.Date ∷ past)))
+literal_still first NullLiteral rest h = λ past. (tt, h (Key word.Null ∷ past))
 
 row_still : (row : LiteralRule × List LiteralRule) (rest : List Token) → Calm (Key word.Insert) rest → Still (Key word.Insert) (write_row row rest)
-row_still row rest h = enclosed_still (Key word.Insert) write_literal (literal_still (Key word.Insert)) row rest h.1
+row_still row rest h = enclosed_still (Key word.Insert) write_literal (λ l rest h. literal_still (Key word.Insert) l rest h.1) row rest h.1
 
 column_list_still : (columns : Option (NameRule × List NameRule)) (rest : List Token) → Still (Key word.Insert) rest → Still (Key word.Insert) (write_column_list columns rest)
 column_list_still None rest h = h
 column_list_still (Some names) rest h = enclosed_still (Key word.Insert) write_name (λ n rest h. listed_still (Key word.Insert) refl n rest h.1) names rest h
 
--- NOT NULL behind a name and a type
-not_null_quiet : (past : List Token) → null_follows (Key word.Create) (Key word.Not ∷ past) ≡ true → (not_null : Bool) (rest : List Token) → Still (Key word.Create) rest → Quiet (Key word.Create) past (write_not_null not_null rest)
-not_null_quiet past follows true rest h = (tt, (follows, h _))
-not_null_quiet past follows false rest h = h past
+-- ## Columns of CREATE and ALTER
 
-module _ (name : Token) (named : is_name (Some name) ≡ true) (past : List Token) (not_null : Bool) (rest : List Token) (h : Still (Key word.Create) rest) where
-  word_follows : (is_name (Some name) || false) ≡ true
-  word_follows = ap (λ b. b || false) named
+not_null_still : (first : Token) (rest : List Token) → Still first rest → Still first (write_not_null rest)
+not_null_still first rest h = λ past. (tt, (tt, h (Key word.Null ∷ Key word.Not ∷ past)))
 
-  type_quiet : (k : TypeRule) → Quiet (Key word.Create) (name ∷ past) (write_type k (write_not_null not_null rest))
-  type_quiet IntType = (tt, not_null_quiet (Key word.Int ∷ name ∷ past) word_follows not_null rest h)
-  type_quiet IntegerType = (tt, not_null_quiet (Key word.Integer ∷ name ∷ past) word_follows not_null rest h)
-  type_quiet BigintType = (tt, not_null_quiet (Key word.Bigint ∷ name ∷ past) word_follows not_null rest h)
-  type_quiet TextType = (tt, not_null_quiet (Key word.Text ∷ name ∷ past) word_follows not_null rest h)
-  type_quiet DateType = (tt, not_null_quiet (Key word.Date ∷ name ∷ past) word_follows not_null rest h)
-  type_quiet (VarcharType digits) = (tt, (tt, (tt, (tt, not_null_quiet (sign symbol.Close ∷ Digits digits ∷ sign symbol.Open ∷ Key word.Varchar ∷ name ∷ past) named not_null rest h))))
+default_still : (first : Token) (l : LiteralRule) (rest : List Token) → Still first rest → Still first (write_default l rest)
+default_still first l rest h = λ past. (tt, literal_still first l rest h (Key word.Default ∷ past))
 
-column_still : (n : NameRule) (k : TypeRule) (not_null : Bool) (rest : List Token) → Still (Key word.Create) rest → Still (Key word.Create) (write_name n (write_type k (write_not_null not_null rest)))
-column_still (BareName name) k not_null rest h = λ past. (refl, type_quiet (Name name) refl past not_null rest h k)
-column_still (QuotedName name) k not_null rest h = λ past. (refl, type_quiet (Quoted name) refl past not_null rest h k)
+end_still : (first : Token) (e : ColumnEnd) (rest : List Token) → Still first rest → Still first (write_end e rest)
+end_still first PlainEnd rest h = h
+end_still first NotNullEnd rest h = not_null_still first rest h
+end_still first (DefaultEnd l) rest h = default_still first l rest h
+end_still first (NotNullDefault l) rest h = not_null_still first (write_default l rest) (default_still first l rest h)
+end_still first (DefaultNotNull l) rest h = default_still first l (write_not_null rest) (not_null_still first rest h)
 
-coldef_still : (coldef : ColdefRule) (rest : List Token) → Calm (Key word.Create) rest → Still (Key word.Create) (write_coldef coldef rest)
-coldef_still coldef rest h = column_still coldef.name coldef.kind coldef.not_null rest h.1
+type_still : (first : Token) (k : TypeRule) (rest : List Token) → Still first rest → Still first (write_type k rest)
+type_still first IntType rest h = λ past. (tt, h (Key word.Int ∷ past))
+type_still first IntegerType rest h = λ past. (tt, h (Key word.Integer ∷ past))
+type_still first BigintType rest h = λ past. (tt, h (Key word.Bigint ∷ past))
+type_still first TextType rest h = λ past. (tt, h (Key word.Text ∷ past))
+type_still first DateType rest h = λ past. (tt, h (Key word.Date ∷ past))
+type_still first (VarcharType digits) rest h = λ past. (tt, (tt, (tt, (tt, h (sign symbol.Close ∷ Digits digits ∷ sign symbol.Open ∷ Key word.Varchar ∷ past)))))
+
+coldef_still : (first : Token) → has_expressions (Some first) ≡ false → (coldef : ColdefRule) (rest : List Token) → Still first rest → Still first (write_coldef coldef rest)
+coldef_still first none coldef rest h = listed_still first none coldef.name (write_type coldef.kind (write_end coldef.end rest)) (type_still first coldef.kind (write_end coldef.end rest) (end_still first coldef.end rest h))
+
+column_word_still : (first : Token) (column_word : Bool) (rest : List Token) → Still first rest → Still first (write_column_word column_word rest)
+column_word_still first true rest h = λ past. (tt, h (Key word.Column ∷ past))
+column_word_still first false rest h = h
 
 -- ## Statements
 
@@ -179,12 +187,24 @@ create_still table coldefs = λ past. (
   (
     tt,
     listed_still (Key word.Create) refl table (write_enclosed write_coldef coldefs [])
-        (enclosed_still (Key word.Create) write_coldef coldef_still coldefs [] (λ inside. tt)) (Key word.Table ∷ Key word.Create ∷ past),
+        (enclosed_still (Key word.Create) write_coldef (λ coldef rest h. coldef_still (Key word.Create) refl coldef rest h.1) coldefs [] (λ inside. tt)) (Key word.Table ∷ Key word.Create ∷ past),
   ),
 )
 
 drop_still : (table : NameRule) → Still (Key word.Drop) (write_stmt (DropRule table))
 drop_still table = λ past. (tt, (tt, listed_still (Key word.Drop) refl table [] (λ inside. tt) (Key word.Table ∷ Key word.Drop ∷ past)))
+
+added_still : (column_word : Bool) (coldef : ColdefRule) → Still (Key word.Alter) (Key word.Add ∷ write_column_word column_word (write_coldef coldef []))
+added_still column_word coldef = λ past. (tt, column_word_still (Key word.Alter) column_word (write_coldef coldef []) (coldef_still (Key word.Alter) refl coldef [] (λ inside. tt)) (Key word.Add ∷ past))
+
+alter_still : (table : NameRule) (column_word : Bool) (coldef : ColdefRule) → Still (Key word.Alter) (write_stmt (AlterRule table column_word coldef))
+alter_still table column_word coldef = λ past. (
+  tt,
+  (
+    tt,
+    listed_still (Key word.Alter) refl table (Key word.Add ∷ write_column_word column_word (write_coldef coldef [])) (added_still column_word coldef) (Key word.Table ∷ Key word.Alter ∷ past),
+  ),
+)
 
 values_still : (rows : (LiteralRule × List LiteralRule) × List (LiteralRule × List LiteralRule)) → Still (Key word.Insert) (Key word.Values ∷ write_some write_row rows [])
 values_still rows = λ past. (tt, some_still (Key word.Insert) write_row row_still rows [] (end_calm (Key word.Insert)) (Key word.Values ∷ past))
@@ -212,6 +232,7 @@ update_still table sets cond = λ past. (tt, (name_calm (Key word.Update) table 
 pub no_rule_of : (rule : StmtRule) → IsFirstRule (write_stmt rule) None
 no_rule_of (CreateRule table coldefs) = from_first (Key word.Create) (write_stmt (CreateRule table coldefs)) refl (create_still table coldefs)
 no_rule_of (DropRule table) = from_first (Key word.Drop) (write_stmt (DropRule table)) refl (drop_still table)
+no_rule_of (AlterRule table column_word coldef) = from_first (Key word.Alter) (write_stmt (AlterRule table column_word coldef)) refl (alter_still table column_word coldef)
 no_rule_of (InsertRule table columns rows) = from_first (Key word.Insert) (write_stmt (InsertRule table columns rows)) refl (insert_still table columns rows)
 no_rule_of (DeleteRule table cond) = from_first (Key word.Delete) (write_stmt (DeleteRule table cond)) refl (delete_still table cond)
 no_rule_of (UpdateRule table sets cond) = from_first (Key word.Update) (write_stmt (UpdateRule table sets cond)) refl (update_still table sets cond)

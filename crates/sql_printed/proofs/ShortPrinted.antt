@@ -6,19 +6,20 @@ use Rattle.cell_core.specs.declared.cell.Cell.{Cell}
 use Rattle.cell_core.specs.declared.table.Column.{Column}
 use Rattle.sql_grammar.specs.Grammar.{sign, write_more, write_some, write_behind, write_name, LiteralRule, write_literal, write_column, FactorRule, write_factor, write_expr, aggregate_word, write_value, write_cmp, write_cond, write_unit, write_where}
 use Rattle.sql_grammar.specs.Grammar.NameRule.{BareName, QuotedName}
-use Rattle.sql_grammar.specs.Grammar.LiteralRule.{PlainDigits, MinusDigits, StringLiteral, DateLiteral}
-use Rattle.sql_grammar.specs.Statements.{write_alias, write_item, write_items, write_source, write_joins, write_place, write_order, write_key, write_digits, write_distinct, write_from, write_query, null_word, TypeRule, write_type, write_not_null, write_coldef, write_set, write_column_list, write_row, write_stmt}
+use Rattle.sql_grammar.specs.Grammar.LiteralRule.{PlainDigits, MinusDigits, StringLiteral, DateLiteral, NullLiteral}
+use Rattle.sql_grammar.specs.Statements.{write_alias, write_item, write_items, write_source, write_joins, write_place, write_order, write_key, write_digits, write_distinct, write_from, write_query, TypeRule, write_type, ColumnEnd, write_not_null, write_default, write_end, write_coldef, write_set, write_column_list, write_row, write_stmt}
 use Rattle.sql_grammar.specs.Statements.TypeRule.{IntType, IntegerType, BigintType, TextType, DateType, VarcharType}
+use Rattle.sql_grammar.specs.Statements.ColumnEnd.{PlainEnd, NotNullEnd, DefaultEnd, NotNullDefault, DefaultNotNull}
 use Rattle.sql_grammar.specs.Written.{IsLiteral}
 use Rattle.sql_printed.proofs.LevelLemmas.{all_true}
 use Rattle.sql_printed.proofs.ShortTold.{IsShort, IsShortToken, ShortTokens, ShortReference, ShortExpr, ShortCond, ShortItem, ShortSource, ShortPlace, ShortKey, ShortQuery, ShortColumn, ShortSet, ShortStmt}
-use Rattle.sql_printed.specs.CanonRules.{canon_all, canon_some, canon_any, canon_option, canon_name, canon_literal, column_rule, canon_reference, factor_rule, operator_rule, canon_factor, canon_operand, canon_expr, canon_value, canon_value_operand, canon_cmp, compared_unit, within_unit, canon_cond, canon_part, canon_where, canon_having, canon_alias, canon_item, canon_items, canon_source, canon_join, canon_column_of, canon_place, canon_order, canon_key, canon_limit, canon_sources, canon_from, canon_query, canon_type, canon_coldef, canon_listed_name, canon_row, canon_set, canon_stmt}
+use Rattle.sql_printed.specs.CanonRules.{canon_all, canon_some, canon_any, canon_option, canon_name, canon_literal, column_rule, canon_reference, factor_rule, operator_rule, canon_factor, canon_operand, canon_expr, canon_value, canon_value_operand, canon_cmp, compared_unit, within_unit, null_unit, canon_cond, canon_part, canon_where, canon_having, canon_alias, canon_item, canon_items, canon_source, canon_join, canon_column_of, canon_place, canon_order, canon_key, canon_limit, canon_sources, canon_from, canon_query, canon_type, canon_end, canon_coldef, canon_listed_name, canon_row, canon_set, canon_stmt}
 use Rattle.sql_printed.specs.Printable.{EachOfSome, IfThere, IsName, IsReference, IsPrintableExpr, IsPrintableValue, IsPrintableCond, IsPrintableWhere, IsPrintableHaving, IsPrintableItem, IsPrintableKey, IsPrintableSource, IsPrintableQuery, IsPrintableColumn, IsPrintableSet, IsPrintable}
 use Rattle.sql_tree.specs.Names.{is_bare_name}
 use Rattle.sql_tree.specs.Tree.{ExprTree, CondTree, ItemTree, QueryTree, StmtTree}
 use Rattle.sql_tree.specs.Tree.ExprTree.{Literal, ColumnOf, Operator, AggregateAll, Aggregate}
-use Rattle.sql_tree.specs.Tree.CondTree.{Compare, Within, Negation, Both, Either}
-use Rattle.sql_tree.specs.Tree.StmtTree.{CreateTable, DropTable, InsertInto, DeleteFrom, UpdateTable, Select, ExplainSelect}
+use Rattle.sql_tree.specs.Tree.CondTree.{Compare, Within, IsNull, Negation, Both, Either}
+use Rattle.sql_tree.specs.Tree.StmtTree.{CreateTable, DropTable, AlterTable, InsertInto, DeleteFrom, UpdateTable, Select, ExplainSelect}
 use Rattle.sql_tree.specs.declared.token.Keyword.{Keyword}
 use Rattle.sql_tree.specs.declared.token.Keyword.TheVariants as word
 use Rattle.sql_tree.specs.declared.token.Symbol.TheVariants as symbol
@@ -80,12 +81,14 @@ literal_short (PlainDigits digits) = one (Digits digits) refl
 literal_short (MinusDigits digits) = then (one (sign symbol.Minus) refl) (one (Digits digits) refl)
 literal_short (StringLiteral text) = one (Text text) refl
 literal_short (DateLiteral text is) = then (one (Key word.Date) refl) (one (Text text) refl)
+literal_short NullLiteral = one (Key word.Null) refl
 
 number_short : (l : LiteralRule) → Short (write_factor (factor_rule l))
 number_short (PlainDigits digits) = one (Digits digits) refl
 number_short (MinusDigits digits) = then (one (sign symbol.Minus) refl) (one (Digits digits) refl)
 number_short (StringLiteral text) = one (Text text) refl
 number_short (DateLiteral text is) = then (one (Key word.Date) refl) (one (Text text) refl)
+number_short NullLiteral = one (Key word.Null) refl
 
 by_table : (table : Option (List ℕ)) (column : List ℕ) → IfThere IsShort table → IsShort column → Short (write_column (column_rule table column))
 by_table None column x y = name_short column y
@@ -155,10 +158,14 @@ module _ {E : Type 0} (P : ExprTree → Type 0) (canon : (e : ExprTree) → P e 
   within_short : (of low high : ExprTree) (is : P of × P low × P high) → ShortExpr of → ShortExpr low → ShortExpr high → Short (write_unit write (within_unit P canon of low high is))
   within_short of low high is x y z = then (each_short of is.0 x) (then (one (Key word.Between) refl) (then (each_short low is.1 y) (then (one (Key word.And) refl) (each_short high is.2 z))))
 
+  null_test_short : (of : ExprTree) (is : P of) → ShortExpr of → Short (write_unit write (null_unit P canon of is))
+  null_test_short of is x = then (each_short of is x) (then (one (Key word.Is) refl) (one (Key word.Null) refl))
+
   mutual
     cond_short : (c : CondTree) (is : IsPrintableCond P c) → ShortCond c → Short (write_cond write (canon_cond P canon c is))
     cond_short (Compare op left right) is names = compared_short op left right is names.0 names.1
     cond_short (Within of low high) is names = within_short of low high is names.0 names.1 names.2
+    cond_short (IsNull of) is names = null_test_short of is names
     cond_short (Negation c) is names = then (one (Key word.Not) refl) (part_short c is names)
     cond_short (Both left right) is names = then (part_short left is.0 names.0) (then (one (Key word.And) refl) (part_short right is.1 names.1))
     cond_short (Either left right) is names = then (enclosed (cond_short left is.0 names.0)) (then (one (Key word.Or) refl) (enclosed (cond_short right is.1 names.1)))
@@ -166,6 +173,7 @@ module _ {E : Type 0} (P : ExprTree → Type 0) (canon : (e : ExprTree) → P e 
     part_short : (c : CondTree) (is : IsPrintableCond P c) → ShortCond c → Short (write_unit write (canon_part P canon c is))
     part_short (Compare op left right) is names = compared_short op left right is names.0 names.1
     part_short (Within of low high) is names = within_short of low high is names.0 names.1 names.2
+    part_short (IsNull of) is names = null_test_short of is names
     part_short (Negation c) is names = enclosed (then (one (Key word.Not) refl) (part_short c is names))
     part_short (Both left right) is names = enclosed (then (part_short left is.0 names.0) (then (one (Key word.And) refl) (part_short right is.1 names.1)))
     part_short (Either left right) is names = enclosed (then (enclosed (cond_short left is.0 names.0)) (then (one (Key word.Or) refl) (enclosed (cond_short right is.1 names.1))))
@@ -247,12 +255,21 @@ rule_short TextType = one (Key word.Text) refl
 rule_short DateType = one (Key word.Date) refl
 rule_short (VarcharType digits) = then (one (Key word.Varchar) refl) (enclosed (one (Digits digits) refl))
 
-not_null_short : (not_null : Bool) → Short (write_not_null not_null)
-not_null_short true = then (one (Key word.Not) refl) (one null_word refl)
-not_null_short false = nothing
+not_null_short : Short write_not_null
+not_null_short = then (one (Key word.Not) refl) (one (Key word.Null) refl)
+
+default_short : (l : LiteralRule) → Short (write_default l)
+default_short l = then (one (Key word.Default) refl) (literal_short l)
+
+end_short : (e : ColumnEnd) → Short (write_end e)
+end_short PlainEnd = nothing
+end_short NotNullEnd = not_null_short
+end_short (DefaultEnd l) = default_short l
+end_short (NotNullDefault l) = then not_null_short (default_short l)
+end_short (DefaultNotNull l) = then (default_short l) not_null_short
 
 coldef_short : (column : Column) (is : IsPrintableColumn column) → ShortColumn column → Short (write_coldef (canon_coldef column is))
-coldef_short column is names = then (name_short column.name names) (then (rule_short (canon_type column.kind column.width)) (not_null_short column.not_null))
+coldef_short column is names = then (name_short column.name names) (then (rule_short (canon_type column.kind column.width)) (end_short (canon_end column.not_null column.default is.2)))
 
 cell_short : (c : Cell) (is : IsLiteral c) → Unit {0} → Short (write_literal (canon_literal c is))
 cell_short c is names = literal_short (canon_literal c is)
@@ -280,6 +297,9 @@ short_printed (CreateTable table columns) is names =
     whole (then (one (Key word.Create) refl) (then (one (Key word.Table) refl) (then (name_short table names.0)
     (enclosed (some_short IsPrintableColumn canon_coldef write_coldef ShortColumn coldef_short columns is.1 names.1)))))
 short_printed (DropTable table) is names = whole (then (one (Key word.Drop) refl) (then (one (Key word.Table) refl) (name_short table names)))
+short_printed (AlterTable table column) is names =
+    whole (then (one (Key word.Alter) refl) (then (one (Key word.Table) refl) (then (name_short table names.0)
+    (then (one (Key word.Add) refl) (then (one (Key word.Column) refl) (coldef_short column is.1 names.1))))))
 short_printed (InsertInto table columns rows) is names =
     whole (then (one (Key word.Insert) refl) (then (one (Key word.Into) refl) (then (name_short table names.0) (then (column_list_short columns is.1 names.1)
     (then (one (Key word.Values) refl) (some_short (EachOfSome IsLiteral) canon_row write_row (λ x. Unit {0}) row_short rows is.2 (all_true rows)))))))

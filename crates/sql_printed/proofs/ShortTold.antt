@@ -3,37 +3,39 @@ use Rattle.std.proofs.Common.{◌≡◌, ℕ, List, [], ◌∷◌, ◌++◌, len
 use Rattle.std.specs.Prelude.{nat_lt}
 use Rattle.std.specs.List.{AllByRecursion}
 use Rattle.cell_core.specs.declared.table.Column.{Column}
-use Rattle.sql_grammar.specs.Grammar.{sign, all_of, any_of, write_more, write_some, write_enclosed, write_behind, NameRule, write_name, name_of, write_column, column_of, ExprRule, TermsRule, TermRule, FactorsRule, FactorRule, OperandRule, write_expr, write_terms, write_term, write_factors, write_factor, write_operand, sign_op, expr_of, terms_of, term_of, factors_of, factor_of, operand_of, write_value, value_of, write_cmp, TestRule, CondRule, ConjsRule, ConjRule, UnitsRule, UnitRule, write_test, write_cond, write_conjs, write_conj, write_units, write_unit, members_of, test_of, cond_of, conjs_of, conj_of, units_of, unit_of, WhereRule, write_where, where_of}
+use Rattle.sql_grammar.specs.Grammar.{sign, all_of, any_of, write_more, write_some, write_enclosed, write_behind, NameRule, write_name, name_of, LiteralRule, write_literal, write_column, column_of, ExprRule, TermsRule, TermRule, FactorsRule, FactorRule, OperandRule, write_expr, write_terms, write_term, write_factors, write_factor, write_operand, sign_op, expr_of, terms_of, term_of, factors_of, factor_of, operand_of, write_value, value_of, write_cmp, TestRule, CondRule, ConjsRule, ConjRule, UnitsRule, UnitRule, write_test, write_cond, write_conjs, write_conj, write_units, write_unit, members_of, test_of, cond_of, conjs_of, conj_of, units_of, unit_of, WhereRule, write_where, where_of}
 use Rattle.sql_grammar.specs.Grammar.NameRule.{BareName, QuotedName}
+use Rattle.sql_grammar.specs.Grammar.LiteralRule.{PlainDigits, MinusDigits, StringLiteral, DateLiteral, NullLiteral}
 use Rattle.sql_grammar.specs.Grammar.ColumnRule.{PlainColumn, TableColumn}
 use Rattle.sql_grammar.specs.Grammar.ExprRule.{Sum}
 use Rattle.sql_grammar.specs.Grammar.TermsRule.{NoTerm, MoreTerms}
 use Rattle.sql_grammar.specs.Grammar.TermRule.{Product}
 use Rattle.sql_grammar.specs.Grammar.FactorsRule.{NoFactor, MoreFactors}
 use Rattle.sql_grammar.specs.Grammar.FactorRule.{Number, Operand}
-use Rattle.sql_grammar.specs.Grammar.OperandRule.{NegativeNumber, StringOperand, DateOperand, ColumnOperand, Negated, Parenthesised}
+use Rattle.sql_grammar.specs.Grammar.OperandRule.{NegativeNumber, StringOperand, DateOperand, NullOperand, ColumnOperand, Negated, Parenthesised}
 use Rattle.sql_grammar.specs.Grammar.AggRule.{CountAll, AggregateOf}
 use Rattle.sql_grammar.specs.Grammar.ValueRule.{ExprValue, AggValue}
-use Rattle.sql_grammar.specs.Grammar.TestRule.{Comparison, BetweenTest, InTest}
+use Rattle.sql_grammar.specs.Grammar.TestRule.{Comparison, BetweenTest, InTest, NullTest}
 use Rattle.sql_grammar.specs.Grammar.CondRule.{Disjunction}
 use Rattle.sql_grammar.specs.Grammar.ConjsRule.{NoConj, MoreConjs}
 use Rattle.sql_grammar.specs.Grammar.ConjRule.{Conjunction}
 use Rattle.sql_grammar.specs.Grammar.UnitsRule.{NoUnit, MoreUnits}
 use Rattle.sql_grammar.specs.Grammar.UnitRule.{NotUnit, CondUnit, TestUnit}
 use Rattle.sql_grammar.specs.Refused.{is_long_name}
-use Rattle.sql_grammar.specs.Statements.{write_alias, alias_of, write_item, item_of, ItemsRule, write_items, items_of, write_source, source_of, JoinRule, write_joins, joined_source, and_also, on_conds, with_where, OrderRule, write_order, write_key, key_of, FromRule, write_digits, write_from, write_distinct, write_optional_from, query_from, QueryRule, write_query, query_of, TypeRule, write_type, write_not_null, write_coldef, coldef_of, write_set, set_of, write_column_list, write_row, StmtRule, write_stmt, stmt_of}
+use Rattle.sql_grammar.specs.Statements.{write_alias, alias_of, write_item, item_of, ItemsRule, write_items, items_of, write_source, source_of, JoinRule, write_joins, joined_source, and_also, on_conds, with_where, OrderRule, write_order, write_key, key_of, FromRule, write_digits, write_from, write_distinct, write_optional_from, query_from, QueryRule, write_query, query_of, TypeRule, write_type, ColumnEnd, write_not_null, write_end, write_coldef, coldef_of, write_column_word, write_set, set_of, write_column_list, write_row, StmtRule, write_stmt, stmt_of}
 use Rattle.sql_grammar.specs.Statements.AliasRule.{NoAlias, BareAlias, AsAlias}
 use Rattle.sql_grammar.specs.Statements.ItemsRule.{AllColumns, SomeItems}
 use Rattle.sql_grammar.specs.Statements.JoinRule.{CommaSource, JoinOn}
 use Rattle.sql_grammar.specs.Statements.PlaceRule.{PositionKey, ColumnKey}
 use Rattle.sql_grammar.specs.Statements.OrderRule.{NoOrder, AscOrder, DescOrder}
 use Rattle.sql_grammar.specs.Statements.TypeRule.{IntType, IntegerType, BigintType, TextType, DateType, VarcharType}
-use Rattle.sql_grammar.specs.Statements.StmtRule.{CreateRule, DropRule, InsertRule, DeleteRule, UpdateRule, SelectRule, ExplainRule}
+use Rattle.sql_grammar.specs.Statements.ColumnEnd.{PlainEnd, NotNullEnd, DefaultEnd, NotNullDefault, DefaultNotNull}
+use Rattle.sql_grammar.specs.Statements.StmtRule.{CreateRule, DropRule, AlterRule, InsertRule, DeleteRule, UpdateRule, SelectRule, ExplainRule}
 use Rattle.sql_printed.specs.Printable.{IfThere}
 use Rattle.sql_tree.specs.Tree.{ExprTree, CondTree, ItemTree, QueryTree, StmtTree}
 use Rattle.sql_tree.specs.Tree.ExprTree.{Literal, ColumnOf, Operator, AggregateAll, Aggregate}
-use Rattle.sql_tree.specs.Tree.CondTree.{Compare, Within, Negation, Both, Either}
-use Rattle.sql_tree.specs.Tree.StmtTree.{CreateTable, DropTable, InsertInto, DeleteFrom, UpdateTable, Select, ExplainSelect}
+use Rattle.sql_tree.specs.Tree.CondTree.{Compare, Within, IsNull, Negation, Both, Either}
+use Rattle.sql_tree.specs.Tree.StmtTree.{CreateTable, DropTable, AlterTable, InsertInto, DeleteFrom, UpdateTable, Select, ExplainSelect}
 use Rattle.sql_tree.specs.declared.token.Keyword.{Keyword}
 use Rattle.sql_tree.specs.declared.token.Keyword.TheVariants as word
 use Rattle.sql_tree.specs.declared.token.Symbol.TheVariants as symbol
@@ -71,6 +73,7 @@ ShortExpr (Aggregate f of) = ShortExpr of
 abbrev pub ShortCond : CondTree → Type 0
 ShortCond (Compare op left right) = ShortExpr left × ShortExpr right
 ShortCond (Within of low high) = ShortExpr of × ShortExpr low × ShortExpr high
+ShortCond (IsNull of) = ShortExpr of
 ShortCond (Negation c) = ShortCond c
 ShortCond (Both left right) = ShortCond left × ShortCond right
 ShortCond (Either left right) = ShortCond left × ShortCond right
@@ -105,6 +108,7 @@ ShortSet set = IsShort set.0 × ShortExpr set.1
 abbrev pub ShortStmt : StmtTree → Type 0
 ShortStmt (CreateTable table columns) = IsShort table × AllByRecursion ShortColumn columns
 ShortStmt (DropTable table) = IsShort table
+ShortStmt (AlterTable table column) = IsShort table × ShortColumn column
 ShortStmt (InsertInto table columns rows) = IsShort table × AllByRecursion IsShort columns
 ShortStmt (DeleteFrom table c) = IsShort table × IfThere ShortCond c
 ShortStmt (UpdateTable table sets c) = IsShort table × AllByRecursion ShortSet sets × IfThere ShortCond c
@@ -183,6 +187,7 @@ mutual
   operand_told (NegativeNumber digits) rest h = (tt, h.1.1)
   operand_told (StringOperand text) rest h = (tt, h.1)
   operand_told (DateOperand text is) rest h = (tt, h.1.1)
+  operand_told NullOperand rest h = (tt, h.1)
   operand_told (ColumnOperand column) rest h = column_told column rest h
   operand_told (Negated operand) rest h = let x = operand_told operand rest h.1 in ((tt, x.0), x.1)
   operand_told (Parenthesised e) rest h = let x = expr_told e (sign symbol.Close ∷ rest) h.1 in (x.0, x.1.1)
@@ -228,6 +233,8 @@ module _ {E : Type 0} (write : E → List Token → List Token) (tree : E → Ex
   test_told (InTest of false members) rest h =
       let x = told of (Key word.In ∷ write_enclosed write members rest) h in
       in_told of members rest x.0 x.1.1.1
+  test_told (NullTest of true) rest h = let x = told of (Key word.Is ∷ Key word.Not ∷ Key word.Null ∷ rest) h in (x.0, x.1.1.1.1)
+  test_told (NullTest of false) rest h = let x = told of (Key word.Is ∷ Key word.Null ∷ rest) h in (x.0, x.1.1.1)
 
   mutual
     cond_told : (r : CondRule E) (rest : List Token) → ShortTokens (write_cond write r rest) → ShortCond (cond_of tree r) × ShortTokens rest
@@ -356,14 +363,28 @@ type_told TextType rest h = h.1
 type_told DateType rest h = h.1
 type_told (VarcharType digits) rest h = h.1.1.1.1
 
-not_null_told : (not_null : Bool) (rest : List Token) → ShortTokens (write_not_null not_null rest) → ShortTokens rest
-not_null_told true rest h = h.1.1
-not_null_told false rest h = h
+literal_told : (l : LiteralRule) (rest : List Token) → ShortTokens (write_literal l rest) → ShortTokens rest
+literal_told (PlainDigits digits) rest h = h.1
+literal_told (MinusDigits digits) rest h = h.1.1
+literal_told (StringLiteral text) rest h = h.1
+literal_told (DateLiteral text is) rest h = h.1.1
+literal_told NullLiteral rest h = h.1
+
+end_told : (e : ColumnEnd) (rest : List Token) → ShortTokens (write_end e rest) → ShortTokens rest
+end_told PlainEnd rest h = h
+end_told NotNullEnd rest h = h.1.1
+end_told (DefaultEnd l) rest h = literal_told l rest h.1
+end_told (NotNullDefault l) rest h = literal_told l rest h.1.1.1
+end_told (DefaultNotNull l) rest h = let x = literal_told l (write_not_null rest) h.1 in x.1.1
 
 coldef_told : IsShortTold write_coldef coldef_of ShortColumn
 coldef_told coldef rest h =
-    let x = name_told coldef.name (write_type coldef.kind (write_not_null coldef.not_null rest)) h in
-    (x.0, not_null_told coldef.not_null rest (type_told coldef.kind (write_not_null coldef.not_null rest) x.1))
+    let x = name_told coldef.name (write_type coldef.kind (write_end coldef.end rest)) h in
+    (x.0, end_told coldef.end rest (type_told coldef.kind (write_end coldef.end rest) x.1))
+
+column_word_told : (column_word : Bool) (rest : List Token) → ShortTokens (write_column_word column_word rest) → ShortTokens rest
+column_word_told true rest h = h.1
+column_word_told false rest h = h
 
 set_told : IsShortTold write_set set_of ShortSet
 set_told set rest h =
@@ -382,6 +403,10 @@ short_told (CreateRule table coldefs) h =
     let y = some_told write_coldef coldef_of ShortColumn coldef_told coldefs (sign symbol.Close ∷ []) x.1.1 in
     (x.0, y.0)
 short_told (DropRule table) h = (name_told table [] h.1.1).0
+short_told (AlterRule table column_word coldef) h =
+    let x = name_told table (Key word.Add ∷ write_column_word column_word (write_coldef coldef [])) h.1.1 in
+    let y = coldef_told coldef [] (column_word_told column_word (write_coldef coldef []) x.1.1) in
+    (x.0, y.0)
 short_told (InsertRule table columns rows) h =
     let x = name_told table (write_column_list columns (Key word.Values ∷ write_some write_row rows [])) h.1.1 in
     let y = column_list_told columns (Key word.Values ∷ write_some write_row rows []) x.1 in

@@ -11,14 +11,15 @@ use Rattle.sql_grammar.specs.Reads.TokensRead.{RuleApplies, TooDeep, Underived, 
 use Rattle.sql_grammar.specs.Reads.IsReadAs.{Untold, Told}
 use Rattle.sql_grammar.specs.Written.{IsLiteral}
 use Rattle.sql_tree.specs.Exprs.{exprs_of_cond}
-use Rattle.sql_grammar.specs.Refused.{is_long_name, left_out, is_wide_cell, has_wide_literal, passes_literal, columns_pass, passed_limits, first_passed}
-use Rattle.sql_grammar.specs.Statements.{TypeRule, write_type, kind_of, width_of, write_not_null, write_coldef, coldef_of, write_set, set_of, write_column_list, write_row, row_of, StmtRule, write_stmt, stmt_of}
+use Rattle.sql_grammar.specs.Refused.{is_long_name, left_out, is_wide_cell, has_wide_literal, has_wide_default, passes_literal, columns_pass, passed_limits, first_passed}
+use Rattle.sql_grammar.specs.Statements.{TypeRule, write_type, kind_of, width_of, write_not_null, write_end, default_of, write_coldef, coldef_of, write_column_word, write_set, set_of, write_column_list, write_row, row_of, StmtRule, write_stmt, stmt_of}
 use Rattle.sql_grammar.specs.Statements.TypeRule.{IntType, IntegerType, BigintType, TextType, DateType, VarcharType}
-use Rattle.sql_grammar.specs.Statements.StmtRule.{CreateRule, DropRule, InsertRule, DeleteRule, UpdateRule, SelectRule, ExplainRule}
+use Rattle.sql_grammar.specs.Statements.ColumnEnd.{PlainEnd, NotNullEnd, DefaultEnd, NotNullDefault, DefaultNotNull}
+use Rattle.sql_grammar.specs.Statements.StmtRule.{CreateRule, DropRule, AlterRule, InsertRule, DeleteRule, UpdateRule, SelectRule, ExplainRule}
 use Rattle.sql_printed.proofs.ExprTold.{FineLiteral, literal_told, NotWide, expr_told, FineWhere, where_told}
 use Rattle.sql_printed.proofs.QueryTold.{where_fine, query_told}
 use Rattle.sql_printed.specs.Laws.{ReadIsPrintable}
-use Rattle.sql_printed.proofs.NamedLemmas.{Named, tokens_named, all_parts, all_mapped, some_meet, none_of, IsTold, some_told, option_told, name_told}
+use Rattle.sql_printed.proofs.NamedLemmas.{Named, tokens_named, all_both, all_parts, all_mapped, some_meet, none_of, IsTold, some_told, option_told, name_told}
 use Rattle.sql_printed.specs.Printable.{EachOfSome, IsName, IsPrintableKind, IsPrintableColumn, IsPrintableSet, IsPrintable}
 use Rattle.sql_tree.specs.Tree.{ExprTree, StmtTree}
 use Rattle.sql_tree.specs.Tokens.{AreTokens}
@@ -29,6 +30,9 @@ use Rattle.sql_tree.specs.declared.token.Token.{Token}
 use Rattle.sql_tree.specs.declared.token.Token.TheVariants.{Key}
 
 -- ## Columns, rows and sets
+
+abbrev is_long : Column → Bool
+is_long column = nat_lt 65535 column.width
 
 type_told : (r : TypeRule) (rest : List Token) → Named (write_type r rest) → (nat_lt 65535 (width_of r) ≡ false → IsPrintableKind (kind_of r) (width_of r)) × Named rest
 type_told IntType rest h = (λ w. refl, h.1)
@@ -41,18 +45,33 @@ type_told (VarcharType digits) rest h = (λ w. in_width (width_of (VarcharType d
     in_width : (n : ℕ) → nat_lt 65535 n ≡ false → n < 65536
     in_width n w = grind (arith, nat_tests)
 
-not_null_told : (not_null : Bool) (rest : List Token) → Named (write_not_null not_null rest) → Named rest
-not_null_told true rest h = h.1.1
-not_null_told false rest h = h
+end_told : IsTold write_end default_of FineLiteral
+end_told PlainEnd rest h = (λ w. tt, h)
+end_told NotNullEnd rest h = (λ w. tt, h.1.1)
+end_told (DefaultEnd literal) rest h = literal_told literal rest h.1
+end_told (NotNullDefault literal) rest h = literal_told literal rest h.1.1.1
+end_told (DefaultNotNull literal) rest h = let x = literal_told literal (write_not_null rest) h.1 in (x.0, x.1.1.1)
+
+-- a column within the limits of lengths and literals
+abbrev Narrow : Column → Type 0
+Narrow column = (is_long column ≡ false) × (is_wide_cell column.default ≡ false)
 
 abbrev FineColumn : Column → Type 0
-FineColumn column = nat_lt 65535 column.width ≡ false → IsPrintableColumn column
+FineColumn column = Narrow column → IsPrintableColumn column
 
 coldef_told : IsTold write_coldef coldef_of FineColumn
 coldef_told coldef rest h =
-    let x = name_told coldef.name (write_type coldef.kind (write_not_null coldef.not_null rest)) h in
-    let y = type_told coldef.kind (write_not_null coldef.not_null rest) x.1 in
-    (λ w. (x.0, y.0 w), not_null_told coldef.not_null rest y.1)
+    let x = name_told coldef.name (write_type coldef.kind (write_end coldef.end rest)) h in
+    let y = type_told coldef.kind (write_end coldef.end rest) x.1 in
+    let z = end_told coldef.end rest y.1 in
+    (λ w. (x.0, y.0 w.0, z.0 w.1), z.1)
+
+narrow_columns : (columns : List Column) → has_wide_default columns ≡ false → list_any is_long columns ≡ false → AllByRecursion Narrow columns
+narrow_columns columns narrow short = all_both (λ column. is_long column ≡ false) (λ (column : Column). is_wide_cell column.default ≡ false) columns (none_of is_long columns short) (none_of (λ (column : Column). is_wide_cell column.default) columns narrow)
+
+column_word_told : (column_word : Bool) (rest : List Token) → Named (write_column_word column_word rest) → Named rest
+column_word_told true rest h = h.1
+column_word_told false rest h = h
 
 abbrev FineRow : List Cell → Type 0
 FineRow row = list_any is_wide_cell row ≡ false → EachOfSome IsLiteral row
@@ -77,16 +96,18 @@ column_list_told (Some names) rest h = let x = some_told write_name name_of IsNa
 
 -- ## Statements
 
-abbrev is_long : Column → Bool
-is_long column = nat_lt 65535 column.width
-
 stmt_told : (r : StmtRule) → Named (write_stmt r) → left_out (stmt_of r) ≡ None → passes_literal (stmt_of r) ≡ false → columns_pass (list_any is_long) (stmt_of r) ≡ false → IsPrintable (stmt_of r)
 stmt_told (CreateRule table coldefs) h kept narrow short =
     let x = name_told table (write_enclosed write_coldef coldefs []) h.1.1 in
     let y = some_told write_coldef coldef_of FineColumn coldef_told coldefs (sign symbol.Close ∷ []) x.1.1 in
     let columns = map coldef_of (all_of coldefs) in
-    (x.0, some_meet IsPrintableColumn (λ column. is_long column ≡ false) columns y.0 (none_of is_long columns short))
+    (x.0, some_meet IsPrintableColumn Narrow columns y.0 (narrow_columns columns narrow short))
 stmt_told (DropRule table) h kept narrow short = (name_told table [] h.1.1).0
+stmt_told (AlterRule table column_word coldef) h kept narrow short =
+    let x = name_told table (Key word.Add ∷ write_column_word column_word (write_coldef coldef [])) h.1.1 in
+    let y = coldef_told coldef [] (column_word_told column_word (write_coldef coldef []) x.1.1) in
+    let all = narrow_columns (coldef_of coldef ∷ []) narrow short in
+    (x.0, y.0 all.0)
 stmt_told (InsertRule table columns rows) h kept narrow short =
     let x = name_told table (write_column_list columns (Key word.Values ∷ write_some write_row rows [])) h.1.1 in
     let y = column_list_told columns (Key word.Values ∷ write_some write_row rows []) x.1 in

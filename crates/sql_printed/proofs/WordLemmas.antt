@@ -8,7 +8,6 @@ use Rattle.std.proofs.lemmas.Bool.Decides.{nat_tests}
 use Rattle.std.proofs.lemmas.Str.Parse.{digit_from_value}
 use Rattle.sql_grammar.specs.Grammar.{write_name, sign}
 use Rattle.sql_grammar.specs.Grammar.NameRule.{BareName, QuotedName}
-use Rattle.sql_grammar.specs.Statements.{null_word}
 use Rattle.sql_printed.proofs.CutLemmas.{Cut, put, ends, Lead, Middle, Printed, lead_lead, blank}
 use Rattle.sql_printed.specs.CanonRules.{canon_name}
 use Rattle.sql_printed.specs.Printable.{IsName}
@@ -17,7 +16,7 @@ use Rattle.sql_tree.specs.Canon.{quoted_text}
 use Rattle.sql_tree.specs.Names.{is_low_word, is_reserved_word, is_bare_name, name_text}
 use Rattle.sql_tree.specs.Tokens.{ends_symbol}
 use Rattle.sql_tree.specs.Tokens.Part.{Letters, Number, QuotedName as NameInQuotes, QuotedText, Mark}
-use Rattle.sql_tree.specs.Words.{keyword_of, is_unsupported_word, keyword_token, word_token}
+use Rattle.sql_tree.specs.Words.{keywords, keyword_of, is_unsupported_word, keyword_token, word_token}
 use Rattle.sql_tree.specs.declared.token.Keyword.{Keyword}
 use Rattle.sql_tree.specs.declared.token.Keyword.TheVariants as word
 use Rattle.sql_tree.specs.declared.token.Symbol.TheVariants as symbol
@@ -57,15 +56,19 @@ word_printed (b ∷ bs) t is same = record {
 
 -- the text of a keyword
 abbrev pub key_text : Keyword → List ℕ
+key_text word.Add = codes "ADD"
+key_text word.Alter = codes "ALTER"
 key_text word.And = codes "AND"
 key_text word.As = codes "AS"
 key_text word.Asc = codes "ASC"
 key_text word.Between = codes "BETWEEN"
 key_text word.Bigint = codes "BIGINT"
 key_text word.By = codes "BY"
+key_text word.Column = codes "COLUMN"
 key_text word.Count = codes "COUNT"
 key_text word.Create = codes "CREATE"
 key_text word.Date = codes "DATE"
+key_text word.Default = codes "DEFAULT"
 key_text word.Delete = codes "DELETE"
 key_text word.Desc = codes "DESC"
 key_text word.Distinct = codes "DISTINCT"
@@ -80,11 +83,13 @@ key_text word.Insert = codes "INSERT"
 key_text word.Int = codes "INT"
 key_text word.Integer = codes "INTEGER"
 key_text word.Into = codes "INTO"
+key_text word.Is = codes "IS"
 key_text word.Join = codes "JOIN"
 key_text word.Limit = codes "LIMIT"
 key_text word.Max = codes "MAX"
 key_text word.Min = codes "MIN"
 key_text word.Not = codes "NOT"
+key_text word.Null = codes "NULL"
 key_text word.On = codes "ON"
 key_text word.Or = codes "OR"
 key_text word.Order = codes "ORDER"
@@ -100,16 +105,20 @@ key_text word.Where = codes "WHERE"
 
 -- it is a word, and that keyword's
 key_is : (k : Keyword) → (is_word (key_text k) ≡ true) × (word_token (map low (key_text k)) ≡ token.Key k)
-unfolding keyword_of
+unfolding keyword_of keywords
+key_is word.Add = (refl, refl)
+key_is word.Alter = (refl, refl)
 key_is word.And = (refl, refl)
 key_is word.As = (refl, refl)
 key_is word.Asc = (refl, refl)
 key_is word.Between = (refl, refl)
 key_is word.Bigint = (refl, refl)
 key_is word.By = (refl, refl)
+key_is word.Column = (refl, refl)
 key_is word.Count = (refl, refl)
 key_is word.Create = (refl, refl)
 key_is word.Date = (refl, refl)
+key_is word.Default = (refl, refl)
 key_is word.Delete = (refl, refl)
 key_is word.Desc = (refl, refl)
 key_is word.Distinct = (refl, refl)
@@ -124,11 +133,13 @@ key_is word.Insert = (refl, refl)
 key_is word.Int = (refl, refl)
 key_is word.Integer = (refl, refl)
 key_is word.Into = (refl, refl)
+key_is word.Is = (refl, refl)
 key_is word.Join = (refl, refl)
 key_is word.Limit = (refl, refl)
 key_is word.Max = (refl, refl)
 key_is word.Min = (refl, refl)
 key_is word.Not = (refl, refl)
+key_is word.Null = (refl, refl)
 key_is word.On = (refl, refl)
 key_is word.Or = (refl, refl)
 key_is word.Order = (refl, refl)
@@ -153,10 +164,6 @@ key_blank k = record {
 
 pub spaced_key : (k : Keyword) → Middle (32 ∷ key_text k ++ 32 ∷ []) (λ ts. token.Key k ∷ ts)
 spaced_key k = record { middle = lead_lead blank (key_blank k); opens = λ rest. refl }
-
-pub null_printed : Printed (codes "NULL") (λ ts. null_word ∷ ts)
-unfolding keyword_of is_unsupported_word
-null_printed = word_printed (codes "NULL") null_word refl refl
 
 -- ## Numbers
 

@@ -9,38 +9,39 @@ use Rattle.cell_core.specs.declared.cell.Kind.TheVariants as kind
 use Rattle.cell_core.specs.declared.table.Column.{Column}
 use Rattle.sql_grammar.specs.Grammar.{NameRule, LiteralRule, ColumnRule, ExprRule, FactorRule, ValueRule, CmpRule, CondRule, UnitRule, WhereRule, HavingRule}
 use Rattle.sql_grammar.specs.Grammar.NameRule.{BareName, QuotedName}
-use Rattle.sql_grammar.specs.Grammar.LiteralRule.{PlainDigits, MinusDigits, StringLiteral, DateLiteral}
+use Rattle.sql_grammar.specs.Grammar.LiteralRule.{PlainDigits, MinusDigits, StringLiteral, DateLiteral, NullLiteral}
 use Rattle.sql_grammar.specs.Grammar.ColumnRule.{PlainColumn, TableColumn}
 use Rattle.sql_grammar.specs.Grammar.ExprRule.{Sum}
 use Rattle.sql_grammar.specs.Grammar.TermsRule.{NoTerm, MoreTerms}
 use Rattle.sql_grammar.specs.Grammar.TermRule.{Product}
 use Rattle.sql_grammar.specs.Grammar.FactorsRule.{NoFactor, MoreFactors}
 use Rattle.sql_grammar.specs.Grammar.FactorRule.{Number, Operand}
-use Rattle.sql_grammar.specs.Grammar.OperandRule.{NegativeNumber, StringOperand, DateOperand, ColumnOperand, Parenthesised}
+use Rattle.sql_grammar.specs.Grammar.OperandRule.{NegativeNumber, StringOperand, DateOperand, NullOperand, ColumnOperand, Parenthesised}
 use Rattle.sql_grammar.specs.Grammar.SignRule.{PlusSign, MinusSign}
 use Rattle.sql_grammar.specs.Grammar.AggRule.{CountAll, AggregateOf}
 use Rattle.sql_grammar.specs.Grammar.ValueRule.{ExprValue, AggValue}
 use Rattle.sql_grammar.specs.Grammar.CmpRule.{EqualSign, NotEqualSign, LessSign, LessEqualSign, GreaterSign, GreaterEqualSign}
-use Rattle.sql_grammar.specs.Grammar.TestRule.{Comparison, BetweenTest}
+use Rattle.sql_grammar.specs.Grammar.TestRule.{Comparison, BetweenTest, NullTest}
 use Rattle.sql_grammar.specs.Grammar.CondRule.{Disjunction}
 use Rattle.sql_grammar.specs.Grammar.ConjsRule.{NoConj, MoreConjs}
 use Rattle.sql_grammar.specs.Grammar.ConjRule.{Conjunction}
 use Rattle.sql_grammar.specs.Grammar.UnitsRule.{NoUnit, MoreUnits}
 use Rattle.sql_grammar.specs.Grammar.UnitRule.{NotUnit, CondUnit, TestUnit}
-use Rattle.sql_grammar.specs.Statements.{AliasRule, ItemsRule, JoinRule, PlaceRule, OrderRule, FromRule, QueryRule, TypeRule, ColdefRule, StmtRule}
+use Rattle.sql_grammar.specs.Statements.{AliasRule, ItemsRule, JoinRule, PlaceRule, OrderRule, FromRule, QueryRule, TypeRule, ColumnEnd, ColdefRule, StmtRule}
 use Rattle.sql_grammar.specs.Statements.AliasRule.{NoAlias, AsAlias}
 use Rattle.sql_grammar.specs.Statements.ItemsRule.{AllColumns, SomeItems}
 use Rattle.sql_grammar.specs.Statements.JoinRule.{CommaSource}
 use Rattle.sql_grammar.specs.Statements.PlaceRule.{PositionKey, ColumnKey}
 use Rattle.sql_grammar.specs.Statements.OrderRule.{NoOrder, DescOrder}
 use Rattle.sql_grammar.specs.Statements.TypeRule.{IntType, TextType, DateType, VarcharType}
-use Rattle.sql_grammar.specs.Statements.StmtRule.{CreateRule, DropRule, InsertRule, DeleteRule, UpdateRule, SelectRule, ExplainRule}
+use Rattle.sql_grammar.specs.Statements.ColumnEnd.{PlainEnd, NotNullEnd, DefaultEnd, NotNullDefault}
+use Rattle.sql_grammar.specs.Statements.StmtRule.{CreateRule, DropRule, AlterRule, InsertRule, DeleteRule, UpdateRule, SelectRule, ExplainRule}
 use Rattle.sql_grammar.specs.Written.{IsLiteral}
 use Rattle.sql_tree.specs.Names.{is_bare_name}
 use Rattle.sql_tree.specs.Tree.{ExprTree, CondTree, ItemTree, QueryTree, StmtTree}
 use Rattle.sql_tree.specs.Tree.ExprTree.{Literal, ColumnOf, Operator, AggregateAll, Aggregate}
-use Rattle.sql_tree.specs.Tree.CondTree.{Compare, Within, Negation, Both, Either}
-use Rattle.sql_tree.specs.Tree.StmtTree.{CreateTable, DropTable, InsertInto, DeleteFrom, UpdateTable, Select, ExplainSelect}
+use Rattle.sql_tree.specs.Tree.CondTree.{Compare, Within, IsNull, Negation, Both, Either}
+use Rattle.sql_tree.specs.Tree.StmtTree.{CreateTable, DropTable, AlterTable, InsertInto, DeleteFrom, UpdateTable, Select, ExplainSelect}
 use Rattle.sql_tree.specs.declared.tree.ArithOp.{ArithOp}
 use Rattle.sql_tree.specs.declared.tree.ArithOp.TheVariants as arith
 use Rattle.sql_tree.specs.declared.tree.CmpOp.{CmpOp}
@@ -87,7 +88,7 @@ canon_literal (cell.Int (pos n)) is = PlainDigits (decimal n)
 canon_literal (cell.Int (negsuc n)) is = MinusDigits (decimal (suc n))
 canon_literal (cell.Text text) is = StringLiteral text
 canon_literal (cell.Day day) is = DateLiteral is.0 is.1
-canon_literal cell.Nil is = absurd is
+canon_literal cell.Nil is = NullLiteral
 canon_literal (cell.Huge n) is = absurd is
 canon_literal (cell.Bit b) is = absurd is
 canon_literal (cell.Oid n) is = absurd is
@@ -109,6 +110,7 @@ factor_rule (PlainDigits digits) = Number digits
 factor_rule (MinusDigits digits) = Operand (NegativeNumber digits)
 factor_rule (StringLiteral text) = Operand (StringOperand text)
 factor_rule (DateLiteral text is) = Operand (DateOperand text is)
+factor_rule NullLiteral = Operand NullOperand
 
 -- an operator between two operands
 abbrev pub operator_rule : ArithOp → FactorRule → FactorRule → ExprRule
@@ -188,10 +190,15 @@ module _ {E : Type 0} (P : ExprTree → Type 0) (canon : (e : ExprTree) → P e 
   abbrev pub within_unit : (of low high : ExprTree) → P of × P low × P high → UnitRule E
   within_unit of low high is = TestUnit (BetweenTest (canon of is.0) false (canon low is.1) (canon high is.2))
 
+  -- an IS NULL
+  abbrev pub null_unit : (of : ExprTree) → P of → UnitRule E
+  null_unit of is = TestUnit (NullTest (canon of is) false)
+
   abbrev mutual
     pub canon_cond : (c : CondTree) → IsPrintableCond P c → CondRule E
     canon_cond (Compare op left right) is = unit_rule (compared_unit op left right is)
     canon_cond (Within of low high) is = unit_rule (within_unit of low high is)
+    canon_cond (IsNull of) is = unit_rule (null_unit of is)
     canon_cond (Negation c) is = unit_rule (NotUnit (canon_part c is))
     canon_cond (Both left right) is = both_rule (canon_part left is.0) (canon_part right is.1)
     canon_cond (Either left right) is = either_rule (CondUnit (canon_cond left is.0)) (CondUnit (canon_cond right is.1))
@@ -200,6 +207,7 @@ module _ {E : Type 0} (P : ExprTree → Type 0) (canon : (e : ExprTree) → P e 
     pub canon_part : (c : CondTree) → IsPrintableCond P c → UnitRule E
     canon_part (Compare op left right) is = compared_unit op left right is
     canon_part (Within of low high) is = within_unit of low high is
+    canon_part (IsNull of) is = null_unit of is
     canon_part (Negation c) is = CondUnit (unit_rule (NotUnit (canon_part c is)))
     canon_part (Both left right) is = CondUnit (both_rule (canon_part left is.0) (canon_part right is.1))
     canon_part (Either left right) is = CondUnit (either_rule (CondUnit (canon_cond left is.0)) (CondUnit (canon_cond right is.1)))
@@ -288,9 +296,16 @@ canon_type kind.Text width = if width == 0 then TextType else VarcharType (decim
 canon_type kind.Day width = DateType
 canon_type other width = IntType
 
--- a column of CREATE
+-- what follows the type of a column: a default that is Nil is left out, any other stands behind NOT NULL
+abbrev pub canon_end : Bool → (default : Cell) → IsLiteral default → ColumnEnd
+canon_end true cell.Nil is = NotNullEnd
+canon_end false cell.Nil is = PlainEnd
+canon_end true default is = NotNullDefault (canon_literal default is)
+canon_end false default is = DefaultEnd (canon_literal default is)
+
+-- a column of CREATE or ALTER
 abbrev pub canon_coldef : (column : Column) → IsPrintableColumn column → ColdefRule
-canon_coldef column is = record { name = canon_name column.name; kind = canon_type column.kind column.width; not_null = column.not_null }
+canon_coldef column is = record { name = canon_name column.name; kind = canon_type column.kind column.width; end = canon_end column.not_null column.default is.2 }
 
 -- a column of the list of an INSERT
 abbrev pub canon_listed_name : (name : List ℕ) → IsName name → NameRule
@@ -308,6 +323,7 @@ canon_set set is = (canon_name set.0, canon_expr set.1 is.1)
 abbrev pub canon_stmt : (s : StmtTree) → IsPrintable s → StmtRule
 canon_stmt (CreateTable table columns) is = CreateRule (canon_name table) (canon_some IsPrintableColumn canon_coldef columns is.1)
 canon_stmt (DropTable table) is = DropRule (canon_name table)
+canon_stmt (AlterTable table column) is = AlterRule (canon_name table) true (canon_coldef column is.1)
 canon_stmt (InsertInto table columns rows) is = InsertRule (canon_name table) (canon_any IsName canon_listed_name columns is.1) (canon_some (EachOfSome IsLiteral) canon_row rows is.2)
 canon_stmt (DeleteFrom table cond) is = DeleteRule (canon_name table) (canon_option (IsPrintableCond IsPrintableExpr) canon_where cond is.1)
 canon_stmt (UpdateTable table sets cond) is = UpdateRule (canon_name table) (canon_some IsPrintableSet canon_set sets is.1) (canon_option (IsPrintableCond IsPrintableExpr) canon_where cond is.2)

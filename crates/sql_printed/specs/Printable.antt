@@ -8,8 +8,8 @@ use Rattle.cell_core.specs.declared.table.Column.{Column}
 use Rattle.sql_grammar.specs.Written.{IsLiteral}
 use Rattle.sql_tree.specs.Tree.{ExprTree, CondTree, ItemTree, QueryTree, StmtTree}
 use Rattle.sql_tree.specs.Tree.ExprTree.{Literal, ColumnOf, Operator, AggregateAll, Aggregate}
-use Rattle.sql_tree.specs.Tree.CondTree.{Compare, Within, Negation, Both, Either}
-use Rattle.sql_tree.specs.Tree.StmtTree.{CreateTable, DropTable, InsertInto, DeleteFrom, UpdateTable, Select, ExplainSelect}
+use Rattle.sql_tree.specs.Tree.CondTree.{Compare, Within, IsNull, Negation, Both, Either}
+use Rattle.sql_tree.specs.Tree.StmtTree.{CreateTable, DropTable, AlterTable, InsertInto, DeleteFrom, UpdateTable, Select, ExplainSelect}
 use Rattle.sql_tree.specs.declared.tree.AggOp.{AggOp}
 use Rattle.sql_tree.specs.declared.tree.AggOp.TheVariants as aggregate
 use Rattle.sql_tree.specs.declared.tree.ColRef.{ColRef}
@@ -65,6 +65,7 @@ IsPrintableValue (Aggregate f of) = IsPrintableExpr of
 abbrev pub IsPrintableCond : (ExprTree → Type 0) → CondTree → Type 0
 IsPrintableCond P (Compare op left right) = P left × P right
 IsPrintableCond P (Within of low high) = P of × P low × P high
+IsPrintableCond P (IsNull of) = P of
 IsPrintableCond P (Negation cond) = IsPrintableCond P cond
 IsPrintableCond P (Both left right) = IsPrintableCond P left × IsPrintableCond P right
 IsPrintableCond P (Either left right) = IsPrintableCond P left × IsPrintableCond P right
@@ -119,9 +120,9 @@ IsPrintableKind kind.Text width = width < 65536
 IsPrintableKind kind.Day width = width ≡ 0
 IsPrintableKind other width = ⊥
 
--- a column of CREATE
+-- a column of CREATE or ALTER
 abbrev pub IsPrintableColumn : Column → Type 0
-IsPrintableColumn column = IsName column.name × IsPrintableKind column.kind column.width
+IsPrintableColumn column = IsName column.name × IsPrintableKind column.kind column.width × IsLiteral column.default
 
 -- a column of UPDATE and its new value
 abbrev pub IsPrintableSet : List ℕ × ExprTree → Type 0
@@ -131,6 +132,7 @@ IsPrintableSet set = IsName set.0 × IsPrintableExpr set.1
 abbrev pub IsPrintable : StmtTree → Type 0
 IsPrintable (CreateTable table columns) = IsName table × EachOfSome IsPrintableColumn columns
 IsPrintable (DropTable table) = IsName table
+IsPrintable (AlterTable table column) = IsName table × IsPrintableColumn column
 IsPrintable (InsertInto table columns rows) = IsName table × AllByRecursion IsName columns × EachOfSome (EachOfSome IsLiteral) rows
 IsPrintable (DeleteFrom table cond) = IsName table × IfThere IsPrintableWhere cond
 IsPrintable (UpdateTable table sets cond) = IsName table × EachOfSome IsPrintableSet sets × IfThere IsPrintableWhere cond

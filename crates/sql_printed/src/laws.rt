@@ -20,16 +20,3 @@ pub fn printed_tokens()
 pub fn printed_reads()
     ensures { PrintedReads }
 {}
-
-#[cfg(test)]
-mod tests {
-    use super::*;
-
-    #[test]
-    fn statements_are_read_and_printed() {
-        read_is_printable();
-        printed_derives();
-        printed_tokens();
-        printed_reads();
-    }
-}

@@ -1,19 +1,19 @@
 -- What is read as an aggregate or a condition is what a derivation writes.
-use Rattle.std.proofs.Common.{◌≡◌, ℕ, zero, suc, List, [], ◌∷◌, length, map, Bool, true, false, Some, refl, ap, sym, ◌∙◌, inl, inr, cond}
-use Rattle.sql_grammar.specs.Grammar.{sign, write_more, write_enclosed, write_expr, expr_of, aggregate_word, write_agg, agg_of, write_value, value_of, CmpRule, write_cmp, cmp_of, TestRule, write_test, write_cond, write_conjs, write_conj, write_units, write_unit, members_of, test_of, cond_of, conjs_of, conj_of, units_of, unit_of}
+use Rattle.std.proofs.Common.{◌≡◌, ℕ, zero, suc, List, [], ◌∷◌, length, map, Bool, true, false, Some, None, refl, ap, sym, ◌∙◌, inl, inr, cond}
+use Rattle.sql_grammar.specs.Grammar.{sign, write_more, write_enclosed, write_expr, expr_of, aggregate_word, write_agg, agg_of, write_value, value_of, CmpRule, write_cmp, cmp_of, TestRule, write_test, write_cond, write_conjs, write_conj, write_units, write_unit, write_not, denied_if, members_of, test_of, cond_of, conjs_of, conj_of, units_of, unit_of}
 use Rattle.sql_grammar.specs.Grammar.AggRule.{CountAll, AggregateOf}
 use Rattle.sql_grammar.specs.Grammar.ValueRule.{ExprValue, AggValue}
 use Rattle.sql_grammar.specs.Grammar.CmpRule.{EqualSign, NotEqualSign, BangEqualSign, LessSign, LessEqualSign, GreaterSign, GreaterEqualSign}
-use Rattle.sql_grammar.specs.Grammar.TestRule.{Comparison, BetweenTest, InTest}
+use Rattle.sql_grammar.specs.Grammar.TestRule.{Comparison, BetweenTest, InTest, NullTest}
 use Rattle.sql_grammar.specs.Grammar.CondRule.{Disjunction}
 use Rattle.sql_grammar.specs.Grammar.ConjsRule.{NoConj, MoreConjs}
 use Rattle.sql_grammar.specs.Grammar.ConjRule.{Conjunction}
 use Rattle.sql_grammar.specs.Grammar.UnitsRule.{NoUnit, MoreUnits}
 use Rattle.sql_grammar.specs.Grammar.UnitRule.{NotUnit, CondUnit, TestUnit}
 use Rattle.sql_reader.specs.Bounded.{Builder}
-use Rattle.sql_reader.specs.Chain.{Parser, first_token, after_first, then_read, or_read, chain}
+use Rattle.sql_reader.specs.Chain.{Found, Parser, first_token, after_first, then_read, or_read, chain}
 use Rattle.sql_reader.specs.CondReader as reader
-use Rattle.sql_reader.specs.CondReader.{aggregate_in, comparison_in, or_in, and_in, is_all, or_member, both_of, either_of, denied, whole_expr, argument, value, within, members, listed, range_at, range, test_behind, test, conjunction, condition, enclosed, unit}
+use Rattle.sql_reader.specs.CondReader.{aggregate_in, comparison_in, or_in, and_in, is_all, or_member, both_of, either_of, denied, whole_expr, argument, value, within, members, listed, range_at, range, null_test, word_test, test_behind, any_test, conjunction, condition, enclosed, unit}
 use Rattle.sql_reader.specs.Derived.{expr_with, cond_with}
 use Rattle.sql_reader.specs.Parts.{is_key, comma_in}
 use Rattle.sql_reader.specs.Reader.{closed, factor}
@@ -22,7 +22,7 @@ use Rattle.sql_reader.proofs.ExprFound.{IsWritten, IsSound, expr_found, factor_f
 use Rattle.sql_reader.proofs.TokenLemmas.{key_found, symbol_found, comma_found, closed_found}
 use Rattle.sql_tree.specs.Tree.{ExprTree, CondTree}
 use Rattle.sql_tree.specs.Tree.ExprTree.{AggregateAll, Aggregate}
-use Rattle.sql_tree.specs.Tree.CondTree.{Compare, Within, Negation, Both, Either}
+use Rattle.sql_tree.specs.Tree.CondTree.{Compare, Within, IsNull, Negation, Both, Either}
 use Rattle.sql_tree.specs.declared.token.Keyword.TheVariants as word
 use Rattle.sql_tree.specs.declared.token.Keyword.{Keyword}
 use Rattle.sql_tree.specs.declared.token.Symbol.TheVariants as symbol
@@ -223,11 +223,48 @@ module _ (build : Builder) {E : Type 0} (write : E → List Token → List Token
             means = ap (cond_with build) (ranged_means of r.rule) ∙ r.means;
           }
 
+  -- NULL behind `e IS` and what stands between
+  null_found : (of : E) (denied : Bool) (ts : List Token) (x : CondTree) (rest : List Token) → cond {A = Found CondTree} (is_key word.Null (first_token ts)) (Some (denied_if denied (IsNull (expr_with build (tree of))), after_first ts)) None ≡ Some (x, rest) → (write_test write (NullTest of denied) rest ≡ write of (Key word.Is ∷ write_not denied ts)) × (cond_with build (test_of tree (NullTest of denied)) ≡ x)
+  null_found of denied ts x rest h =
+      let g = guard_found _ _ _ h in
+      let parts = pair_found _ _ _ _ g.1 in
+      (written denied (ap (λ r. Key word.Null ∷ r) (sym parts.1) ∙ key_found word.Null ts g.0), means denied ∙ parts.0)
+    where
+      written : (denied : Bool) → Key word.Null ∷ rest ≡ ts → write_test write (NullTest of denied) rest ≡ write of (Key word.Is ∷ write_not denied ts)
+      written true e = ap (λ r. write of (Key word.Is ∷ Key word.Not ∷ r)) e
+      written false e = ap (λ r. write of (Key word.Is ∷ r)) e
+
+      means : (denied : Bool) → cond_with build (test_of tree (NullTest of denied)) ≡ denied_if denied (IsNull (expr_with build (tree of)))
+      means true = refl
+      means false = refl
+
+  null_test_found : (of : E) (ts : List Token) (x : CondTree) (rest : List Token) → null_test (expr_with build (tree of)) ts ≡ Some (x, rest) → IsWritten (write_test write) (λ d. cond_with build (test_of tree d)) (write of (Key word.Is ∷ ts)) x rest
+  unfolding null_test
+  null_test_found of ts x rest h = at (is_key word.Not (first_token ts)) refl h
+    where
+      at : (b : Bool) → is_key word.Not (first_token ts) ≡ b → cond {A = Found CondTree} b (cond {A = Found CondTree} (is_key word.Null (first_token (after_first ts))) (Some (Negation (IsNull (expr_with build (tree of))), after_first (after_first ts))) None) (cond {A = Found CondTree} (is_key word.Null (first_token ts)) (Some (IsNull (expr_with build (tree of)), after_first ts)) None) ≡ Some (x, rest) → IsWritten (write_test write) (λ d. cond_with build (test_of tree d)) (write of (Key word.Is ∷ ts)) x rest
+      at true e h =
+          let n = null_found of true (after_first ts) x rest h in
+          record { rule = NullTest of true; written = n.0 ∙ ap (λ r. write of (Key word.Is ∷ r)) (key_found word.Not ts e); means = n.1 }
+      at false e h =
+          let n = null_found of false ts x rest h in
+          record { rule = NullTest of false; written = n.0; means = n.1 }
+
+  word_test_found : (of : E) (ts : List Token) (x : CondTree) (rest : List Token) → word_test build operand (expr_with build (tree of)) ts ≡ Some (x, rest) → IsWritten (write_test write) (λ d. cond_with build (test_of tree d)) (write of ts) x rest
+  unfolding word_test
+  word_test_found of ts x rest h = at (is_key word.Is (first_token ts)) refl h
+    where
+      at : (b : Bool) → is_key word.Is (first_token ts) ≡ b → cond b (null_test (expr_with build (tree of)) (after_first ts)) (range build operand (expr_with build (tree of)) ts) ≡ Some (x, rest) → IsWritten (write_test write) (λ d. cond_with build (test_of tree d)) (write of ts) x rest
+      at true e h =
+          let n = null_test_found of (after_first ts) x rest h in
+          record { rule = n.rule; written = n.written ∙ ap (write of) (key_found word.Is ts e); means = n.means }
+      at false e h = range_found of ts x rest h
+
   behind_found : (of : E) (ts : List Token) (x : CondTree) (rest : List Token) → test_behind build operand (expr_with build (tree of)) ts ≡ Some (x, rest) → IsWritten (write_test write) (λ d. cond_with build (test_of tree d)) (write of ts) x rest
   unfolding test_behind
   behind_found of ts x rest h =
       elim (given_found (comparison_in (first_token ts)) _ _ (Some (x, rest)) h) [
-        | inl e ↦ range_found of ts x rest e.1
+        | inl e ↦ word_test_found of ts x rest e.1
         | inr s ↦
             let f = then_found _ _ _ s.2 in
             let parts = pair_found _ _ _ _ f.2 in
@@ -240,8 +277,8 @@ module _ (build : Builder) {E : Type 0} (write : E → List Token → List Token
             }
       ]
 
-  test_found : IsSound (write_test write) (λ d. cond_with build (test_of tree d)) (test build operand)
-  unfolding test
+  test_found : IsSound (write_test write) (λ d. cond_with build (test_of tree d)) (any_test build operand)
+  unfolding any_test
   test_found ts x rest h =
       let f = then_found _ _ _ h in
       let of = sound ts f.0.0 f.0.1 f.1 in
@@ -317,7 +354,7 @@ module _ (build : Builder) {E : Type 0} (write : E → List Token → List Token
     unit_of_found : (ts : List Token) (x : CondTree) (rest : List Token) → reader.unit_of build operand part ts ≡ Some (x, rest) → IsWritten (write_unit write) (λ d. cond_with build (unit_of tree d)) ts x rest
     unit_of_found ts x rest h = at (is_key word.Not (first_token ts)) refl h
       where
-        at : (b : Bool) → is_key word.Not (first_token ts) ≡ b → cond b (then_read (part (after_first ts)) denied) (or_read (test build operand ts) (enclosed build part ts)) ≡ Some (x, rest) → IsWritten (write_unit write) (λ d. cond_with build (unit_of tree d)) ts x rest
+        at : (b : Bool) → is_key word.Not (first_token ts) ≡ b → cond b (then_read (part (after_first ts)) denied) (or_read (any_test build operand ts) (enclosed build part ts)) ≡ Some (x, rest) → IsWritten (write_unit write) (λ d. cond_with build (unit_of tree d)) ts x rest
         at true e h =
             let f = then_found _ _ _ h in
             let parts = pair_found _ _ _ _ f.2 in
@@ -328,7 +365,7 @@ module _ (build : Builder) {E : Type 0} (write : E → List Token → List Token
               means = ap Negation u.means ∙ parts.0;
             }
         at false e h =
-            elim (or_found (test build operand ts) (enclosed build part ts) (x, rest) h) [
+            elim (or_found (any_test build operand ts) (enclosed build part ts) (x, rest) h) [
               | inl t ↦ let w = test_found ts x rest t in record { rule = TestUnit w.rule; written = w.written; means = w.means }
               | inr c ↦ enclosed_found ts x rest c
             ]

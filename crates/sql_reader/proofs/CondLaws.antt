@@ -12,7 +12,7 @@ use Rattle.sql_reader.proofs.ExprFound.{IsSound}
 use Rattle.sql_reader.proofs.ExprLaws.{same_tree}
 use Rattle.sql_reader.proofs.OperandTold.{IsOperand, expr_operand, value_operand}
 use Rattle.sql_tree.specs.Tree.{ExprTree, CondTree}
-use Rattle.sql_tree.specs.Tree.CondTree.{Compare, Within, Negation, Both, Either}
+use Rattle.sql_tree.specs.Tree.CondTree.{Compare, Within, IsNull, Negation, Both, Either}
 use Rattle.sql_tree.specs.declared.token.Token.{Token}
 
 -- a unit of no level, and of one more
@@ -38,6 +38,7 @@ condition_none build part ts h = ap (λ o. then_read (then_read o (λ first. con
 pub same_cond : (c : CondTree) → cond_with as_written c ≡ c
 same_cond (Compare op left right) = ap (λ l. Compare op l (expr_with as_written right)) (same_tree left) ∙ ap (λ r. Compare op left r) (same_tree right)
 same_cond (Within of low high) = ap (λ o. Within o (expr_with as_written low) (expr_with as_written high)) (same_tree of) ∙ ap (λ l. Within of l (expr_with as_written high)) (same_tree low) ∙ ap (λ h. Within of low h) (same_tree high)
+same_cond (IsNull of) = ap IsNull (same_tree of)
 same_cond (Negation of) = ap Negation (same_cond of)
 same_cond (Both left right) = ap (λ l. Both l (cond_with as_written right)) (same_cond left) ∙ ap (λ r. Both left r) (same_cond right)
 same_cond (Either left right) = ap (λ l. Either l (cond_with as_written right)) (same_cond left) ∙ ap (λ r. Either left r) (same_cond right)

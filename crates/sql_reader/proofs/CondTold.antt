@@ -2,7 +2,7 @@
 use Rattle.std.proofs.Common.{◌≡◌, ℕ, zero, suc, ◌<◌, ◌≤◌, List, [], ◌∷◌, length, map, true, false, Some, None, refl, ◌∙◌, arith}
 use Rattle.sql_grammar.specs.Grammar.{sign, write_more, write_enclosed, CmpRule, write_cmp, cmp_of, TestRule, CondRule, ConjsRule, ConjRule, UnitsRule, UnitRule, write_test, write_cond, write_conjs, write_conj, write_units, write_unit, members_of, test_of, cond_of, conjs_of, conj_of, units_of, unit_of}
 use Rattle.sql_grammar.specs.Grammar.CmpRule.{EqualSign, NotEqualSign, BangEqualSign, LessSign, LessEqualSign, GreaterSign, GreaterEqualSign}
-use Rattle.sql_grammar.specs.Grammar.TestRule.{Comparison, BetweenTest, InTest}
+use Rattle.sql_grammar.specs.Grammar.TestRule.{Comparison, BetweenTest, InTest, NullTest}
 use Rattle.sql_grammar.specs.Grammar.CondRule.{Disjunction}
 use Rattle.sql_grammar.specs.Grammar.ConjsRule.{NoConj, MoreConjs}
 use Rattle.sql_grammar.specs.Grammar.ConjRule.{Conjunction}
@@ -10,7 +10,7 @@ use Rattle.sql_grammar.specs.Grammar.UnitsRule.{NoUnit, MoreUnits}
 use Rattle.sql_grammar.specs.Grammar.UnitRule.{NotUnit, CondUnit, TestUnit}
 use Rattle.sql_reader.specs.Bounded.{Builder}
 use Rattle.sql_reader.specs.Chain.{Parser, first_token, then_read, chain}
-use Rattle.sql_reader.specs.CondReader.{comparison_in, or_in, and_in, or_member, both_of, either_of, denied, within, members, listed, range, test_behind, test, conjunction, condition, enclosed, unit}
+use Rattle.sql_reader.specs.CondReader.{comparison_in, or_in, and_in, or_member, both_of, either_of, denied, within, members, listed, range, null_test, word_test, test_behind, any_test, conjunction, condition, enclosed, unit}
 use Rattle.sql_reader.specs.Derived.{expr_with, cond_with}
 use Rattle.sql_reader.specs.Parts.{is_key, is_symbol, comma_in}
 use Rattle.sql_reader.specs.Reader.{is_close, expr, factor, closed}
@@ -46,6 +46,9 @@ not_ends ts = record { term_ends = record { factor_ends = record { no_dot = refl
 
 between_ends : (ts : List Token) → EndsExpr (Key word.Between ∷ ts)
 between_ends ts = record { term_ends = record { factor_ends = record { no_dot = refl }; no_star = refl }; no_sign = refl }
+
+is_ends : (ts : List Token) → EndsExpr (Key word.Is ∷ ts)
+is_ends ts = record { term_ends = record { factor_ends = record { no_dot = refl }; no_star = refl }; no_sign = refl }
 
 in_ends : (ts : List Token) → EndsExpr (Key word.In ∷ ts)
 in_ends ts = record { term_ends = record { factor_ends = record { no_dot = refl }; no_star = refl }; no_sign = refl }
@@ -130,6 +133,8 @@ module _ (build : Builder) {E : Type 0} (write : E → List Token → List Token
       let b = is.longer ms.0 (write_more write ms.1 (sign symbol.Close ∷ rest)) in
       let c = is.longer of (Key word.In ∷ write_enclosed write ms rest) in
       omega (arith, a, b, c)
+  test_longer (NullTest of true) rest = let a = is.longer of (Key word.Is ∷ Key word.Not ∷ Key word.Null ∷ rest) in omega (arith, a)
+  test_longer (NullTest of false) rest = let a = is.longer of (Key word.Is ∷ Key word.Null ∷ rest) in omega (arith, a)
 
   mutual
     pub cond_longer : (d : CondRule E) (rest : List Token) → length rest < length (write_cond write d rest)
@@ -186,8 +191,8 @@ module _ (build : Builder) {E : Type 0} (write : E → List Token → List Token
       (more_members_told ms.1 (length behind) of (Compare compare.Eq of (tree ms.0)) (sign symbol.Close ∷ rest) (omega arith) (close_ends rest) refl))
       refl
 
-  test_told : (d : TestRule E) (rest : List Token) → EndsExpr rest → test build operand (write_test write d rest) ≡ Some (cond_with build (test_of tree d), rest)
-  unfolding test test_behind range is_key
+  test_told : (d : TestRule E) (rest : List Token) → EndsExpr rest → any_test build operand (write_test write d rest) ≡ Some (cond_with build (test_of tree d), rest)
+  unfolding any_test test_behind word_test null_test range is_key
   test_told (Comparison left c right) rest ends =
       then_told _ _ _ _ (is.told left _ (cmp_ends c _))
       (given_told _ (cmp_of c) _ _ _ (comparison_told c) (then_told _ _ _ _ (is.told right rest ends) refl))
@@ -195,11 +200,14 @@ module _ (build : Builder) {E : Type 0} (write : E → List Token → List Token
   test_told (BetweenTest of false low high) rest ends = then_told _ _ _ _ (is.told of _ (between_ends _)) (within_told (tree of) low high rest ends)
   test_told (InTest of true ms) rest ends = then_told _ _ _ _ (is.told of _ (not_ends _)) (then_told _ _ denied _ (listed_told (tree of) ms rest) refl)
   test_told (InTest of false ms) rest ends = then_told _ _ _ _ (is.told of _ (in_ends _)) (listed_told (tree of) ms rest)
+  test_told (NullTest of true) rest ends = then_told _ _ _ _ (is.told of _ (is_ends _)) refl
+  test_told (NullTest of false) rest ends = then_told _ _ _ _ (is.told of _ (is_ends _)) refl
 
   test_no_not : (d : TestRule E) (rest : List Token) → is_key word.Not (first_token (write_test write d rest)) ≡ false
   test_no_not (Comparison left c right) rest = is.no_not left _
   test_no_not (BetweenTest of denied low high) rest = is.no_not of _
   test_no_not (InTest of denied ms) rest = is.no_not of _
+  test_no_not (NullTest of denied) rest = is.no_not of _
 
   -- ## A condition is no expression before a `)`
 
@@ -209,6 +217,7 @@ module _ (build : Builder) {E : Type 0} (write : E → List Token → List Token
   test_early (BetweenTest of false low high) n rest h = is.early of n _ h (between_ends _) refl
   test_early (InTest of true ms) n rest h = is.early of n _ h (not_ends _) refl
   test_early (InTest of false ms) n rest h = is.early of n _ h (in_ends _) refl
+  test_early (NullTest of denied) n rest h = is.early of n _ h (is_ends _) refl
 
   not_none : (n : ℕ) (ts : List Token) → factor build n (Key word.Not ∷ ts) ≡ None
   unfolding factor
@@ -232,7 +241,7 @@ module _ (build : Builder) {E : Type 0} (write : E → List Token → List Token
   -- ## Conditions
 
   mutual
-    unfolding condition conjunction unit enclosed is_key is_symbol test
+    unfolding condition conjunction unit enclosed is_key is_symbol any_test
 
     pub cond_told : (d : CondRule E) (n : ℕ) (rest : List Token) → length (write_cond write d rest) ≤ n → EndsCond rest → condition build (unit build operand n) (write_cond write d rest) ≡ Some (cond_with build (cond_of tree d), rest)
     cond_told (Disjunction first conjs) n rest h ends =

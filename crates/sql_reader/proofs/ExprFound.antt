@@ -9,7 +9,7 @@ use Rattle.sql_grammar.specs.Grammar.TermsRule.{NoTerm, MoreTerms}
 use Rattle.sql_grammar.specs.Grammar.TermRule.{Product}
 use Rattle.sql_grammar.specs.Grammar.FactorsRule.{NoFactor, MoreFactors}
 use Rattle.sql_grammar.specs.Grammar.FactorRule.{Number, Operand}
-use Rattle.sql_grammar.specs.Grammar.OperandRule.{NegativeNumber, StringOperand, DateOperand, ColumnOperand, Negated, Parenthesised}
+use Rattle.sql_grammar.specs.Grammar.OperandRule.{NegativeNumber, StringOperand, DateOperand, NullOperand, ColumnOperand, Negated, Parenthesised}
 use Rattle.sql_reader.specs.Bounded.{Builder}
 use Rattle.sql_reader.specs.Chain.{Found, Parser, first_token, after_first, then_read, chain}
 use Rattle.sql_reader.specs.Derived.{expr_with}
@@ -171,6 +171,9 @@ module _ (build : Builder) where
         let parts = pair_found _ _ _ _ h in
         record { rule = Operand (StringOperand text); written = ap (λ r. Text text ∷ r) (sym parts.1); means = parts.0 }
     factor_at_found (Key word.Date) ts x rest h = operand_only _ x rest (date_found ts x rest h)
+    factor_at_found (Key word.Null) ts x rest h =
+        let parts = pair_found _ _ _ _ h in
+        record { rule = Operand NullOperand; written = ap (λ r. Key word.Null ∷ r) (sym parts.1); means = parts.0 }
     factor_at_found (Name name) ts x rest h = named_found (BareName name) ts x rest h
     factor_at_found (Quoted name) ts x rest h = named_found (QuotedName name) ts x rest h
     factor_at_found (token.Symbol symbol.Minus) ts x rest h = operand_only _ x rest (negative_found ts x rest h)

@@ -10,7 +10,7 @@ use Rattle.sql_grammar.specs.Grammar.TermsRule.{NoTerm, MoreTerms}
 use Rattle.sql_grammar.specs.Grammar.TermRule.{Product}
 use Rattle.sql_grammar.specs.Grammar.FactorsRule.{NoFactor, MoreFactors}
 use Rattle.sql_grammar.specs.Grammar.FactorRule.{Number, Operand}
-use Rattle.sql_grammar.specs.Grammar.OperandRule.{NegativeNumber, StringOperand, DateOperand, ColumnOperand, Negated, Parenthesised}
+use Rattle.sql_grammar.specs.Grammar.OperandRule.{NegativeNumber, StringOperand, DateOperand, NullOperand, ColumnOperand, Negated, Parenthesised}
 use Rattle.sql_reader.specs.Bounded.{Builder}
 use Rattle.sql_reader.specs.Chain.{Found, first_token, after_first, then_read, given, chain}
 use Rattle.sql_reader.specs.Derived.{expr_with}
@@ -95,6 +95,7 @@ mutual
   operand_longer (NegativeNumber digits) rest = omega arith
   operand_longer (StringOperand text) rest = omega arith
   operand_longer (DateOperand text is) rest = omega arith
+  operand_longer NullOperand rest = omega arith
   operand_longer (ColumnOperand column) rest = column_longer column rest
   operand_longer (Negated operand) rest = let a = operand_longer operand rest in omega (arith, a)
   operand_longer (Parenthesised e) rest = let a = expr_longer e (sign symbol.Close ∷ rest) in omega (arith, a)
@@ -106,6 +107,7 @@ operand_first : (d : OperandRule) (rest : List Token) → digits_in (first_token
 operand_first (NegativeNumber digits) rest = refl
 operand_first (StringOperand text) rest = refl
 operand_first (DateOperand text is) rest = refl
+operand_first NullOperand rest = refl
 operand_first (ColumnOperand (PlainColumn (BareName name))) rest = refl
 operand_first (ColumnOperand (PlainColumn (QuotedName name))) rest = refl
 operand_first (ColumnOperand (TableColumn (BareName name) column)) rest = refl
@@ -173,6 +175,7 @@ module _ (build : Builder) where
     operand_told : (d : OperandRule) (n : ℕ) (rest : List Token) → length (write_operand d rest) ≤ suc n → EndsFactor rest → factor build (suc n) (write_operand d rest) ≡ Some (expr_with build (operand_of d), rest)
     operand_told (NegativeNumber digits) n rest h ends = refl
     operand_told (StringOperand text) n rest h ends = refl
+    operand_told NullOperand n rest h ends = refl
     operand_told (DateOperand text is) n rest h ends = ap (λ d. then_read d (λ day. Some (Literal (cell.Day day), rest))) (day_told text is)
     operand_told (ColumnOperand column) n rest h ends = column_told n column rest ends
     operand_told (Negated operand) zero rest h ends = let longer = operand_longer operand rest in absurd (omega (arith, longer))

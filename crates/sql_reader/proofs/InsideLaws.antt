@@ -4,7 +4,7 @@ use Rattle.std.specs.Prelude.{Result, Ok, Err, IfOk}
 use Rattle.sql_grammar.specs.Grammar.{sign}
 use Rattle.sql_reader.specs.Bounded.{bounded}
 use Rattle.sql_reader.specs.Chain.{Found, Parser, first_token, after_first, then_read, chain}
-use Rattle.sql_reader.specs.CondReader.{aggregate_in, whole_expr, value, operand, range, test_behind, test, condition, closed_condition, operand_inside, condition_inside, operand_from, enclosed, unit_of, unit, test_from, condition_from, IsInside}
+use Rattle.sql_reader.specs.CondReader.{aggregate_in, whole_expr, value, operand, range, word_test, test_behind, any_test, condition, closed_condition, operand_inside, condition_inside, operand_from, enclosed, unit_of, unit, test_from, condition_from, IsInside}
 use Rattle.sql_reader.specs.Parts.{is_key, is_symbol}
 use Rattle.sql_reader.specs.Reader.{sign_in, closed, term_behind, term, expr_behind, expr, factor}
 use Rattle.sql_reader.specs.declared.conditions.Inside.{Inside}
@@ -79,11 +79,11 @@ operand_is false ts found h = h
 module _ (aggregates : Bool) where
   -- no test stands there before a `)`
   closed_none : (of : ExprTree) (rest : List Token) → test_behind bounded (operand bounded aggregates) of (sign symbol.Close ∷ rest) ≡ None
-  unfolding test_behind range is_key
+  unfolding test_behind word_test range is_key
   closed_none of rest = refl
 
-  no_test : (ts : List Token) (of : ExprTree) (behind : List Token) (rest : List Token) → whole_expr bounded ts ≡ Some (of, behind) → sign symbol.Close ∷ rest ≡ behind → test bounded (operand bounded aggregates) ts ≡ None
-  unfolding test
+  no_test : (ts : List Token) (of : ExprTree) (behind : List Token) (rest : List Token) → whole_expr bounded ts ≡ Some (of, behind) → sign symbol.Close ∷ rest ≡ behind → any_test bounded (operand bounded aggregates) ts ≡ None
+  unfolding any_test
   no_test ts of behind rest h e = then_told _ _ _ _ (operand_is aggregates ts (of, behind) h) (ap (test_behind bounded (operand bounded aggregates) of) (sym e) ∙ closed_none of rest)
 
   -- nor a condition in parentheses, where no unit stands where an expression is enclosed
@@ -112,13 +112,13 @@ module _ (aggregates : Bool) where
   -- ## A unit that begins with `(`
 
   open_unit : (n : ℕ) (ts : List Token) → operand_inside bounded ts ≡ None → unit_of bounded (operand bounded aggregates) (unit bounded (operand bounded aggregates) n) (sign symbol.Open ∷ ts) ≡ condition_inside bounded (unit bounded (operand bounded aggregates) n) ts
-  unfolding is_key is_symbol enclosed test
+  unfolding is_key is_symbol enclosed any_test
   open_unit n ts h = or_none _ _ _ (then_none _ _ (opens_none aggregates ts h)) refl
 
   open_test : (n : ℕ) (ts : List Token) (e : ExprTree) (rest : List Token) → operand_inside bounded ts ≡ Some (e, rest) → unit_of bounded (operand bounded aggregates) (unit bounded (operand bounded aggregates) n) (sign symbol.Open ∷ ts) ≡ test_from bounded (operand bounded aggregates) (suc (length ts)) e rest
-  unfolding is_key is_symbol enclosed test test_from
+  unfolding is_key is_symbol enclosed any_test test_from
   open_test n ts e rest h =
-      or_first (test bounded (operand bounded aggregates) (sign symbol.Open ∷ ts)) (enclosed bounded (unit bounded (operand bounded aggregates) n) (sign symbol.Open ∷ ts)) (then_none _ closed (condition_none bounded _ ts (no_unit n ts e rest h)))
+      or_first (any_test bounded (operand bounded aggregates) (sign symbol.Open ∷ ts)) (enclosed bounded (unit bounded (operand bounded aggregates) n) (sign symbol.Open ∷ ts)) (then_none _ closed (condition_none bounded _ ts (no_unit n ts e rest h)))
       ∙ ap (λ o. then_read o (λ of. test_behind bounded (operand bounded aggregates) of.0 of.1)) (operand_goes_on aggregates ts e rest h)
 
   -- the unit of tokens that begin with no NOT
@@ -132,7 +132,7 @@ module _ (aggregates : Bool) where
       ap (unit_of bounded (operand bounded aggregates) (unit bounded (operand bounded aggregates) n)) (sym same) ∙ open_test n after of rest h ∙ ap (λ (ts : List Token). test_from bounded (operand bounded aggregates) (length ts) of rest) same
 
   -- one that begins with neither is a test
-  pub unit_test : (n : ℕ) (ts : List Token) → is_key word.Not (first_token ts) ≡ false → is_symbol symbol.Open (first_token ts) ≡ false → unit_of bounded (operand bounded aggregates) (unit bounded (operand bounded aggregates) n) ts ≡ test bounded (operand bounded aggregates) ts
+  pub unit_test : (n : ℕ) (ts : List Token) → is_key word.Not (first_token ts) ≡ false → is_symbol symbol.Open (first_token ts) ≡ false → unit_of bounded (operand bounded aggregates) (unit bounded (operand bounded aggregates) n) ts ≡ any_test bounded (operand bounded aggregates) ts
   unfolding enclosed
   unit_test n ts denied open_ = branch_false _ _ _ _ denied (or_first _ _ (branch_false _ _ _ _ open_ refl))
 

@@ -3,7 +3,7 @@ use Rattle.std.proofs.Common.{◌≡◌, ℕ, zero, suc, ◌+◌, ◌*◌, ◌^�
 use Rattle.std.specs.Char.{digit_value}
 use Rattle.std.specs.Str.Parse.{digits_value_after}
 use Rattle.std.proofs.lemmas.Bool.Decides.{nat_tests}
-use Rattle.cell_core.specs.declared.cell.Cell.TheVariants as cell
+use Rattle.sql_refusals.specs.Unread.{unread_cell}
 use Rattle.sql_reader.specs.Bounded.{number_cell}
 use Rattle.sql_reader.specs.Reader.{signed_cell}
 
@@ -19,9 +19,9 @@ pub signed_negative : (n : ℕ) → signed_cell true n ≡ number_cell (neg_ℤ 
 signed_negative zero = refl
 signed_negative (suc n) = grind (arith, nat_tests)
 
-pub great_plain : (n : ℕ) → 2 ^ 64 ≤ n → cell.Nil ≡ number_cell (pos n)
+pub great_plain : (n : ℕ) → 2 ^ 64 ≤ n → unread_cell ≡ number_cell (pos n)
 great_plain n h = grind (arith, nat_tests)
 
-pub great_negative : (n : ℕ) → 2 ^ 64 ≤ n → cell.Nil ≡ number_cell (neg_ℤ (pos n))
+pub great_negative : (n : ℕ) → 2 ^ 64 ≤ n → unread_cell ≡ number_cell (neg_ℤ (pos n))
 great_negative zero h = absurd (omega arith)
 great_negative (suc n) h = grind (arith, nat_tests)

@@ -7,7 +7,7 @@ use Rattle.sql_grammar.specs.Grammar.ColumnRule.{PlainColumn, TableColumn}
 use Rattle.sql_grammar.specs.Grammar.ExprRule.{Sum}
 use Rattle.sql_grammar.specs.Grammar.TermRule.{Product}
 use Rattle.sql_grammar.specs.Grammar.FactorRule.{Number, Operand}
-use Rattle.sql_grammar.specs.Grammar.OperandRule.{NegativeNumber, StringOperand, DateOperand, ColumnOperand, Negated, Parenthesised}
+use Rattle.sql_grammar.specs.Grammar.OperandRule.{NegativeNumber, StringOperand, DateOperand, NullOperand, ColumnOperand, Negated, Parenthesised}
 use Rattle.sql_grammar.specs.Grammar.AggRule.{CountAll, AggregateOf}
 use Rattle.sql_grammar.specs.Grammar.ValueRule.{ExprValue, AggValue}
 use Rattle.sql_reader.specs.Bounded.{Builder}
@@ -36,6 +36,7 @@ begins_expr (Some (Text text)) = true
 begins_expr (Some (Name name)) = true
 begins_expr (Some (Quoted name)) = true
 begins_expr (Some (Key word.Date)) = true
+begins_expr (Some (Key word.Null)) = true
 begins_expr (Some (token.Symbol symbol.Minus)) = true
 begins_expr (Some (token.Symbol symbol.Open)) = true
 begins_expr other = false
@@ -44,6 +45,7 @@ operand_begins : (d : OperandRule) (rest : List Token) → begins_expr (first_to
 operand_begins (NegativeNumber digits) rest = refl
 operand_begins (StringOperand text) rest = refl
 operand_begins (DateOperand text is) rest = refl
+operand_begins NullOperand rest = refl
 operand_begins (ColumnOperand (PlainColumn (BareName name))) rest = refl
 operand_begins (ColumnOperand (PlainColumn (QuotedName name))) rest = refl
 operand_begins (ColumnOperand (TableColumn (BareName name) column)) rest = refl

@@ -1,17 +1,17 @@
--- How a reader keeps what it reads. A number of more than 64 bits stands as Nil, which no literal gives. An
+-- How a reader keeps what it reads. A number of more than 64 bits stands as a Huge, which no literal gives. An
 -- expression of more than 64 nodes and a condition of more than 128 are past their limits, and grow no
 -- further: what else belongs to them is left out, but for a sign of each thing that is asked of a statement
--- later, which is whether it has a column, a Nil, or arithmetic over columns.
+-- later, which is whether it has a column, a Huge, or arithmetic over columns.
 use Rattle.std.specs.Prelude.{[], Bool, not, ◌&&◌, nat_lt, if◌then◌else◌, None, ℤ}
 use Rattle.std.specs.List.{list_any}
 use Rattle.cell_core.specs.declared.cell.Cell.{Cell}
 use Rattle.cell_core.specs.declared.cell.Cell.TheVariants as cell
 use Rattle.sql_tree.specs.Exprs.{cond_exprs}
 use Rattle.sql_grammar.specs.Refused.{expr_nodes, cond_nodes, has_column, has_column_arithmetic, is_out_of_range}
-use Rattle.sql_refusals.specs.Unread.{has_literal, is_unread_cell}
+use Rattle.sql_refusals.specs.Unread.{has_literal, unread_cell, is_unread_cell}
 use Rattle.sql_tree.specs.Tree.{ExprTree, CondTree}
 use Rattle.sql_tree.specs.Tree.ExprTree.{Literal, ColumnOf, Operator}
-use Rattle.sql_tree.specs.Tree.CondTree.{Compare, Both, Either}
+use Rattle.sql_tree.specs.Tree.CondTree.{Compare, IsNull, Both, Either}
 use Rattle.sql_tree.specs.declared.tree.ArithOp.{ArithOp}
 use Rattle.sql_tree.specs.declared.tree.ArithOp.TheVariants as arith
 use Rattle.sql_tree.specs.declared.tree.CmpOp.TheVariants as compare
@@ -27,9 +27,9 @@ pub record Builder : Type 0 where
 abbrev pub as_written : Builder
 as_written = record { number = cell.Int; operator = Operator; both = Both; either = Either }
 
--- a number of 64 bits as it is, and Nil, which no literal gives, for any other
+-- a number of 64 bits as it is, and a Huge, which no literal gives, for any other
 abbrev pub number_cell : ℤ → Cell
-number_cell n = if is_out_of_range n then cell.Nil else cell.Int n
+number_cell n = if is_out_of_range n then unread_cell else cell.Int n
 
 -- ## Expressions
 
@@ -45,9 +45,9 @@ has_unread expr = has_literal is_unread_cell expr
 abbrev pub with_column : ExprTree → ExprTree → ExprTree
 with_column other expr = if has_column other && not (has_column expr) then Operator arith.Plus expr some_column else expr
 
--- the expression, with a Nil where only the other has a literal that could not be read
+-- the expression, with a Huge where only the other has a literal that could not be read
 abbrev pub with_unread : ExprTree → ExprTree → ExprTree
-with_unread other expr = if has_unread other && not (has_unread expr) then Operator arith.Plus expr (Literal cell.Nil) else expr
+with_unread other expr = if has_unread other && not (has_unread expr) then Operator arith.Plus expr (Literal unread_cell) else expr
 
 -- the expression, with a sign of each of these that only the other has
 abbrev pub with_signs : ExprTree → ExprTree → ExprTree
@@ -71,11 +71,11 @@ with_arithmetic other cond =
     if has_column_arithmetic other && not (has_column_arithmetic cond)
     then Both cond (Compare compare.Eq (Operator arith.Plus some_column some_column) some_column) else cond
 
--- the condition, with a Nil where only the other has a literal that could not be read
+-- the condition, with a Huge where only the other has a literal that could not be read
 abbrev pub with_unread_test : CondTree → CondTree → CondTree
 with_unread_test other cond =
     if cond_has_unread other && not (cond_has_unread cond)
-    then Both cond (Compare compare.Eq (Literal cell.Nil) (Literal cell.Nil)) else cond
+    then Both cond (IsNull (Literal unread_cell)) else cond
 
 -- the condition, with a sign of each of these that only the other has
 abbrev pub with_cond_signs : CondTree → CondTree → CondTree

@@ -9,7 +9,7 @@ use Rattle.sql_reader.specs.declared.conditions.Inside.TheVariants.{Operand, Con
 use Rattle.sql_reader.specs.Reader.{expr_behind, expr, factor, closed}
 use Rattle.sql_tree.specs.Tree.{ExprTree, CondTree, expr_tree, cond_tree}
 use Rattle.sql_tree.specs.Tree.ExprTree.{AggregateAll, Aggregate}
-use Rattle.sql_tree.specs.Tree.CondTree.{Compare, Within, Negation}
+use Rattle.sql_tree.specs.Tree.CondTree.{Compare, Within, IsNull, Negation}
 use Rattle.sql_tree.specs.declared.token.Keyword.{Keyword}
 use Rattle.sql_tree.specs.declared.token.Keyword.TheVariants as word
 use Rattle.sql_tree.specs.declared.token.Symbol.{Symbol}
@@ -97,6 +97,12 @@ or_member build of s so_far member = build.either so_far (Compare compare.Eq of 
 abbrev pub denied : CondTree × List Token → Found CondTree
 denied found = Some (Negation found.0, found.1)
 
+-- [NOT] NULL, behind `e IS`
+unfoldable pub null_test : ExprTree → Parser CondTree
+null_test of tokens =
+    if is_key word.Not (first_token tokens) then behind_key word.Null (λ rest. Some (Negation (IsNull of), rest)) (after_first tokens)
+    else behind_key word.Null (λ rest. Some (IsNull of, rest)) tokens
+
 module _ (build : Builder) (operand : Parser ExprTree) where
   -- what follows `e BETWEEN`
   unfoldable pub within : ExprTree → Parser CondTree
@@ -124,14 +130,18 @@ module _ (build : Builder) (operand : Parser ExprTree) where
       if is_key word.Not (first_token tokens) then then_read (range_at of (first_token (after_first tokens)) (after_first (after_first tokens))) denied
       else range_at of (first_token tokens) (after_first tokens)
 
+  -- a test that begins with a word, behind its operand
+  unfoldable pub word_test : ExprTree → Parser CondTree
+  word_test of tokens = if is_key word.Is (first_token tokens) then null_test of (after_first tokens) else range of tokens
+
   -- what follows a test's first operand
   unfoldable pub test_behind : ExprTree → Parser CondTree
   test_behind of tokens =
-      given (comparison_in (first_token tokens)) (range of tokens) (λ op. then_read (operand (after_first tokens)) (λ right. Some (Compare op of right.0, right.1)))
+      given (comparison_in (first_token tokens)) (word_test of tokens) (λ op. then_read (operand (after_first tokens)) (λ right. Some (Compare op of right.0, right.1)))
 
-  -- test = e cmp e | e [NOT] BETWEEN e AND e | e [NOT] IN "(" e {"," e} ")"
-  unfoldable pub test : Parser CondTree
-  test tokens = then_read (operand tokens) (λ of. test_behind of.0 of.1)
+  -- test = e cmp e | e [NOT] BETWEEN e AND e | e [NOT] IN "(" e {"," e} ")" | e IS [NOT] NULL
+  unfoldable pub any_test : Parser CondTree
+  any_test tokens = then_read (operand tokens) (λ of. test_behind of.0 of.1)
 
 module _ (build : Builder) where
   -- the rest of a conjunction behind its first unit
@@ -175,7 +185,7 @@ module _ (build : Builder) where
     abbrev pub unit_of : Parser CondTree → Parser CondTree
     unit_of inner tokens =
         if is_key word.Not (first_token tokens) then then_read (inner (after_first tokens)) denied
-        else or_read (test build operand tokens) (enclosed inner tokens)
+        else or_read (any_test build operand tokens) (enclosed inner tokens)
 
     -- a unit of so many levels at most
     unfoldable pub unit : ℕ → Parser CondTree

@@ -6,7 +6,7 @@ use Rattle.sql_grammar.specs.Grammar.{ExprRule, write_expr, expr_of, write_value
 use Rattle.sql_reader.specs.Bounded.{Builder, bounded}
 use Rattle.sql_tree.specs.Tree.{ExprTree, CondTree}
 use Rattle.sql_tree.specs.Tree.ExprTree.{Literal, ColumnOf, Operator, AggregateAll, Aggregate}
-use Rattle.sql_tree.specs.Tree.CondTree.{Compare, Within, Negation, Both, Either}
+use Rattle.sql_tree.specs.Tree.CondTree.{Compare, Within, IsNull, Negation, Both, Either}
 use Rattle.sql_tree.specs.declared.token.Token.{Token}
 
 -- the tokens derive the expression
@@ -56,6 +56,7 @@ IsHaving = IsCondOver write_value value_of
 abbrev pub cond_with : Builder → CondTree → CondTree
 cond_with build (Compare op left right) = Compare op (expr_with build left) (expr_with build right)
 cond_with build (Within of low high) = Within (expr_with build of) (expr_with build low) (expr_with build high)
+cond_with build (IsNull of) = IsNull (expr_with build of)
 cond_with build (Negation of) = Negation (cond_with build of)
 cond_with build (Both left right) = build.both (cond_with build left) (cond_with build right)
 cond_with build (Either left right) = build.either (cond_with build left) (cond_with build right)

@@ -7,6 +7,7 @@ use Rattle.cell_core.specs.declared.cell.Cell.{Cell}
 use Rattle.cell_core.specs.declared.cell.Cell.TheVariants as cell
 use Rattle.sql_grammar.specs.Grammar.{number_of, negative_of}
 use Rattle.sql_reader.specs.Bounded.{Builder}
+use Rattle.sql_refusals.specs.Unread.{unread_cell}
 use Rattle.sql_reader.specs.Chain.{Found, Parser, first_token, after_first, then_read, given, chain}
 use Rattle.sql_tree.specs.Tree.{ExprTree}
 use Rattle.sql_tree.specs.Tree.ExprTree.{Literal, ColumnOf}
@@ -62,10 +63,10 @@ closed found = if is_close (first_token found.1) then Some (found.0, after_first
 
 -- ## Numbers
 
--- the cell of a number with its sign, or Nil where it leaves the signed 64-bit range
+-- the cell of a number with its sign, or a Huge where it leaves the signed 64-bit range
 abbrev pub signed_cell : Bool → ℕ → Cell
-signed_cell true n = if nat_le n (2 ^ 63) then cell.Int (neg_ℤ (pos n)) else cell.Nil
-signed_cell false n = if nat_lt n (2 ^ 63) then cell.Int (pos n) else cell.Nil
+signed_cell true n = if nat_le n (2 ^ 63) then cell.Int (neg_ℤ (pos n)) else unread_cell
+signed_cell false n = if nat_lt n (2 ^ 63) then cell.Int (pos n) else unread_cell
 
 -- ## Days
 
@@ -135,6 +136,7 @@ module _ (build : Builder) where
   factor_at inner (Some (Digits digits)) rest = Some (Literal (build.number (pos (number_of digits))), rest)
   factor_at inner (Some (Text text)) rest = Some (Literal (cell.Text text), rest)
   factor_at inner (Some (Key word.Date)) rest = date rest
+  factor_at inner (Some (Key word.Null)) rest = Some (Literal cell.Nil, rest)
   factor_at inner (Some (Name name)) rest = then_read (column name rest) (λ column. Some (ColumnOf column.0, column.1))
   factor_at inner (Some (Quoted name)) rest = then_read (column name rest) (λ column. Some (ColumnOf column.0, column.1))
   factor_at inner (Some (token.Symbol symbol.Minus)) rest = negative inner rest

@@ -5,9 +5,9 @@ ghost use Rattle.sql_tree.specs.Tree.CondTree.{Negation, Both, Either};
 ghost use Rattle.sql_reader.specs.Bounded.{bounded, bounded_join};
 ghost use Rattle.sql_reader.specs.CondReader as reader;
 
-use crate::cond_tests::{test, test_behind, whole_expr};
 use crate::cursor::{Cursor, and, is_key, is_symbol, or};
 use crate::expressions::expr_behind;
+use crate::predicates::{test, test_behind, whole_expr};
 use crate::reading::ReadError;
 use crate::signs::with_cond_signs;
 use cell_core::Memory;

@@ -110,8 +110,8 @@ fn factor(alloc: Global, tokens: &mut Cursor<'_>, depth: usize) -> Result<Expr, 
     inner_factor(alloc, tokens, depth - 1)
 }
 
-/// A factor, in which so many levels are left: digits, a string, a day, a column, what follows a `-`,
-/// or an expression in parentheses.
+/// A factor, in which so many levels are left: digits, a string, a day, NULL, a column, what follows a
+/// `-`, or an expression in parentheses.
 #[cycle(expr)]
 fn inner_factor(alloc: Global, tokens: &mut Cursor<'_>, depth: usize) -> Result<Expr, ReadError>
     ensures found { IfOk result (λ e. reader.factor_at bounded (reader.factor bounded depth)
@@ -126,6 +126,7 @@ fn inner_factor(alloc: Global, tokens: &mut Cursor<'_>, depth: usize) -> Result<
         Some(Token::Digits(digits)) => Ok(Expr::Lit(plain_number(digits.text()))),
         Some(Token::Text(text)) => Ok(Expr::Lit(Cell::Text(text.share()?))),
         Some(Token::Key(Keyword::Date)) => date(tokens),
+        Some(Token::Key(Keyword::Null)) => Ok(Expr::Lit(Cell::Nil)),
         Some(Token::Name(name)) => Ok(Expr::Col(column(name, tokens)?)),
         Some(Token::Quoted(name)) => Ok(Expr::Col(column(name, tokens)?)),
         Some(Token::Symbol(Symbol::Minus)) => negative(alloc, tokens, depth),

@@ -6,10 +6,10 @@
 //! `read_having` give the tree of the tokens exactly where they derive one, as far as it is kept, and that
 //! no tokens derive two (`one_expr`, `one_cond`).
 //!
-//! What is kept stands in `specs/Bounded`. A number of more than 64 bits stands as Nil, which no literal
+//! What is kept stands in `specs/Bounded`. A number of more than 64 bits stands as a Huge, which no literal
 //! gives. An expression of 64 nodes and a condition of 128 are kept as they are written. Past these limits
 //! the readers go on to recognise, but the tree grows no further than by a sign of each thing that is
-//! asked of a statement later, where what is left out has it and what is kept hasn't: a column, a Nil,
+//! asked of a statement later, where what is left out has it and what is kept hasn't: a column, a Huge,
 //! arithmetic over columns. So a text of any length makes a small tree, which is still refused for the
 //! reasons that the whole would be.
 //!
@@ -20,21 +20,19 @@
 //! readers on plain lists in `specs/`.
 #![tactic(auto)]
 
-mod cond_tests;
 mod conditions;
 mod cursor;
 mod expressions;
 mod laws;
 mod number;
+mod predicates;
 mod reading;
 mod signs;
-#[cfg(test)]
-mod tests;
 
-pub use cond_tests::{value, whole_expr};
 pub use conditions::{both, whole_cond};
 pub use cursor::{Cursor, comma, digits, is_key, is_symbol, name, text};
 pub use expressions::{column, day};
 pub use laws::{one_cond, one_expr};
 pub use number::{magnitude, negative_number, plain_number};
+pub use predicates::{value, whole_expr};
 pub use reading::{ReadError, read_cond, read_expr, read_having};

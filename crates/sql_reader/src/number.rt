@@ -3,17 +3,18 @@ ghost use Rattle.std.specs.Char.{digit_value};
 ghost use Rattle.sql_grammar.specs.Grammar.{number_of, negative_of};
 ghost use Rattle.sql_reader.specs.Bounded.{number_cell};
 ghost use Rattle.sql_reader.specs.Reader.{signed_cell};
+ghost use Rattle.sql_refusals.specs.Unread.{unread_cell};
 
 use cell_core::Cell;
 
-/// The cell of the number that digits write; Nil where it leaves the signed 64-bit range.
+/// The cell of the number that digits write; a Huge where it leaves the signed 64-bit range.
 #[tactic(auto, using(crate::proofs::NumberLemmas::signed_plain, crate::proofs::NumberLemmas::great_plain))]
 pub fn plain_number(digits: &str) -> Cell
     ensures { result ≡ number_cell (pos (number_of digits.now)) }
 {
     match magnitude(digits) {
         Some(magnitude) => signed(false, magnitude),
-        None => Cell::Nil,
+        None => unread(),
     }
 }
 
@@ -24,8 +25,15 @@ pub fn negative_number(digits: &str) -> Cell
 {
     match magnitude(digits) {
         Some(magnitude) => signed(true, magnitude),
-        None => Cell::Nil,
+        None => unread(),
     }
+}
+
+/// The cell that stands for a number outside the signed 64-bit range.
+pub(crate) fn unread() -> Cell
+    ensures { result ≡ unread_cell }
+{
+    Cell::Huge(0)
 }
 
 /// The cell of a number with its sign.
@@ -39,7 +47,7 @@ fn signed(negative: bool, magnitude: u64) -> Cell
     };
     match number {
         Some(number) => Cell::Int(number),
-        None => Cell::Nil,
+        None => unread(),
     }
 }
 

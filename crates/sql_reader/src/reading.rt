@@ -43,9 +43,9 @@ impl<T: Drop> From<AllocFailed<T>> for ReadError {
 
 /// The expression that the tokens are, all of them.
 ///
-/// A number outside the signed 64-bit range stands as Nil, which no literal gives. An expression of up to
+/// A number outside the signed 64-bit range stands as a Huge, which no literal gives. An expression of up to
 /// 64 nodes stands as it is written; a larger one stands cut off a little past that limit, with a column
-/// and a Nil where what is left out has one and the rest hasn't. The limits of literals and expressions
+/// and a Huge where what is left out has one and the rest hasn't. The limits of literals and expressions
 /// are steps of their own.
 pub fn read_expr(alloc: Global, tokens: &[Placed]) -> Result<Expr, ReadError>
     ensures expr { IfOk result (λ e. IsReadExpr (tokens_in tokens.now) (expr_tree e)) }
@@ -62,7 +62,7 @@ pub fn read_expr(alloc: Global, tokens: &[Placed]) -> Result<Expr, ReadError>
 /// The condition of WHERE or ON that the tokens are, all of them.
 ///
 /// Its expressions stand as those of `read_expr` do. A condition of up to 128 nodes stands as it is
-/// written; a larger one stands cut off a little past that limit, with arithmetic over columns and a Nil
+/// written; a larger one stands cut off a little past that limit, with arithmetic over columns and a Huge
 /// where what is left out has them and the rest hasn't. The limit of conditions is a step of its own.
 pub fn read_cond(alloc: Global, tokens: &[Placed]) -> Result<Cond, ReadError>
     ensures cond { IfOk result (λ c. IsReadCond (IsCond (tokens_in tokens.now)) (cond_tree c)) }

@@ -1,20 +1,21 @@
-//! What a reader leaves out past its limits is told by signs: a column, a Nil, arithmetic over columns.
+//! What a reader leaves out past its limits is told by signs: a column, a Huge, arithmetic over columns.
 ghost use Rattle.std.specs.Prelude.{◌≡◌, ◌&&◌, not, if◌then◌else◌, IfOk};
 ghost use Rattle.sql_grammar.specs.Refused as refused;
-ghost use Rattle.cell_core.specs.declared.cell.Cell.TheVariants as literal;
+ghost use Rattle.sql_refusals.specs.Unread.{unread_cell};
 ghost use Rattle.sql_tree.specs.Tree.{cond_tree, expr_tree};
-ghost use Rattle.sql_tree.specs.Tree.CondTree.{Both, Compare};
+ghost use Rattle.sql_tree.specs.Tree.CondTree.{Both, Compare, IsNull};
 ghost use Rattle.sql_tree.specs.Tree.ExprTree.{Literal, Operator};
 ghost use Rattle.sql_tree.specs.declared.tree.ArithOp.TheVariants as arith;
 ghost use Rattle.sql_tree.specs.declared.tree.CmpOp.TheVariants as compare;
 ghost use Rattle.sql_reader.specs.Bounded as kept;
 
-use cell_core::{Cell, Memory, word_of};
+use crate::number::unread;
+use cell_core::{Memory, word_of};
 use sql_refusals::{cond_has_unread, has_column, has_column_arithmetic, has_unread};
 use sql_tree::{ArithOp, CmpOp, ColRef, Cond, Expr};
 use std::alloc::Global;
 
-/// The expression, with a sign of a column and of a Nil, where only the other has them.
+/// The expression, with a sign of a column and of a Huge, where only the other has them.
 pub(crate) fn with_signs(alloc: Global, other: &Expr, expr: Expr) -> Result<Expr, Memory>
     ensures { IfOk result (λ e. expr_tree e ≡ kept.with_signs (expr_tree other.now) (expr_tree expr)) }
 {
@@ -36,12 +37,12 @@ fn with_unread(alloc: Global, other: &Expr, expr: Expr) -> Result<Expr, Memory>
     ensures { IfOk result (λ e. expr_tree e ≡ kept.with_unread (expr_tree other.now) (expr_tree expr)) }
 {
     if has_unread(other) && !has_unread(&expr) {
-        return plus(alloc, expr, Expr::Lit(Cell::Nil));
+        return plus(alloc, expr, Expr::Lit(unread()));
     }
     Ok(expr)
 }
 
-/// The condition, with a sign of arithmetic over columns and of a Nil, where only the other has them.
+/// The condition, with a sign of arithmetic over columns and of a Huge, where only the other has them.
 pub(crate) fn with_cond_signs(alloc: Global, other: &Cond, cond: Cond) -> Result<Cond, Memory>
     ensures { IfOk result (λ c. cond_tree c ≡ kept.with_cond_signs (cond_tree other.now) (cond_tree cond)) }
 {
@@ -62,18 +63,14 @@ pub(crate) fn with_arithmetic(alloc: Global, wanted: bool, cond: Cond) -> Result
     Ok(cond)
 }
 
-/// The condition, with a Nil where that is wanted and it has none.
+/// The condition, with a Huge where that is wanted and it has none.
 pub(crate) fn with_unread_test(alloc: Global, wanted: bool, cond: Cond) -> Result<Cond, Memory>
     ensures { IfOk result (λ c. cond_tree c ≡ (if wanted && not (kept.cond_has_unread (cond_tree cond))
-        then Both (cond_tree cond) (Compare compare.Eq (Literal literal.Nil) (Literal literal.Nil))
+        then Both (cond_tree cond) (IsNull (Literal unread_cell))
         else cond_tree cond)) }
 {
     if wanted && !cond_has_unread(&cond) {
-        return and(
-            alloc,
-            cond,
-            equal(Expr::Lit(Cell::Nil), Expr::Lit(Cell::Nil)),
-        );
+        return and(alloc, cond, Cond::IsNull(Expr::Lit(unread())));
     }
     Ok(cond)
 }

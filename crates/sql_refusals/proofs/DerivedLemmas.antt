@@ -1,28 +1,30 @@
--- No literal of a derived statement is Nil.
+-- No literal of a derived statement is a Huge.
 use Rattle.std.proofs.Common.{◌≡◌, ℕ, List, [], ◌∷◌, ◌++◌, Bool, true, false, ◌||◌, Option, Some, None, map, refl, ◌∙◌, subst}
 use Rattle.std.specs.List.{list_any}
 use Rattle.std.specs.Option.{option_map}
 use Rattle.std.proofs.lemmas.List.Folds.{list_any-append}
 use Rattle.sql_grammar.specs.Grammar.{all_of, LiteralRule, literal_cell, ExprRule, TermsRule, TermRule, FactorsRule, FactorRule, OperandRule, expr_of, terms_of, term_of, factors_of, factor_of, operand_of, ValueRule, value_of, TestRule, CondRule, ConjsRule, ConjRule, UnitsRule, UnitRule, denied_if, members_of, test_of, cond_of, conjs_of, conj_of, units_of, unit_of, WhereRule, where_of, NameRule}
-use Rattle.sql_grammar.specs.Grammar.LiteralRule.{PlainDigits, MinusDigits, StringLiteral, DateLiteral}
+use Rattle.sql_grammar.specs.Grammar.LiteralRule.{PlainDigits, MinusDigits, StringLiteral, DateLiteral, NullLiteral}
 use Rattle.sql_grammar.specs.Grammar.ExprRule.{Sum}
 use Rattle.sql_grammar.specs.Grammar.TermsRule.{NoTerm, MoreTerms}
 use Rattle.sql_grammar.specs.Grammar.TermRule.{Product}
 use Rattle.sql_grammar.specs.Grammar.FactorsRule.{NoFactor, MoreFactors}
 use Rattle.sql_grammar.specs.Grammar.FactorRule.{Number, Operand}
-use Rattle.sql_grammar.specs.Grammar.OperandRule.{NegativeNumber, StringOperand, DateOperand, ColumnOperand, Negated, Parenthesised}
+use Rattle.sql_grammar.specs.Grammar.OperandRule.{NegativeNumber, StringOperand, DateOperand, NullOperand, ColumnOperand, Negated, Parenthesised}
 use Rattle.sql_grammar.specs.Grammar.AggRule.{CountAll, AggregateOf}
 use Rattle.sql_grammar.specs.Grammar.ValueRule.{ExprValue, AggValue}
-use Rattle.sql_grammar.specs.Grammar.TestRule.{Comparison, BetweenTest, InTest}
+use Rattle.sql_grammar.specs.Grammar.TestRule.{Comparison, BetweenTest, InTest, NullTest}
 use Rattle.sql_grammar.specs.Grammar.CondRule.{Disjunction}
 use Rattle.sql_grammar.specs.Grammar.ConjsRule.{NoConj, MoreConjs}
 use Rattle.sql_grammar.specs.Grammar.ConjRule.{Conjunction}
 use Rattle.sql_grammar.specs.Grammar.UnitsRule.{NoUnit, MoreUnits}
 use Rattle.sql_grammar.specs.Grammar.UnitRule.{NotUnit, CondUnit, TestUnit}
-use Rattle.sql_grammar.specs.Statements.{AliasRule, item_of, ItemsRule, items_of, JoinRule, and_also, on_conds, with_where, FromRule, query_from, StmtRule, stmt_of, set_of, row_of}
+use Rattle.sql_grammar.specs.Statements.{AliasRule, item_of, ItemsRule, items_of, JoinRule, and_also, on_conds, with_where, FromRule, query_from, ColumnEnd, default_of, ColdefRule, coldef_of, StmtRule, stmt_of, set_of, row_of}
+use Rattle.sql_grammar.specs.Statements.ColumnEnd.{PlainEnd, NotNullEnd, DefaultEnd, NotNullDefault, DefaultNotNull}
+use Rattle.cell_core.specs.declared.table.Column.{Column}
 use Rattle.sql_grammar.specs.Statements.ItemsRule.{AllColumns, SomeItems}
 use Rattle.sql_grammar.specs.Statements.JoinRule.{CommaSource, JoinOn}
-use Rattle.sql_grammar.specs.Statements.StmtRule.{CreateRule, DropRule, InsertRule, DeleteRule, UpdateRule, SelectRule, ExplainRule}
+use Rattle.sql_grammar.specs.Statements.StmtRule.{CreateRule, DropRule, AlterRule, InsertRule, DeleteRule, UpdateRule, SelectRule, ExplainRule}
 use Rattle.sql_tree.specs.Exprs.{cond_exprs, exprs_of_cond}
 use Rattle.sql_grammar.specs.Refused.{stmt_exprs}
 use Rattle.sql_tree.specs.Tree.{ExprTree, CondTree, ItemTree}
@@ -31,7 +33,7 @@ use Rattle.sql_tree.specs.Tree.StmtTree.{Select}
 use Rattle.sql_tree.specs.declared.tree.CmpOp.TheVariants as compare
 use Rattle.sql_refusals.specs.Unread.{has_literal, stmt_has_literal}
 use Rattle.sql_refusals.specs.Laws.{LimitsAsRead}
-use Rattle.sql_refusals.proofs.ReadLemmas.{is_nil, same_limits}
+use Rattle.sql_refusals.proofs.ReadLemmas.{is_huge, same_limits}
 
 or_both : (a b : Bool) → a ≡ false → b ≡ false → (a || b) ≡ false
 or_both true b e f = cc
@@ -40,7 +42,7 @@ or_both false b e f = f
 -- ## Expressions
 
 abbrev IsTold : ExprTree → Type 0
-IsTold e = has_literal is_nil e ≡ false
+IsTold e = has_literal is_huge e ≡ false
 
 mutual
   expr_told : (rule : ExprRule) → IsTold (expr_of rule)
@@ -65,6 +67,7 @@ mutual
   operand_told (NegativeNumber digits) = refl
   operand_told (StringOperand text) = refl
   operand_told (DateOperand text is) = refl
+  operand_told NullOperand = refl
   operand_told (ColumnOperand column) = refl
   operand_told (Negated operand) = operand_told operand
   operand_told (Parenthesised e) = expr_told e
@@ -77,13 +80,13 @@ value_told (AggValue (AggregateOf f e)) = expr_told e
 -- ## Conditions
 
 abbrev AreTold : List ExprTree → Type 0
-AreTold es = list_any (has_literal is_nil) es ≡ false
+AreTold es = list_any (has_literal is_huge) es ≡ false
 
 abbrev IsToldCond : CondTree → Type 0
 IsToldCond c = AreTold (cond_exprs c)
 
 both_told : (xs ys : List ExprTree) → AreTold xs → AreTold ys → AreTold (xs ++ ys)
-both_told xs ys h k = list_any-append (has_literal is_nil) xs ys ∙ or_both _ _ h k
+both_told xs ys h k = list_any-append (has_literal is_huge) xs ys ∙ or_both _ _ h k
 
 denied_told : (denied : Bool) (c : CondTree) → IsToldCond c → IsToldCond (denied_if denied c)
 denied_told true c h = h
@@ -101,6 +104,7 @@ module _ {E : Type 0} (tree : E → ExprTree) (each : (e : E) → IsTold (tree e
   test_told (Comparison left cmp right) = pair_told (tree left) (tree right) (each left) (each right)
   test_told (BetweenTest of denied low high) = denied_told denied _ (or_both _ _ (each of) (pair_told (tree low) (tree high) (each low) (each high)))
   test_told (InTest of denied members) = denied_told denied _ (members_told _ (tree of) (pair_told (tree of) (tree members.0) (each of) (each members.0)) (each of) members.1)
+  test_told (NullTest of denied) = denied_told denied _ (or_both _ _ (each of) refl)
 
   mutual
     pub cond_told : (rule : CondRule E) → IsToldCond (cond_of tree rule)
@@ -172,23 +176,36 @@ sets_told : (sets : List (NameRule × ExprRule)) → AreTold (map (λ (set : Lis
 sets_told [] = refl
 sets_told (set ∷ sets) = or_both _ _ (expr_told set.1) (sets_told sets)
 
-literal_told : (rule : LiteralRule) → is_nil (literal_cell rule) ≡ false
+literal_told : (rule : LiteralRule) → is_huge (literal_cell rule) ≡ false
 literal_told (PlainDigits digits) = refl
 literal_told (MinusDigits digits) = refl
 literal_told (StringLiteral text) = refl
 literal_told (DateLiteral text is) = refl
+literal_told NullLiteral = refl
 
-cells_told : (cells : List LiteralRule) → list_any is_nil (map literal_cell cells) ≡ false
+cells_told : (cells : List LiteralRule) → list_any is_huge (map literal_cell cells) ≡ false
 cells_told [] = refl
 cells_told (cell ∷ cells) = or_both _ _ (literal_told cell) (cells_told cells)
 
-rows_told : (rows : List (LiteralRule × List LiteralRule)) → list_any (list_any is_nil) (map row_of rows) ≡ false
+rows_told : (rows : List (LiteralRule × List LiteralRule)) → list_any (list_any is_huge) (map row_of rows) ≡ false
 rows_told [] = refl
 rows_told (row ∷ rows) = or_both _ _ (cells_told (all_of row)) (rows_told rows)
 
-stmt_told : (rule : StmtRule) → stmt_has_literal is_nil (stmt_of rule) ≡ false
-stmt_told (CreateRule table coldefs) = refl
+default_told : (end : ColumnEnd) → is_huge (default_of end) ≡ false
+default_told PlainEnd = refl
+default_told NotNullEnd = refl
+default_told (DefaultEnd literal) = literal_told literal
+default_told (NotNullDefault literal) = literal_told literal
+default_told (DefaultNotNull literal) = literal_told literal
+
+coldefs_told : (coldefs : List ColdefRule) → list_any (λ (column : Column). is_huge column.default) (map coldef_of coldefs) ≡ false
+coldefs_told [] = refl
+coldefs_told (coldef ∷ coldefs) = or_both _ _ (default_told coldef.end) (coldefs_told coldefs)
+
+stmt_told : (rule : StmtRule) → stmt_has_literal is_huge (stmt_of rule) ≡ false
+stmt_told (CreateRule table coldefs) = coldefs_told (all_of coldefs)
 stmt_told (DropRule table) = refl
+stmt_told (AlterRule table column_word coldef) = coldefs_told (coldef ∷ [])
 stmt_told (InsertRule table columns rows) = rows_told (all_of rows)
 stmt_told (DeleteRule table cond) = optional_told cond
 stmt_told (UpdateRule table sets cond) = both_told (map (λ (set : List ℕ × ExprTree). set.1) (map set_of (all_of sets))) (exprs_of_cond (option_map where_of cond)) (sets_told (all_of sets)) (optional_told cond)
@@ -197,4 +214,4 @@ stmt_told (ExplainRule query) = query_told query.distinct query.items query.from
 
 pub limits_are_read : LimitsAsRead
 limits_are_read = λ kept keeps bytes tokens statement derived.
-    same_limits kept keeps bytes tokens statement (subst (λ s. stmt_has_literal is_nil s ≡ false) derived.statement_is (stmt_told derived.rule))
+    same_limits kept keeps bytes tokens statement (subst (λ s. stmt_has_literal is_huge s ≡ false) derived.statement_is (stmt_told derived.rule))

@@ -8,22 +8,22 @@ use Rattle.cell_core.specs.declared.cell.Cell.{Cell}
 use Rattle.cell_core.specs.declared.cell.Cell.TheVariants as cell
 use Rattle.cell_core.specs.declared.table.Column.{Column}
 use Rattle.sql_tree.specs.Exprs.{cond_exprs, exprs_of_cond}
-use Rattle.sql_grammar.specs.Refused.{is_out_of_range, is_wide_cell, has_wide_literal, expr_nodes, cond_nodes, stmt_exprs, nodes_of_cond, is_wide_place, is_wide_limit, has_wide_number, passes_literal, passed_limits, passes_conditions, is_long_name, columns_pass, query_passes}
+use Rattle.sql_grammar.specs.Refused.{is_out_of_range, is_wide_cell, has_wide_literal, expr_nodes, cond_nodes, stmt_exprs, nodes_of_cond, is_wide_place, is_wide_limit, has_wide_number, has_wide_default, passes_literal, passed_limits, passes_conditions, is_long_name, columns_pass, query_passes}
 use Rattle.sql_tree.specs.Tree.{ExprTree, CondTree, ItemTree, QueryTree, StmtTree}
 use Rattle.sql_tree.specs.Tree.ExprTree.{Literal, ColumnOf, Operator, AggregateAll, Aggregate}
-use Rattle.sql_tree.specs.Tree.CondTree.{Compare, Within, Negation, Both, Either}
-use Rattle.sql_tree.specs.Tree.StmtTree.{CreateTable, DropTable, InsertInto, DeleteFrom, UpdateTable, Select, ExplainSelect}
+use Rattle.sql_tree.specs.Tree.CondTree.{Compare, Within, IsNull, Negation, Both, Either}
+use Rattle.sql_tree.specs.Tree.StmtTree.{CreateTable, DropTable, AlterTable, InsertInto, DeleteFrom, UpdateTable, Select, ExplainSelect}
 use Rattle.sql_tree.specs.declared.token.Token.{Token}
 use Rattle.sql_tree.specs.declared.tree.Place.{Place}
 use Rattle.sql_tree.specs.declared.tree.Place.TheVariants.{Position, Named}
 use Rattle.sql_tree.specs.declared.tree.SortKey.{SortKey}
-use Rattle.sql_refusals.specs.Unread.{is_unread_cell, has_literal, stmt_has_literal, passes_literal_as_read, read_limits, read_cell, read_expr, read_cond, read_item, read_set, Kept, read_column, read_place, read_key, read_query, read_stmt}
+use Rattle.sql_refusals.specs.Unread.{unread_cell, is_unread_cell, has_literal, stmt_has_literal, passes_literal_as_read, read_limits, read_cell, read_expr, read_cond, read_item, read_set, Kept, read_column, read_place, read_key, read_query, read_stmt}
 use Rattle.sql_refusals.specs.Laws.{KeepsLimits}
 
--- no cell of a derived statement is Nil
-abbrev pub is_nil : Cell → Bool
-is_nil cell.Nil = true
-is_nil other = false
+-- no cell of a derived statement is a Huge
+abbrev pub is_huge : Cell → Bool
+is_huge (cell.Huge n) = true
+is_huge other = false
 
 pub or_left : (a b : Bool) → (a || b) ≡ false → a ≡ false
 or_left true b e = cc
@@ -38,20 +38,20 @@ both a b c d e f = cc
 
 -- ## Literals
 
-unread_read : (c : Cell) → is_nil c ≡ false → is_unread_cell (read_cell c) ≡ is_wide_cell c
-unread_read cell.Nil e = cc
+unread_read : (c : Cell) → is_huge c ≡ false → is_unread_cell (read_cell c) ≡ is_wide_cell c
+unread_read cell.Nil e = refl
 unread_read (cell.Int n) e = go (is_out_of_range n) refl
   where
-    go : (b : Bool) → is_out_of_range n ≡ b → is_unread_cell (if b then cell.Nil else cell.Int n) ≡ b
+    go : (b : Bool) → is_out_of_range n ≡ b → is_unread_cell (if b then unread_cell else cell.Int n) ≡ b
     go true h = refl
     go false h = h
-unread_read (cell.Huge n) e = refl
+unread_read (cell.Huge n) e = cc
 unread_read (cell.Text text) e = refl
 unread_read (cell.Day day) e = refl
 unread_read (cell.Bit b) e = refl
 unread_read (cell.Oid n) e = refl
 
-literal_read : (e : ExprTree) → has_literal is_nil e ≡ false → has_literal is_unread_cell (read_expr e) ≡ has_wide_literal e
+literal_read : (e : ExprTree) → has_literal is_huge e ≡ false → has_literal is_unread_cell (read_expr e) ≡ has_wide_literal e
 literal_read (Literal literal) h = unread_read literal h
 literal_read (ColumnOf column) h = refl
 literal_read (Operator op left right) h = both _ _ _ _ (literal_read left (or_left _ _ h)) (literal_read right (or_right _ _ h))
@@ -80,6 +80,7 @@ nodes_read (Aggregate f of) = nodes_read of
 cond_nodes_read : (c : CondTree) → cond_nodes (read_cond c) ≡ cond_nodes c
 cond_nodes_read (Compare op left right) = refl
 cond_nodes_read (Within of low high) = refl
+cond_nodes_read (IsNull of) = refl
 cond_nodes_read (Negation cond) = ap (λ n. n + 1) (cond_nodes_read cond)
 cond_nodes_read (Both left right) = let a = cond_nodes_read left in let b = cond_nodes_read right in cc
 cond_nodes_read (Either left right) = let a = cond_nodes_read left in let b = cond_nodes_read right in cc
@@ -91,6 +92,7 @@ of_cond_read (Some c) = cond_nodes_read c
 exprs_read : (c : CondTree) → cond_exprs (read_cond c) ≡ map read_expr (cond_exprs c)
 exprs_read (Compare op left right) = refl
 exprs_read (Within of low high) = refl
+exprs_read (IsNull of) = refl
 exprs_read (Negation cond) = exprs_read cond
 exprs_read (Both left right) = ap (λ xs. xs ++ cond_exprs (read_cond right)) (exprs_read left) ∙ ap (λ ys. map read_expr (cond_exprs left) ++ ys) (exprs_read right) ∙ sym (map-append read_expr (cond_exprs left) (cond_exprs right))
 exprs_read (Either left right) = ap (λ xs. xs ++ cond_exprs (read_cond right)) (exprs_read left) ∙ ap (λ ys. map read_expr (cond_exprs left) ++ ys) (exprs_read right) ∙ sym (map-append read_expr (cond_exprs left) (cond_exprs right))
@@ -118,6 +120,7 @@ query_exprs kept query =
 stmt_exprs_read : (kept : Kept) (s : StmtTree) → stmt_exprs (read_stmt kept s) ≡ map read_expr (stmt_exprs s)
 stmt_exprs_read kept (CreateTable table columns) = refl
 stmt_exprs_read kept (DropTable table) = refl
+stmt_exprs_read kept (AlterTable table column) = refl
 stmt_exprs_read kept (InsertInto table columns rows) = refl
 stmt_exprs_read kept (DeleteFrom table cond) = of_cond_exprs cond
 stmt_exprs_read kept (UpdateTable table sets cond) = appended (map (λ (set : List ℕ × ExprTree). set.1) sets) (exprs_of_cond cond) _ _ (sets_read sets) (of_cond_exprs cond)
@@ -126,8 +129,8 @@ stmt_exprs_read kept (ExplainSelect query) = query_exprs kept query
 
 -- ## The limit of literals
 
-exprs_literal : (kept : Kept) (s : StmtTree) → list_any (has_literal is_nil) (stmt_exprs s) ≡ false → list_any (has_literal is_unread_cell) (stmt_exprs (read_stmt kept s)) ≡ list_any has_wide_literal (stmt_exprs s)
-exprs_literal kept s h = ap (list_any (has_literal is_unread_cell)) (stmt_exprs_read kept s) ∙ any_read read_expr (has_literal is_unread_cell) (has_literal is_nil) has_wide_literal literal_read (stmt_exprs s) h
+exprs_literal : (kept : Kept) (s : StmtTree) → list_any (has_literal is_huge) (stmt_exprs s) ≡ false → list_any (has_literal is_unread_cell) (stmt_exprs (read_stmt kept s)) ≡ list_any has_wide_literal (stmt_exprs s)
+exprs_literal kept s h = ap (list_any (has_literal is_unread_cell)) (stmt_exprs_read kept s) ∙ any_read read_expr (has_literal is_unread_cell) (has_literal is_huge) has_wide_literal literal_read (stmt_exprs s) h
 
 module _ (kept : Kept) (keeps : KeepsLimits kept) where
   place_read : (place : Place) → is_wide_place (read_place kept place) ≡ is_wide_place place
@@ -145,11 +148,15 @@ module _ (kept : Kept) (keeps : KeepsLimits kept) where
   or_false true = refl
   or_false false = refl
 
-  literal_limit : (s : StmtTree) → stmt_has_literal is_nil s ≡ false → passes_literal_as_read (read_stmt kept s) ≡ passes_literal s
-  literal_limit (CreateTable table columns) h = refl
+  defaults_read : (columns : List Column) → list_any (λ (column : Column). is_huge column.default) columns ≡ false → list_any (λ (column : Column). is_unread_cell column.default) (map (read_column kept) columns) ≡ has_wide_default columns
+  defaults_read = any_read (read_column kept) (λ (column : Column). is_unread_cell column.default) (λ (column : Column). is_huge column.default) (λ (column : Column). is_wide_cell column.default) (λ column h. unread_read column.default h)
+
+  literal_limit : (s : StmtTree) → stmt_has_literal is_huge s ≡ false → passes_literal_as_read (read_stmt kept s) ≡ passes_literal s
+  literal_limit (CreateTable table columns) h = or_false _ ∙ defaults_read columns h
   literal_limit (DropTable table) h = refl
+  literal_limit (AlterTable table column) h = or_false _ ∙ defaults_read (column ∷ []) h
   literal_limit (InsertInto table columns rows) h =
-      or_false _ ∙ any_read (map read_cell) (list_any is_unread_cell) (list_any is_nil) (list_any is_wide_cell) (any_read read_cell is_unread_cell is_nil is_wide_cell unread_read) rows h
+      or_false _ ∙ any_read (map read_cell) (list_any is_unread_cell) (list_any is_huge) (list_any is_wide_cell) (any_read read_cell is_unread_cell is_huge is_wide_cell unread_read) rows h
   literal_limit (DeleteFrom table cond) h = or_false _ ∙ exprs_literal kept (DeleteFrom table cond) h
   literal_limit (UpdateTable table sets cond) h = or_false _ ∙ exprs_literal kept (UpdateTable table sets cond) h
   literal_limit (Select query) h = both _ _ _ _ (exprs_literal kept (Select query) h) (number_read query)
@@ -163,6 +170,7 @@ large_read kept s = ap (list_any (λ e. nat_lt 64 (expr_nodes e))) (stmt_exprs_r
 conditions_read : (kept : Kept) (s : StmtTree) → passes_conditions (read_stmt kept s) ≡ passes_conditions s
 conditions_read kept (CreateTable table columns) = refl
 conditions_read kept (DropTable table) = refl
+conditions_read kept (AlterTable table column) = refl
 conditions_read kept (InsertInto table columns rows) = refl
 conditions_read kept (DeleteFrom table cond) = ap (nat_lt 128) (of_cond_read cond)
 conditions_read kept (UpdateTable table sets cond) = ap (nat_lt 128) (of_cond_read cond)
@@ -172,6 +180,7 @@ conditions_read kept (ExplainSelect query) = both _ _ _ _ (ap (nat_lt 128) (of_c
 columns_read : (kept : Kept) (test : List Column → Bool) → ((columns : List Column) → test (map (read_column kept) columns) ≡ test columns) → (s : StmtTree) → columns_pass test (read_stmt kept s) ≡ columns_pass test s
 columns_read kept test same (CreateTable table columns) = same columns
 columns_read kept test same (DropTable table) = refl
+columns_read kept test same (AlterTable table column) = same (column ∷ [])
 columns_read kept test same (InsertInto table columns rows) = refl
 columns_read kept test same (DeleteFrom table cond) = refl
 columns_read kept test same (UpdateTable table sets cond) = refl
@@ -181,13 +190,14 @@ columns_read kept test same (ExplainSelect query) = refl
 query_read : (kept : Kept) (test : QueryTree → Bool) → ((query : QueryTree) → test (read_query kept query) ≡ test query) → (s : StmtTree) → query_passes test (read_stmt kept s) ≡ query_passes test s
 query_read kept test same (CreateTable table columns) = refl
 query_read kept test same (DropTable table) = refl
+query_read kept test same (AlterTable table column) = refl
 query_read kept test same (InsertInto table columns rows) = refl
 query_read kept test same (DeleteFrom table cond) = refl
 query_read kept test same (UpdateTable table sets cond) = refl
 query_read kept test same (Select query) = same query
 query_read kept test same (ExplainSelect query) = same query
 
-pub same_limits : (kept : Kept) → KeepsLimits kept → (bytes : ℕ) (tokens : List Token) (s : StmtTree) → stmt_has_literal is_nil s ≡ false → read_limits bytes tokens (read_stmt kept s) ≡ passed_limits bytes tokens s
+pub same_limits : (kept : Kept) → KeepsLimits kept → (bytes : ℕ) (tokens : List Token) (s : StmtTree) → stmt_has_literal is_huge s ≡ false → read_limits bytes tokens (read_stmt kept s) ≡ passed_limits bytes tokens s
 same_limits kept keeps bytes tokens s plain = λ i.
     (nat_lt 65536 bytes, codes "statement")
     ∷ (list_any is_long_name tokens, codes "name")

@@ -1,6 +1,6 @@
 -- Limits of a statement as it is read. A reader can't keep a number of more than 64 bits as a literal,
--- and gives Nil in its place, which no literal is.
-use Rattle.std.specs.Prelude.{ℕ, List, ◌∷◌, map, Bool, true, false, ◌||◌, if◌then◌else◌}
+-- and gives a Huge in its place, which no literal is.
+use Rattle.std.specs.Prelude.{ℕ, List, [], ◌∷◌, map, pos, Bool, true, false, ◌||◌, if◌then◌else◌}
 use Rattle.std.specs.List.{list_any}
 use Rattle.std.specs.Option.{option_map}
 use Rattle.cell_core.specs.declared.cell.Cell.{Cell}
@@ -9,16 +9,20 @@ use Rattle.cell_core.specs.declared.table.Column.{Column}
 use Rattle.sql_grammar.specs.Refused.{is_out_of_range, is_wide_cell, has_wide_number, stmt_exprs, passed_limits}
 use Rattle.sql_tree.specs.Tree.{ExprTree, CondTree, ItemTree, QueryTree, StmtTree}
 use Rattle.sql_tree.specs.Tree.ExprTree.{Literal, ColumnOf, Operator, AggregateAll, Aggregate}
-use Rattle.sql_tree.specs.Tree.CondTree.{Compare, Within, Negation, Both, Either}
-use Rattle.sql_tree.specs.Tree.StmtTree.{CreateTable, DropTable, InsertInto, DeleteFrom, UpdateTable, Select, ExplainSelect}
+use Rattle.sql_tree.specs.Tree.CondTree.{Compare, Within, IsNull, Negation, Both, Either}
+use Rattle.sql_tree.specs.Tree.StmtTree.{CreateTable, DropTable, AlterTable, InsertInto, DeleteFrom, UpdateTable, Select, ExplainSelect}
 use Rattle.sql_tree.specs.declared.token.Token.{Token}
 use Rattle.sql_tree.specs.declared.tree.Place.{Place}
 use Rattle.sql_tree.specs.declared.tree.Place.TheVariants.{Position, Named}
 use Rattle.sql_tree.specs.declared.tree.SortKey.{SortKey}
 
--- Nil, or a number outside the signed 64-bit range
+-- what stands for a number outside the signed 64-bit range
+abbrev pub unread_cell : Cell
+unread_cell = cell.Huge (pos 0)
+
+-- a Huge, or a number outside that range
 abbrev pub is_unread_cell : Cell → Bool
-is_unread_cell cell.Nil = true
+is_unread_cell (cell.Huge n) = true
 is_unread_cell other = is_wide_cell other
 
 -- ## Limits with a test of literals
@@ -33,6 +37,8 @@ has_literal test (Aggregate f of) = has_literal test of
 
 -- a literal of the statement passes the test
 abbrev pub stmt_has_literal : (Cell → Bool) → StmtTree → Bool
+stmt_has_literal test (CreateTable table columns) = list_any (λ (column : Column). test column.default) columns
+stmt_has_literal test (AlterTable table column) = list_any (λ (column : Column). test column.default) (column ∷ [])
 stmt_has_literal test (InsertInto table columns rows) = list_any (list_any test) rows
 stmt_has_literal test other = list_any (has_literal test) (stmt_exprs other)
 
@@ -57,9 +63,9 @@ read_limits bytes tokens statement = with_literal (passes_literal_as_read statem
 
 -- ## What a reader gives
 
--- a number of more than 64 bits as Nil, any other literal as it is
+-- a number of more than 64 bits as a Huge, any other literal as it is
 abbrev pub read_cell : Cell → Cell
-read_cell (cell.Int n) = if is_out_of_range n then cell.Nil else cell.Int n
+read_cell (cell.Int n) = if is_out_of_range n then unread_cell else cell.Int n
 read_cell other = other
 
 abbrev pub read_expr : ExprTree → ExprTree
@@ -72,6 +78,7 @@ read_expr (Aggregate f of) = Aggregate f (read_expr of)
 abbrev pub read_cond : CondTree → CondTree
 read_cond (Compare op left right) = Compare op (read_expr left) (read_expr right)
 read_cond (Within of low high) = Within (read_expr of) (read_expr low) (read_expr high)
+read_cond (IsNull of) = IsNull (read_expr of)
 read_cond (Negation cond) = Negation (read_cond cond)
 read_cond (Both left right) = Both (read_cond left) (read_cond right)
 read_cond (Either left right) = Either (read_cond left) (read_cond right)
@@ -95,7 +102,13 @@ abbrev pub read_key : Kept → SortKey → SortKey
 read_key kept key = record { at = read_place kept key.at; ascending = key.ascending }
 
 abbrev pub read_column : Kept → Column → Column
-read_column kept column = record { name = column.name; kind = column.kind; width = kept.width column.width; not_null = column.not_null }
+read_column kept column = record {
+  name = column.name;
+  kind = column.kind;
+  width = kept.width column.width;
+  not_null = column.not_null;
+  default = read_cell column.default;
+}
 
 abbrev pub read_query : Kept → QueryTree → QueryTree
 read_query kept query = record {
@@ -113,6 +126,7 @@ read_query kept query = record {
 abbrev pub read_stmt : Kept → StmtTree → StmtTree
 read_stmt kept (CreateTable table columns) = CreateTable table (map (read_column kept) columns)
 read_stmt kept (DropTable table) = DropTable table
+read_stmt kept (AlterTable table column) = AlterTable table (read_column kept column)
 read_stmt kept (InsertInto table columns rows) = InsertInto table columns (map (map read_cell) rows)
 read_stmt kept (DeleteFrom table cond) = DeleteFrom table (option_map read_cond cond)
 read_stmt kept (UpdateTable table sets cond) = UpdateTable table (map read_set sets) (option_map read_cond cond)

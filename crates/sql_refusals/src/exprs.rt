@@ -33,7 +33,7 @@ pub(crate) fn any_expr(sought: Sought, stmt: &Stmt) -> bool
         Stmt::Update { sets, cond, .. } => {
             any_set(sought, sets.as_slice()) || any_of_cond(sought, cond.as_ref())
         }
-        Stmt::Create { .. } | Stmt::Drop { .. } | Stmt::Insert { .. } => false,
+        Stmt::Create { .. } | Stmt::Drop { .. } | Stmt::Alter { .. } | Stmt::Insert { .. } => false,
     }
 }
 
@@ -80,7 +80,7 @@ fn any_of_cond(sought: Sought, cond: Option<&Cond>) -> bool
     }
 }
 
-/// Whether a literal of the condition could not be read: a Nil, as `has_unread` tells of an expression.
+/// Whether a literal of the condition could not be read: a Huge, as `has_unread` tells of an expression.
 pub fn cond_has_unread(cond: &Cond) -> bool
     ensures { result ≡ list_any (has_literal is_unread_cell) (cond_exprs (cond_tree cond.now)) }
 {
@@ -95,6 +95,7 @@ fn any_in_cond(sought: Sought, cond: &Cond) -> bool
         Cond::Between { of, low, high } => {
             is_found(sought, of) || is_found(sought, low) || is_found(sought, high)
         }
+        Cond::IsNull(of) => is_found(sought, of),
         Cond::Not(cond) => any_in_cond(sought, cond),
         Cond::And(left, right) => any_in_cond(sought, left) || any_in_cond(sought, right),
         Cond::Or(left, right) => any_in_cond(sought, left) || any_in_cond(sought, right),

@@ -2,8 +2,8 @@
 //! and the first limit that a statement passes.
 //!
 //! It stands on `sql_tree` and on the definitions of `sql_grammar`, and decides each of them exactly:
-//! `first_rule`, `left_out`, `statement_bytes`, `first_limit`. A reader gives Nil for a number of more
-//! than 64 bits, which no literal gives, so Nil passes the limit of literals (`specs/Unread`);
+//! `first_rule`, `left_out`, `statement_bytes`, `first_limit`. A reader gives a Huge for a number of more
+//! than 64 bits, which no literal gives, so a Huge passes the limit of literals (`specs/Unread`);
 //! `limits_as_read` is the law that the limits of a statement are then those of what was read. Memory
 //! running out is the only answer that may come instead.
 //!
@@ -19,8 +19,6 @@ mod nodes;
 mod numbers;
 mod profile;
 mod rules;
-#[cfg(test)]
-mod tests;
 
 pub use exprs::cond_has_unread;
 pub use laws::limits_as_read;

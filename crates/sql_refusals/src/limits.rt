@@ -8,10 +8,11 @@ ghost use Rattle.sql_tree.specs.Tree.{stmt_tree};
 
 use crate::exprs::{Sought, any_expr};
 use crate::nodes::any_large_cond;
-use crate::numbers::{any_unread_row, has_wide};
+use crate::numbers::{any_unread_default, any_unread_row, has_wide};
 use cell_core::{Column, Memory, Word, word_of};
 use sql_tree::{Placed, Query, Stmt, Token};
 use std::alloc::Global;
+use std::slice;
 
 /// The most bytes of a statement.
 const MOST_BYTES: usize = 65_536;
@@ -57,7 +58,7 @@ fn end_of(first: &Placed, more: &[Placed]) -> usize
 
 /// The name of the first limit that a statement passes, given its tokens. None where it passes none.
 ///
-/// A Nil among its literals counts as a number past 64 bits, as a reader gives it; a position and a
+/// A Huge among its literals counts as a number past 64 bits, as a reader gives it; a position and a
 /// LIMIT are past the limit where they are past the signed numbers of 64 bits.
 pub fn first_limit(alloc: Global, tokens: &[Placed], stmt: &Stmt) -> Result<Option<Word>, Memory>
     ensures { IfOk result (λ limit. limit ≡ first_passed (read_limits (bytes_between tokens.now) (tokens_in tokens.now) (stmt_tree stmt.now))) }
@@ -136,18 +137,21 @@ fn is_unread(stmt: &Stmt) -> bool
     ensures { result ≡ passes_literal_as_read (stmt_tree stmt.now) }
 {
     let literal = match stmt {
+        Stmt::Create { columns, .. } => any_unread_default(columns.as_slice()),
+        Stmt::Alter { column, .. } => any_unread_default(slice::from_ref(column)),
         Stmt::Insert { rows, .. } => any_unread_row(rows.as_slice()),
         _ => any_expr(Sought::Unread, stmt),
     };
     literal || has_wide(stmt)
 }
 
-/// The columns that a statement creates; none where it creates no table.
+/// Whether a column that the statement writes is wider than the limit.
 fn has_wide_column(stmt: &Stmt) -> bool
     ensures { result ≡ columns_pass (list_any (λ column. nat_lt 65535 column.width)) (stmt_tree stmt.now) }
 {
     match stmt {
         Stmt::Create { columns, .. } => any_wide(columns.as_slice()),
+        Stmt::Alter { column, .. } => any_wide(slice::from_ref(column)),
         _ => false,
     }
 }

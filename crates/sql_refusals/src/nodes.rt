@@ -65,7 +65,7 @@ fn room_after_cond(cond: &Cond, room: u32) -> Option<u32>
         (λ left. left + cond_nodes (cond_tree cond.now) ≡ room) }
 {
     match cond {
-        Cond::Cmp { .. } | Cond::Between { .. } => room.checked_sub(1),
+        Cond::Cmp { .. } | Cond::Between { .. } | Cond::IsNull(_) => room.checked_sub(1),
         Cond::Not(cond) => room_after_cond(cond, room)?.checked_sub(1),
         Cond::And(left, right) => {
             let behind = room_after_cond(left, room)?;

@@ -5,7 +5,7 @@ ghost use Rattle.sql_grammar.specs.Refused.{has_wide_number, is_out_of_range, is
 ghost use Rattle.sql_refusals.specs.Unread.{has_literal, is_unread_cell, stmt_has_wide_number};
 ghost use Rattle.sql_tree.specs.Tree.{expr_tree, query_tree, stmt_tree};
 
-use cell_core::{Cell, Sequence};
+use cell_core::{Cell, Column, Sequence};
 use sql_tree::{Expr, Place, Query, SortKey, Stmt};
 
 /// Whether it is a literal that could not be read: a number of 64 bits is in its range.
@@ -13,7 +13,7 @@ fn is_unread(cell: &Cell) -> bool
     ensures { result ≡ is_unread_cell cell.now }
 {
     match cell {
-        Cell::Nil => true,
+        Cell::Huge(_) => true,
         Cell::Int(number) => !in_range(*number),
         _ => false,
     }
@@ -27,7 +27,7 @@ fn in_range(number: i64) -> bool
     true
 }
 
-/// Whether a literal of the expression could not be read: a Nil, which stands for a number of more than
+/// Whether a literal of the expression could not be read: a Huge, which stands for a number of more than
 /// 64 bits.
 pub fn has_unread(expr: &Expr) -> bool
     ensures { result ≡ has_literal is_unread_cell (expr_tree expr.now) }
@@ -39,6 +39,20 @@ pub fn has_unread(expr: &Expr) -> bool
         Expr::Agg { of: None, .. } => false,
         Expr::Agg { of: Some(of), .. } => has_unread(of),
     }
+}
+
+/// Whether a default of the columns could not be read.
+pub(crate) fn any_unread_default(columns: &[Column]) -> bool
+    ensures { result ≡ list_any (λ column. is_unread_cell column.default) columns.now }
+{
+    let mut rest = columns;
+    'columns: while let [column, more @ ..] = rest {
+        if is_unread(&column.default) {
+            return true;
+        }
+        rest = more;
+    }
+    false
 }
 
 /// Whether a cell of the rows could not be read.

@@ -17,7 +17,9 @@ pub fn left_out(alloc: Global, stmt: &Stmt) -> Result<Option<Word>, Memory>
         Stmt::Explain(query) => query_left_out(alloc, query),
         Stmt::Delete { cond, .. } => arithmetic_if(alloc, cond_left_out(cond.as_ref())),
         Stmt::Update { cond, .. } => arithmetic_if(alloc, cond_left_out(cond.as_ref())),
-        Stmt::Create { .. } | Stmt::Drop { .. } | Stmt::Insert { .. } => Ok(None),
+        Stmt::Create { .. } | Stmt::Drop { .. } | Stmt::Alter { .. } | Stmt::Insert { .. } => {
+            Ok(None)
+        }
     }
 }
 
@@ -61,6 +63,7 @@ pub fn has_column_arithmetic(cond: &Cond) -> bool
         Cond::Between { of, low, high } => {
             is_column_arithmetic(of) || is_column_arithmetic(low) || is_column_arithmetic(high)
         }
+        Cond::IsNull(of) => is_column_arithmetic(of),
         Cond::Not(cond) => has_column_arithmetic(cond),
         Cond::And(left, right) => has_column_arithmetic(left) || has_column_arithmetic(right),
         Cond::Or(left, right) => has_column_arithmetic(left) || has_column_arithmetic(right),

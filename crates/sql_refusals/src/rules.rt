@@ -6,8 +6,7 @@ ghost use Rattle.sql_grammar.specs.Refused.{IsFirstRule};
 ghost use Rattle.sql_grammar.specs.Refused as refused;
 
 use crate::around::{
-    before, follows_not_of_column, has_expressions, is_digits, is_open, is_select, is_star, leads,
-    token_at,
+    before, has_expressions, is_digits, is_open, is_select, is_star, leads, token_at,
 };
 use cell_core::{Memory, Word, word_of};
 use sql_tree::{Keyword, Placed, Symbol, Token};
@@ -34,7 +33,7 @@ fn rule_at(alloc: Global, tokens: &[Placed], i: usize) -> Result<Option<Word>, M
     ensures { IfOk result (λ name. name ≡ refused.rule_at (tokens_in tokens.now) i) }
 {
     match &tokens[i].token {
-        Token::Unsupported(word) => word_rule(alloc, tokens, i, word),
+        Token::Unsupported(word) => upper(alloc, word),
         Token::Key(keyword) => keyword_rule(alloc, tokens, i, *keyword),
         Token::Symbol(symbol) => symbol_rule(alloc, tokens, i, *symbol),
         Token::Name(_) | Token::Quoted(_) => call_rule(alloc, tokens, i),
@@ -42,18 +41,10 @@ fn rule_at(alloc: Global, tokens: &[Placed], i: usize) -> Result<Option<Word>, M
     }
 }
 
-/// A reserved word that is left out, but for NULL behind a column's name, its type and NOT.
-fn word_rule(
-    alloc: Global,
-    tokens: &[Placed],
-    i: usize,
-    word: &Word,
-) -> Result<Option<Word>, Memory>
-    ensures { IfOk result (λ name. name ≡ refused.rule_of (tokens_in tokens.now) i (Some (token.Unsupported word.now))) }
+/// A word in upper case.
+fn upper(alloc: Global, word: &Word) -> Result<Option<Word>, Memory>
+    ensures { IfOk result (λ name. name ≡ Some (refused.upper word.now)) }
 {
-    if word.text() == "null" && follows_not_of_column(tokens, i) {
-        return Ok(None);
-    }
     let upper = word.text().to_ascii_uppercase(alloc)?;
     Ok(Some(word_of(alloc, upper.as_str())?))
 }

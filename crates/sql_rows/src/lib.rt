@@ -1,8 +1,13 @@
-//! Tests of what SQL means over a table that holds Nil, which no statement stores, and of each public
-//! call of `sql_semantics`, `sql_meaning` and `sql_changes` once with enough memory.
+//! Tests of what SQL means: scripts that are read, checked and run, against what an independent
+//! implementation of the language prints, and each other public call of `sql_semantics`, `sql_meaning`
+//! and `sql_changes` once with enough memory.
 #![tactic(auto)]
 
 #[cfg(test)]
 mod made;
+#[cfg(test)]
+mod run;
+#[cfg(test)]
+mod scripts;
 #[cfg(test)]
 mod tests;

@@ -1,6 +1,6 @@
 //! Tables and statements made by hand.
-use cell_core::{Cell, Column, Db, Kind, Memory, Sequence, Table, word_of};
-use sql_tree::{ArithOp, CmpOp, ColRef, Cond, Expr, FromItem, Item, Query};
+use cell_core::{Cell, Column, Kind, Memory, Sequence, word_of};
+use sql_tree::{ArithOp, CmpOp, ColRef, Cond, Expr};
 use std::alloc::Global;
 
 /// The sequence of one.
@@ -18,6 +18,7 @@ fn column(alloc: Global, name: &str) -> Result<Column, Memory> {
         kind: Kind::Int,
         width: 0,
         not_null: false,
+        default: Cell::Nil,
     })
 }
 
@@ -33,26 +34,6 @@ pub(crate) fn row(alloc: Global, a: Cell, b: Cell) -> Result<Sequence<Cell>, Mem
     let mut row = one(alloc, a)?;
     row.push(b)?;
     Ok(row)
-}
-
-/// The table `t` of the rows `(1, Nil)`, `(2, 20)` and `(Nil, 40)`.
-pub(crate) fn database(alloc: Global) -> Result<Db, Memory> {
-    let mut rows = one(alloc, row(alloc, Cell::Int(1), Cell::Nil)?)?;
-    rows.push(row(alloc, Cell::Int(2), Cell::Int(20))?)?;
-    rows.push(row(alloc, Cell::Nil, Cell::Int(40))?)?;
-    database_of(alloc, rows)
-}
-
-/// The table `t` of these rows.
-fn database_of(alloc: Global, rows: Sequence<Sequence<Cell>>) -> Result<Db, Memory> {
-    let table = Table {
-        name: word_of(alloc, "t")?,
-        columns: columns(alloc)?,
-        rows,
-    };
-    Ok(Db {
-        tables: one(alloc, table)?,
-    })
 }
 
 /// A column as an expression.
@@ -80,36 +61,4 @@ pub(crate) fn not_one(alloc: Global) -> Result<Option<Cond>, Memory> {
         right: Expr::Lit(Cell::Int(1)),
     };
     Ok(Some(Cond::Not(Box::new(alloc, equal)?)))
-}
-
-/// The table `t` of FROM.
-fn from(alloc: Global) -> Result<Sequence<FromItem>, Memory> {
-    let table = word_of(alloc, "t")?;
-    one(alloc, FromItem { table, alias: None })
-}
-
-/// A query of these items and no more than a condition.
-fn plain(
-    alloc: Global,
-    items: Sequence<Item>,
-    froms: Sequence<FromItem>,
-    cond: Option<Cond>,
-) -> Query {
-    Query {
-        distinct: false,
-        items,
-        froms,
-        cond,
-        groups: Sequence::new(alloc),
-        having: None,
-        keys: Sequence::new(alloc),
-        limit: None,
-    }
-}
-
-/// `SELECT expr FROM t WHERE cond`
-pub(crate) fn query(alloc: Global, expr: Expr, cond: Option<Cond>) -> Result<Query, Memory> {
-    let froms = from(alloc)?;
-    let items = one(alloc, Item { expr, alias: None })?;
-    Ok(plain(alloc, items, froms, cond))
 }

@@ -1,79 +1,36 @@
-//! What is wanted was told by an independent program that knows NULL.
-use crate::made::{columns, database, named, not_one, one, query, row, times_largest};
-use cell_core::{Cell, Memory, RunError, Sequence, Word, word_of, write_cell};
-use sql_changes::slow_effect;
+//! What is wanted was told by an independent implementation of the language.
+ghost use Rattle.sql_grammar.specs.Formed.{IsFormed};
+ghost use Rattle.sql_tree.specs.Tree.{stmt_tree};
+
+use crate::made::{columns, named, not_one, one, row, times_largest};
+use crate::run::told;
+use crate::scripts::{
+    DEFAULTS, DEFAULTS_TOLD, NULLS, NULLS_TOLD, REFUSED, REFUSED_TOLD, WIDE, WIDE_TOLD,
+};
+use cell_core::{Cell, Memory, Word, word_of};
+use sql_check::{CheckError, check};
 use sql_meaning::{
-    Row, cell_over, cond_overflows, constant_overflows, is_kept, overflows_over, slow_answer,
+    Row, cell_over, cond_overflows, constant_overflows, is_kept, overflows_over, value_over,
 };
+use sql_parse::parse;
 use sql_semantics::{
-    Called, Found, Refusal, Reply, Source, Typed, all_columns, column_place, find_column, key_place,
+    Called, Found, Refusal, Schema, Source, Typed, all_columns, column_place, find_column,
+    key_place,
 };
-use sql_tree::{AggOp, Cond, Expr, Place, Query, Stmt};
+use sql_tree::{Cond, Expr, Place, Stmt};
 use std::alloc::Global;
 use std::test::Fail;
 
-/// The cells of a row, each with a blank behind it.
-fn write_row(row: &[Cell], out: &mut Vec<u8>) -> Result<(), Memory> {
-    for cell in row {
-        write_cell(cell, out)?;
-        out.push(b' ')?;
-    }
-    Ok(())
-}
-
-/// The cells of rows, each with a blank behind it.
-fn told(alloc: Global, rows: &[Sequence<Cell>]) -> Result<Vec<u8>, Memory> {
-    let mut out = Vec::new(alloc);
-    for row in rows {
-        write_row(row.as_slice(), &mut out)?;
-    }
-    Ok(out)
-}
-
-/// What a query answers over the table.
-fn answer(alloc: Global, query: Query) -> Result<Vec<u8>, RunError> {
-    let db = database(alloc)?;
-    let typed = Typed::new(Stmt::Query(query), Sequence::new(alloc))?;
-    let rows = slow_answer(alloc, &typed, &db)?;
-    let told = told(alloc, rows.as_slice())?;
-    Ok(told)
-}
-
 #[test]
-fn where_keeps_what_is_true_alone(rt: HostRuntime) -> Result<(), Fail> {
+fn scripts_show_what_is_told_of_them(rt: HostRuntime) -> Result<(), Fail> {
     let alloc = rt.alloc();
-    let query = query(alloc, named(alloc, "b")?, not_one(alloc)?)?;
-    assert!(rt; answer(alloc, query)?.as_slice() == b"20 ".as_slice());
-    Ok(())
-}
-
-#[test]
-fn count_skips_nil(rt: HostRuntime) -> Result<(), Fail> {
-    let alloc = rt.alloc();
-    let of = Some(Box::new(alloc, named(alloc, "b")?)?);
-    let f = AggOp::Count;
-    let query = query(alloc, Expr::Agg { f, of }, None)?;
-    assert!(rt; answer(alloc, query)?.as_slice() == b"2 ".as_slice());
-    Ok(())
-}
-
-/// `DELETE FROM t WHERE NOT a = 1`
-fn delete(alloc: Global) -> Result<Stmt, Memory> {
-    Ok(Stmt::Delete {
-        table: word_of(alloc, "t")?,
-        cond: not_one(alloc)?,
-    })
-}
-
-#[test]
-fn delete_takes_what_is_true_alone(rt: HostRuntime) -> Result<(), Fail> {
-    let alloc = rt.alloc();
-    let before = database(alloc)?;
-    let (after, reply) = slow_effect(alloc, &delete(alloc)?, &before)?;
-    assert!(rt; matches!(reply, Reply::Rows(1)));
-    for (db, want) in [(&after, "1 \\N \\N 40 "), (&before, "1 \\N 2 20 \\N 40 ")] {
-        let rows = db.tables.get(0).ok_or("no table")?.rows.as_slice();
-        assert!(rt; told(alloc, rows)?.as_slice() == want.as_bytes());
+    for (script, want) in [
+        (NULLS, NULLS_TOLD),
+        (DEFAULTS, DEFAULTS_TOLD),
+        (REFUSED, REFUSED_TOLD),
+        (WIDE, WIDE_TOLD),
+    ] {
+        assert!(rt; told(alloc, script)?.as_slice() == want.as_bytes());
     }
     Ok(())
 }
@@ -123,11 +80,15 @@ fn conditions_over_a_row(rt: HostRuntime) -> Result<(), Fail> {
     Ok(())
 }
 
-/// Whether a number times the largest overflows, and whether its cell is Nil.
+/// Whether a number times the largest overflows, and whether its cell is Nil for want of a value.
 fn overflows_alone(alloc: Global, number: i64) -> Result<(bool, bool), Memory> {
     let large = times_largest(alloc, Expr::Lit(Cell::Int(number)))?;
     let cell = cell_over(&[], &[], &large)?;
-    Ok((constant_overflows(&large)?, matches!(cell, Cell::Nil)))
+    let has_value = value_over(&[], &[], &large)?.is_some();
+    Ok((
+        constant_overflows(&large)?,
+        matches!(cell, Cell::Nil) && !has_value,
+    ))
 }
 
 #[test]
@@ -164,6 +125,14 @@ fn keys_name_items(rt: HostRuntime) -> Result<(), Fail> {
     Ok(())
 }
 
+/// The table `t` without its rows.
+fn source(alloc: Global) -> Result<Source, Memory> {
+    Ok(Source {
+        table: word_of(alloc, "t")?,
+        columns: columns(alloc)?,
+    })
+}
+
 /// The place of a column in the table of a DELETE, where it has one.
 fn place_in_delete(typed: &Typed, column: &Word) -> Option<(u32, u32)> {
     let Stmt::Delete { table, .. } = &typed.stmt else {
@@ -177,18 +146,38 @@ fn place_in_delete(typed: &Typed, column: &Word) -> Option<(u32, u32)> {
     Some(typed.place(None, column))
 }
 
-/// The table `t` without its rows.
-fn source(alloc: Global) -> Result<Source, Memory> {
-    Ok(Source {
-        table: word_of(alloc, "t")?,
-        columns: columns(alloc)?,
-    })
+/// A statement as the check accepts it over the table.
+fn checked(alloc: Global, stmt: &Stmt) -> Result<Typed, CheckError>
+    requires { IsFormed (stmt_tree stmt.now) }
+{
+    let tables = one(alloc, source(alloc)?)?;
+    check(alloc, stmt, &Schema { tables })
+}
+
+/// The same of a DELETE that is handed over.
+fn checked_once(alloc: Global, stmt: Stmt) -> Result<Typed, CheckError>
+    requires { IsFormed (stmt_tree stmt) }
+{
+    match &stmt {
+        Stmt::Delete { .. } => checked(alloc, &stmt),
+        _ => Err(CheckError::Memory),
+    }
+}
+
+/// A DELETE from the table, as the check accepts it.
+fn checked_delete(alloc: Global) -> Result<Typed, CheckError> {
+    match parse(alloc, "DELETE FROM t WHERE NOT a = 1") {
+        Ok(stmt) => checked_once(alloc, stmt),
+        Err(_) => Err(CheckError::Memory),
+    }
 }
 
 #[test]
 fn columns_have_places(rt: HostRuntime) -> Result<(), Fail> {
     let alloc = rt.alloc();
-    let typed = Typed::new(delete(alloc)?, one(alloc, source(alloc)?)?)?;
+    let Ok(typed) = checked_delete(alloc) else {
+        return Err(Fail::from("the check refuses a DELETE"));
+    };
     for (name, want) in [("a", Some((0, 0))), ("b", Some((0, 1))), ("c", None)] {
         let place = place_in_delete(&typed, &word_of(alloc, name)?);
         assert_eq!(rt; place, want);

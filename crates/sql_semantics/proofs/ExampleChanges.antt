@@ -23,12 +23,12 @@ lineitem = codes "lineitem"
 
 abbrev create : StmtTree
 create = CreateTable lineitem
-    (record { name = codes "l_orderkey"; kind = kind.Int; width = 0; not_null = true }
-    ∷ record { name = codes "l_quantity"; kind = kind.Int; width = 0; not_null = true }
-    ∷ record { name = codes "l_extendedprice"; kind = kind.Int; width = 0; not_null = true }
-    ∷ record { name = codes "l_discount"; kind = kind.Int; width = 0; not_null = true }
-    ∷ record { name = codes "l_shipdate"; kind = kind.Day; width = 0; not_null = true }
-    ∷ record { name = codes "l_comment"; kind = kind.Text; width = 44; not_null = false }
+    (record { name = codes "l_orderkey"; kind = kind.Int; width = 0; not_null = true; default = cell.Nil }
+    ∷ record { name = codes "l_quantity"; kind = kind.Int; width = 0; not_null = true; default = cell.Nil }
+    ∷ record { name = codes "l_extendedprice"; kind = kind.Int; width = 0; not_null = true; default = cell.Nil }
+    ∷ record { name = codes "l_discount"; kind = kind.Int; width = 0; not_null = true; default = cell.Nil }
+    ∷ record { name = codes "l_shipdate"; kind = kind.Day; width = 0; not_null = true; default = cell.Nil }
+    ∷ record { name = codes "l_comment"; kind = kind.Text; width = 44; not_null = false; default = cell.Nil }
     ∷ [])
 
 -- 1994-01-01 is day 8766, and 1995-01-01 is day 9131

@@ -5,7 +5,7 @@ use Rattle.std.specs.Fmt.{digits}
 use Rattle.cell_core.specs.declared.cell.Cell.{Cell}
 use Rattle.cell_core.specs.declared.cell.Cell.TheVariants as cell
 use Rattle.cell_core.specs.declared.cell.Kind.TheVariants as kind
-use Rattle.sql_tree.specs.Words.{keyword_of, is_unsupported_word}
+use Rattle.sql_tree.specs.Words.{keywords, keyword_of, unsupported_words, is_unsupported_word}
 use Rattle.sql_tree.specs.Tree.{QueryTree, StmtTree}
 use Rattle.sql_tree.specs.Tree.ExprTree.{Operator, AggregateAll, Aggregate}
 use Rattle.sql_tree.specs.Tree.CondTree.{Compare}
@@ -30,7 +30,7 @@ abbrev p : List ℕ
 p = codes "p"
 
 abbrev create_p : StmtTree
-create_p = CreateTable p (record { name = codes "s"; kind = kind.Text; width = 2; not_null = false } ∷ [])
+create_p = CreateTable p (record { name = codes "s"; kind = kind.Text; width = 2; not_null = false; default = cell.Nil } ∷ [])
 
 abbrev text : List ℕ → List Cell
 text bytes = cell.Text bytes ∷ []
@@ -45,15 +45,15 @@ unfolding chars
 too_long = refl
 
 no_column : reply (create_p ∷ []) (Select (select (item (col (codes "x")) ∷ []) (from p ∷ []) None)) ≡ Refused (NoColumn (codes "x"))
-unfolding keyword_of is_unsupported_word
+unfolding keyword_of keywords is_unsupported_word unsupported_words
 no_column = refl
 
 no_table : reply (create_p ∷ []) (DropTable (codes "q")) ≡ Refused (NoTable (codes "q"))
-unfolding keyword_of is_unsupported_word
+unfolding keyword_of keywords is_unsupported_word unsupported_words
 no_table = refl
 
 exists : reply (create_p ∷ []) (CreateTable p (column (codes "s") kind.Text ∷ [])) ≡ Refused (TableExists p)
-unfolding keyword_of is_unsupported_word
+unfolding keyword_of keywords is_unsupported_word unsupported_words
 exists = refl
 
 other_kind : reply (create_p ∷ []) (insert p ((int 1 ∷ []) ∷ [])) ≡ Refused KindsDiffer
@@ -72,18 +72,18 @@ pairs =
 
 -- SELECT k FROM u, w
 ambiguous : reply pairs (Select (select (item (col (codes "k")) ∷ []) (from (codes "u") ∷ from (codes "w") ∷ []) None)) ≡ Refused (Ambiguous (codes "k"))
-unfolding keyword_of is_unsupported_word
+unfolding keyword_of keywords is_unsupported_word unsupported_words
 ambiguous = refl
 
 -- SELECT v, COUNT(*) FROM u GROUP BY k
 not_grouped : reply pairs (Select (record (select (item (col (codes "v")) ∷ item (AggregateAll aggregate.Count) ∷ []) (from (codes "u") ∷ []) None) { groups = record { table = None; column = codes "k" } ∷ [] }))
     ≡ Refused (NotGrouped (codes "v"))
-unfolding keyword_of is_unsupported_word
+unfolding keyword_of keywords is_unsupported_word unsupported_words
 not_grouped = refl
 
 -- SELECT k FROM u, u
 from_twice : reply pairs (Select (select (item (col (codes "k")) ∷ []) (from (codes "u") ∷ from (codes "u") ∷ []) None)) ≡ Refused (NameTwice (codes "u"))
-unfolding keyword_of is_unsupported_word
+unfolding keyword_of keywords is_unsupported_word unsupported_words
 from_twice = refl
 
 -- SELECT k FROM u ORDER BY 2; SELECT k FROM u ORDER BY v
@@ -95,7 +95,7 @@ unfolding digits
 no_position = refl
 
 no_item : reply pairs (Select (record k_of_u { keys = record { at = Named (record { table = None; column = codes "v" }); ascending = true } ∷ [] })) ≡ Refused (NoColumn (codes "v"))
-unfolding keyword_of is_unsupported_word
+unfolding keyword_of keywords is_unsupported_word unsupported_words
 no_item = refl
 
 -- SELECT SUM(n) FROM w: a missing column would come first, kinds come last
@@ -103,7 +103,7 @@ text_sum : reply pairs (Select (select (item (Aggregate aggregate.Sum (col (code
 text_sum = refl
 
 missing_first : reply pairs (Select (select (item (Aggregate aggregate.Sum (col (codes "n"))) ∷ []) (from (codes "w") ∷ []) (Some (Compare cmp.Eq (col (codes "z")) (number 1))))) ≡ Refused (NoColumn (codes "z"))
-unfolding keyword_of is_unsupported_word
+unfolding keyword_of keywords is_unsupported_word unsupported_words
 missing_first = refl
 
 -- ## INSERT and UPDATE
@@ -116,13 +116,10 @@ in_place : effect turned (replay (CreateTable (codes "u") (column (codes "k") ki
     ≡ (record { tables = record { name = codes "u"; columns = column (codes "k") kind.Int ∷ column (codes "v") kind.Int ∷ []; rows = (int 2 ∷ int 1 ∷ []) ∷ [] } ∷ [] }, Rows 1)
 in_place = refl
 
--- INSERT INTO u (k, k) VALUES (1, 2); INSERT INTO u (k) VALUES (1)
+-- INSERT INTO u (k, k) VALUES (1, 2)
 listed_twice : reply pairs (InsertInto (codes "u") (codes "k" ∷ codes "k" ∷ []) ((int 1 ∷ int 2 ∷ []) ∷ [])) ≡ Refused (NameTwice (codes "k"))
-unfolding keyword_of is_unsupported_word
+unfolding keyword_of keywords is_unsupported_word unsupported_words
 listed_twice = refl
-
-left_out : reply pairs (InsertInto (codes "u") (codes "k" ∷ []) ((int 1 ∷ []) ∷ [])) ≡ Refused WrongCount
-left_out = refl
 
 -- UPDATE u SET v = k * 9223372036854775807, over an empty table and over one with k = 2
 abbrev grow : StmtTree

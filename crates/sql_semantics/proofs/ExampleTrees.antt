@@ -15,7 +15,7 @@ abbrev pub int : ℕ → Cell
 int n = cell.Int (pos n)
 
 abbrev pub column : List ℕ → Kind → Column
-column name k = record { name = name; kind = k; width = 0; not_null = false }
+column name k = record { name = name; kind = k; width = 0; not_null = false; default = cell.Nil }
 
 abbrev pub number : ℕ → ExprTree
 number n = Literal (int n)

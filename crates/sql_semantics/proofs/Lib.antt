@@ -5,3 +5,6 @@ pub mod ExampleTrees
 mod ExampleQueries
 mod ExampleChanges
 mod ExampleRefusals
+mod ExampleNulls
+mod ExampleColumns
+pub mod RefusedLemmas

@@ -7,7 +7,7 @@ use Rattle.cell_core.specs.declared.table.Column.{Column}
 use Rattle.cell_core.specs.Kinds.{kind_of, agrees}
 use Rattle.sql_tree.specs.Names.{name_text}
 use Rattle.sql_tree.specs.Tree.{ExprTree, CondTree, ItemTree, QueryTree, StmtTree}
-use Rattle.sql_tree.specs.Tree.StmtTree.{CreateTable, DropTable, InsertInto, DeleteFrom, UpdateTable, Select, ExplainSelect}
+use Rattle.sql_tree.specs.Tree.StmtTree.{CreateTable, DropTable, AlterTable, InsertInto, DeleteFrom, UpdateTable, Select, ExplainSelect}
 use Rattle.sql_tree.specs.declared.tree.ColRef.{ColRef}
 use Rattle.sql_tree.specs.declared.tree.FromItem.{FromItem}
 use Rattle.sql_tree.specs.declared.tree.Place.{Place}
@@ -62,14 +62,25 @@ abbrev pub is_misfit_cond : List NamedSource → Option CondTree → Bool
 is_misfit_cond sources None = false
 is_misfit_cond sources (Some cond) = is_cond_misfit sources cond
 
--- ## CREATE and DROP
+-- ## CREATE, DROP and ALTER
+
+-- the default is of another kind than the column
+abbrev pub is_misfit_default : Column → Bool
+is_misfit_default column = not (agrees (kind_of column.default) (Some column.kind))
 
 abbrev pub create_refusals : List ℕ → List Column → Schema → List Refusal
 create_refusals table columns schema =
-    refused_if (is_some (source_named table schema)) (TableExists (name_text table)) ++ names_twice (map (λ (column : Column). column.name) columns)
+    refused_if (is_some (source_named table schema)) (TableExists (name_text table))
+    ++ names_twice (map (λ (column : Column). column.name) columns)
+    ++ refused_if (list_any is_misfit_default columns) KindsDiffer
 
 abbrev pub drop_refusals : List ℕ → Schema → List Refusal
 drop_refusals table schema = refused_if (is_none (source_named table schema)) (NoTable (name_text table))
+
+-- a column that is to be added has another name than the columns that are there
+abbrev pub alter_refusals : Column → Source → List Refusal
+alter_refusals column source =
+    refused_if (is_some (column_named source.columns column.name)) (NameTwice (name_text column.name)) ++ refused_if (is_misfit_default column) KindsDiffer
 
 -- ## INSERT
 
@@ -77,14 +88,9 @@ drop_refusals table schema = refused_if (is_none (source_named table schema)) (N
 abbrev pub targets : List Column → List (List ℕ) → List Column
 targets columns listed = if length listed == 0 then columns else filter_map (column_named columns) listed
 
--- a column that isn't listed
-abbrev pub is_left_out : List Column → Column → Bool
-is_left_out listed column = is_none (column_named listed column.name)
-
--- rows have as many values as there are columns listed, and all columns are listed
-abbrev pub is_wrong_count : List Column → List Column → List (List Cell) → Bool
-is_wrong_count columns listed rows =
-    list_any (is_left_out listed) columns || list_any (λ (row : List Cell). not (length row == length listed)) rows
+-- a row has more or fewer values than there are columns that they go to
+abbrev pub is_wrong_count : List Column → List (List Cell) → Bool
+is_wrong_count columns rows = list_any (λ (row : List Cell). not (length row == length columns)) rows
 
 -- a value is of another kind than its column
 abbrev pub is_misfit_row : List Column → List Cell → Bool
@@ -94,7 +100,7 @@ abbrev pub insert_refusals : List (List ℕ) → List (List Cell) → Source →
 insert_refusals listed rows source =
     unknown_names source.columns listed
     ++ names_twice listed
-    ++ refused_if (is_wrong_count source.columns (targets source.columns listed) rows) WrongCount
+    ++ refused_if (is_wrong_count (targets source.columns listed) rows) WrongCount
     ++ refused_if (list_any (is_misfit_row (targets source.columns listed)) rows) KindsDiffer
 
 -- ## DELETE and UPDATE
@@ -179,6 +185,7 @@ over_table table (Some source) change = change source
 abbrev pub refusals_of : StmtTree → Schema → List Refusal
 refusals_of (CreateTable table columns) schema = create_refusals table columns schema
 refusals_of (DropTable table) schema = drop_refusals table schema
+refusals_of (AlterTable table column) schema = over_table table (source_named table schema) (alter_refusals column)
 refusals_of (InsertInto table listed rows) schema = over_table table (source_named table schema) (insert_refusals listed rows)
 refusals_of (DeleteFrom table cond) schema = over_table table (source_named table schema) (delete_refusals cond)
 refusals_of (UpdateTable table sets cond) schema = over_table table (source_named table schema) (update_refusals sets cond)
@@ -199,6 +206,7 @@ sources_named names schema = filter_map (λ name. source_named name schema) name
 abbrev pub tables_of : StmtTree → List (List ℕ)
 tables_of (CreateTable table columns) = []
 tables_of (DropTable table) = table ∷ []
+tables_of (AlterTable table column) = table ∷ []
 tables_of (InsertInto table listed rows) = table ∷ []
 tables_of (DeleteFrom table cond) = table ∷ []
 tables_of (UpdateTable table sets cond) = table ∷ []
@@ -211,6 +219,7 @@ called_in (Select query) = map from_name query.froms
 called_in (ExplainSelect query) = map from_name query.froms
 called_in (CreateTable table columns) = []
 called_in (DropTable table) = table ∷ []
+called_in (AlterTable table column) = table ∷ []
 called_in (InsertInto table listed rows) = table ∷ []
 called_in (DeleteFrom table cond) = table ∷ []
 called_in (UpdateTable table sets cond) = table ∷ []

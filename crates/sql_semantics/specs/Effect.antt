@@ -1,17 +1,19 @@
 -- What a statement does to a database, and what it replies.
 use Rattle.std.specs.Prelude.{ℕ, List, [], ◌∷◌, ◌++◌, ◌+◌, length, map, filter, find, chars, zip, Bool, false, not, ◌&&◌, ◌||◌, ◌==◌, nat_lt, if◌then◌else◌, bytes_eq, codes, slice_index_or, Option, Some, None, is_none, Result, Ok, Err}
+use Rattle.std.specs.Option.{option_map_or}
 use Rattle.std.specs.List.{list_any, position_or_len}
 use Rattle.cell_core.specs.declared.cell.Cell.{Cell}
-use Rattle.cell_core.specs.declared.cell.Cell.TheVariants.{Nil, Text}
+use Rattle.cell_core.specs.declared.cell.Cell.TheVariants.{Text}
 use Rattle.cell_core.specs.declared.table.Column.{Column}
 use Rattle.cell_core.specs.declared.table.Table.{Table}
 use Rattle.cell_core.specs.declared.table.Db.{Db}
+use Rattle.cell_core.specs.Pairs.{is_nil}
 use Rattle.cell_core.specs.Tables.{named_table}
 use Rattle.sql_tree.specs.Names.{name_text}
 use Rattle.sql_tree.specs.Tree.{ExprTree, CondTree, StmtTree}
-use Rattle.sql_tree.specs.Tree.StmtTree.{CreateTable, DropTable, InsertInto, DeleteFrom, UpdateTable, Select, ExplainSelect}
+use Rattle.sql_tree.specs.Tree.StmtTree.{CreateTable, DropTable, AlterTable, InsertInto, DeleteFrom, UpdateTable, Select, ExplainSelect}
 use Rattle.sql_semantics.specs.declared.refusal.Refusal.{Refusal}
-use Rattle.sql_semantics.specs.declared.refusal.Refusal.TheVariants.{NoTable, TextTooLong, Overflow, Limit}
+use Rattle.sql_semantics.specs.declared.refusal.Refusal.TheVariants.{NoTable, TextTooLong, Overflow, Limit, NullStored}
 use Rattle.sql_semantics.specs.declared.refusal.Reply.{Reply}
 use Rattle.sql_semantics.specs.declared.refusal.Reply.TheVariants.{Done, Rows, Refused}
 use Rattle.sql_semantics.specs.Sources.{NamedSource, schema_of}
@@ -25,8 +27,8 @@ use Rattle.sql_semantics.specs.Check.{refused_if, targets, check_refusal}
 abbrev pub Change : Type 0
 Change = Result (List (List Cell) × ℕ) Refusal
 
--- the first refusal, or else the rows
-abbrev pub unless_refused : List Refusal → List (List Cell) × ℕ → Change
+-- the first refusal, or else what the statement leaves
+abbrev pub unless_refused : {X : Type 0} → List Refusal → X → Result X Refusal
 unless_refused [] outcome = Ok outcome
 unless_refused (refusal ∷ more) outcome = Err refusal
 
@@ -35,27 +37,39 @@ abbrev pub is_too_long : Column → Cell → Bool
 is_too_long column (Text text) = not (column.width == 0) && nat_lt column.width (length (chars text))
 is_too_long column _ = false
 
--- the most rows of a table
+-- Nil in a column that refuses it
+abbrev pub is_null_refused : Column → Cell → Bool
+is_null_refused column cell = column.not_null && is_nil cell
+
+-- the most rows of a table, and the most columns
 abbrev pub row_limit : ℕ
 row_limit = 1048576
 
+abbrev pub column_limit : ℕ
+column_limit = 64
+
 -- ## INSERT
 
--- a row with each value in its column's place
+-- a row with each value in its column's place; a column that the list lacks gets its default
 abbrev pub placed : List Column → List (List ℕ) → List Cell → List Cell
 placed columns listed row =
     if length listed == 0 then row
-    else map (λ (column : Column). slice_index_or row (position_or_len (bytes_eq column.name) listed) Nil) columns
+    else map (λ (column : Column). slice_index_or row (position_or_len (bytes_eq column.name) listed) column.default) columns
 
 -- a value is too long for its column
 abbrev pub is_too_long_row : List Column → List Cell → Bool
 is_too_long_row columns row = list_any (λ (at : Column × Cell). is_too_long at.0 at.1) (zip columns row)
+
+-- a row has Nil for a column that refuses it
+abbrev pub is_null_row : List Column → List Cell → Bool
+is_null_row columns row = list_any (λ (at : Column × Cell). is_null_refused at.0 at.1) (zip columns row)
 
 -- the rows are added in order
 abbrev pub inserted : List (List ℕ) → List (List Cell) → Table → Change
 inserted listed rows table =
     unless_refused
     (refused_if (list_any (is_too_long_row (targets table.columns listed)) rows) TextTooLong
+    ++ refused_if (list_any (is_null_row table.columns) (map (placed table.columns listed) rows)) NullStored
     ++ refused_if (nat_lt row_limit (length table.rows + length rows)) (Limit (codes "rows")))
     (table.rows ++ map (placed table.columns listed) rows, length rows)
 
@@ -91,6 +105,11 @@ abbrev pub is_too_long_set : Table → List Cell → List ℕ × ExprTree → Bo
 is_too_long_set table row set =
     list_any (λ (column : Column). bytes_eq column.name set.0 && is_too_long column (cell_over (own_table table) (row ∷ []) set.1)) table.columns
 
+-- Nil is the value for a column that refuses it; an expression that leaves the range has no value
+abbrev pub is_null_set : Table → List Cell → List ℕ × ExprTree → Bool
+is_null_set table row set =
+    list_any (λ (column : Column). bytes_eq column.name set.0 && option_map_or (is_null_refused column) (value (own_table table) (row ∷ []) set.1) false) table.columns
+
 -- an expression leaves the range for a row
 abbrev pub overflows_in : Table → List Cell → List ℕ × ExprTree → Bool
 overflows_in table row set = is_none (value (own_table table) (row ∷ []) set.1)
@@ -104,6 +123,7 @@ abbrev pub updated : List (List ℕ × ExprTree) → Option CondTree → Table �
 updated sets cond table =
     unless_refused
     (refused_if (is_any_set (is_too_long_set table) sets (filter (is_hit cond table) table.rows)) TextTooLong
+    ++ refused_if (is_any_set (is_null_set table) sets (filter (is_hit cond table) table.rows)) NullStored
     ++ refused_if
     (list_any constant_overflows (map (λ (set : List ℕ × ExprTree). set.1) sets) || cond_overflows cond
     || is_any_set (overflows_in table) sets (filter (is_hit cond table) table.rows))
@@ -125,18 +145,51 @@ abbrev pub changed : List ℕ → (Table → Change) → Option Table → Db →
 changed name change (Some table) db = changed_by name (change table) db
 changed name change None db = (db, Refused (NoTable (name_text name)))
 
+-- what is left of the database where the statement isn't refused, which replies that it is done
+abbrev pub done_by : Result Db Refusal → Db → Db × Reply
+done_by (Ok left) db = (left, Done)
+done_by (Err refusal) db = (db, Refused refusal)
+
+-- the default is too long for the column
+abbrev pub is_long_default : Column → Bool
+is_long_default column = is_too_long column column.default
+
 -- a table without rows, behind the others
 abbrev pub created : List ℕ → List Column → Db → Db × Reply
-created name columns db = (record { tables = db.tables ++ record { name = name; columns = columns; rows = [] } ∷ [] }, Done)
+created name columns db =
+    done_by
+    (unless_refused
+    (refused_if (list_any is_long_default columns) TextTooLong)
+    (record { tables = db.tables ++ record { name = name; columns = columns; rows = [] } ∷ [] }))
+    db
 
 -- the tables without that one
 abbrev pub dropped : List ℕ → Db → Db × Reply
 dropped name db = (record { tables = filter (λ (table : Table). not (bytes_eq table.name name)) db.tables }, Done)
 
+-- the table with one more column at its end, where it has this name; each row has the column's default there
+abbrev pub with_column : List ℕ → Column → Table → Table
+with_column name column table =
+    if bytes_eq table.name name
+    then record table { columns = table.columns ++ column ∷ []; rows = map (λ (row : List Cell). row ++ column.default ∷ []) table.rows }
+    else table
+
+-- why the column isn't added: its default is too long, rows would have Nil where it is refused, or there would be too many columns
+abbrev pub column_refused : Column → Table → List Refusal
+column_refused column table =
+    refused_if (is_long_default column) TextTooLong
+    ++ refused_if (is_null_refused column column.default && not (length table.rows == 0)) NullStored
+    ++ refused_if (nat_lt column_limit (length table.columns + 1)) (Limit (codes "columns"))
+
+abbrev pub altered : List ℕ → Column → Option Table → Db → Db × Reply
+altered name column (Some table) db = done_by (unless_refused (column_refused column table) (record { tables = map (with_column name column) db.tables })) db
+altered name column None db = (db, Refused (NoTable (name_text name)))
+
 -- what an accepted statement leaves of the database, and its reply; a query changes nothing
 abbrev pub accepted : StmtTree → Db → Db × Reply
 accepted (CreateTable table columns) db = created table columns db
 accepted (DropTable table) db = dropped table db
+accepted (AlterTable table column) db = altered table column (named_table table db) db
 accepted (InsertInto table listed rows) db = changed table (inserted listed rows) (named_table table db) db
 accepted (DeleteFrom table cond) db = changed table (deleted cond) (named_table table db) db
 accepted (UpdateTable table sets cond) db = changed table (updated sets cond) (named_table table db) db

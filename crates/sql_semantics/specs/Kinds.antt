@@ -7,7 +7,7 @@ use Rattle.cell_core.specs.declared.table.Column.{Column}
 use Rattle.cell_core.specs.Kinds.{kind_of, agrees, are_comparable}
 use Rattle.sql_tree.specs.Tree.{ExprTree, CondTree}
 use Rattle.sql_tree.specs.Tree.ExprTree.{Literal, ColumnOf, Operator, AggregateAll, Aggregate}
-use Rattle.sql_tree.specs.Tree.CondTree.{Compare, Within, Negation, Both, Either}
+use Rattle.sql_tree.specs.Tree.CondTree.{Compare, Within, IsNull, Negation, Both, Either}
 use Rattle.sql_tree.specs.declared.tree.AggOp.{AggOp}
 use Rattle.sql_tree.specs.declared.tree.AggOp.TheVariants as aggregate
 use Rattle.sql_tree.specs.declared.tree.ColRef.{ColRef}
@@ -64,6 +64,7 @@ is_cond_misfit sources (Compare op left right) =
     is_misfit sources left || is_misfit sources right || not (compares sources left right)
 is_cond_misfit sources (Within of low high) =
     is_misfit sources of || is_misfit sources low || is_misfit sources high || not (compares sources of low) || not (compares sources of high)
+is_cond_misfit sources (IsNull of) = is_misfit sources of
 is_cond_misfit sources (Negation cond) = is_cond_misfit sources cond
 is_cond_misfit sources (Both left right) = is_cond_misfit sources left || is_cond_misfit sources right
 is_cond_misfit sources (Either left right) = is_cond_misfit sources left || is_cond_misfit sources right

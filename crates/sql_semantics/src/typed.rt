@@ -1,15 +1,19 @@
-ghost use Rattle.std.specs.Prelude.{◌≡◌, [], ◌∷◌, map, Some, IfOk, IsSome, IsTrue};
+ghost use Rattle.std.specs.Prelude.{◌≡◌, [], ◌∷◌, map, Some, None, IfOk, IsSome, IsTrue};
 ghost use Rattle.std.specs.Option.{option_copied};
 ghost use Rattle.sql_semantics.specs.Sources.{from_name as from_name_of, called_sources, places, place_of};
 ghost use Rattle.sql_semantics.specs.Found.{found_of};
 ghost use Rattle.sql_semantics.specs.Small.{are_small};
+ghost use Rattle.sql_grammar.specs.Formed.{IsFormed};
+ghost use Rattle.sql_tree.specs.Tree.{stmt_tree};
+ghost use Rattle.sql_semantics.specs.Check.{check_refusal};
 
 use crate::called::{Called, Found, find_column};
 use crate::source::Source;
 use cell_core::{Memory, Sequence, Word};
-use sql_tree::{FromItem, Stmt};
+use sql_tree::{FromItem, Query, Stmt};
 
-/// A statement that the check accepts, with the tables that it speaks of.
+/// A statement that reading may give and the check accepts, with the tables that it speaks of. Contracts
+/// see the statement's tree as a formed one, which the check has no refusal of over these tables.
 #[derive(Debug, Drop)]
 pub struct Typed {
     /// The statement.
@@ -17,6 +21,8 @@ pub struct Typed {
     /// The tables of FROM in its order, the one table of another statement, or none for CREATE.
     pub sources: Sequence<Source>,
     ghost small: { IsTrue (are_small sources) },
+    ghost formed: { ∥ IsFormed (stmt_tree stmt) ∥₁ },
+    ghost accepted: { check_refusal (stmt_tree stmt) (record { tables = sources }) ≡ None },
 }
 
 /// Fewer than 2^32 tables, and so many columns of each.
@@ -31,6 +37,23 @@ fn is_small(sources: &[Source]) -> bool
         rest = more;
     }
     sources.len() < 1 << 32
+}
+
+/// Lets a query go.
+fn let_go_query(_query: Query) {}
+
+/// Lets a statement go.
+fn let_go(stmt: Stmt) {
+    match stmt {
+        Stmt::Query(query) => let_go_query(query),
+        Stmt::Explain(query) => let_go_query(query),
+        Stmt::Create { .. }
+        | Stmt::Drop { .. }
+        | Stmt::Alter { .. }
+        | Stmt::Insert { .. }
+        | Stmt::Delete { .. }
+        | Stmt::Update { .. } => {}
+    }
 }
 
 /// The name by which a query calls a table of FROM.
@@ -78,15 +101,18 @@ fn find_in_own(own: &Word, sources: &[Source], table: Option<&Word>, name: &Word
 impl Typed {
     ghost use Rattle.sql_semantics.specs.Typed.{typed_sources};
 
-    /// The statement with these tables. Tables or columns whose numbers don't fit 32 bits are
+    /// A formed statement with these tables, over which the check accepts it. Tables or columns whose numbers don't fit 32 bits are
     /// answered as want of memory.
     pub fn new(stmt: Stmt, sources: Sequence<Source>) -> Result<Typed, Memory>
+        requires formed { IsFormed (stmt_tree stmt) }
+        requires accepted { check_refusal (stmt_tree stmt) (record { tables = sources }) ≡ None }
         ensures stmt { IfOk result (λ typed. typed.stmt ≡ stmt) }
         ensures sources { IfOk result (λ typed. typed.sources ≡ sources) }
     {
         if is_small(sources.as_slice()) {
             Ok(Typed { stmt, sources })
         } else {
+            let_go(stmt);
             Err(Memory)
         }
     }
@@ -102,6 +128,7 @@ impl Typed {
             }
             Stmt::Create { .. } => Found::Nowhere,
             Stmt::Drop { table: own }
+            | Stmt::Alter { table: own, .. }
             | Stmt::Insert { table: own, .. }
             | Stmt::Delete { table: own, .. }
             | Stmt::Update { table: own, .. } => find_in_own(own, sources, table, name),

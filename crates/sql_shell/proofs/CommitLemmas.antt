@@ -1,20 +1,19 @@
--- A refused statement changes nothing, and the commits of a statement's events lead where the statement does.
+-- A query changes nothing, and the commits of a statement's events lead where the statement does.
 use Rattle.std.proofs.Common.{◌≡◌, ℕ, ◌==◌, List, [], ◌∷◌, ◌++◌, Bool, true, false, cond, refl, ap, sym, ◌∙◌, Option, Some, None, Ok, Err, Result}
 use Rattle.std.specs.List.{filter_map}
 use Rattle.std.proofs.lemmas.List.Elements.{filter_map-append}
 use Rattle.cell_core.specs.declared.table.Db.{Db}
-use Rattle.cell_core.specs.declared.table.Table.{Table}
-use Rattle.cell_core.specs.Tables.{named_table}
 use Rattle.sql_semantics.specs.Refusals.{refusal_number}
 use Rattle.sql_semantics.specs.Check.{check_refusal}
-use Rattle.sql_semantics.specs.Effect.{Change, effect, effect_unless, accepted, changed, changed_by, inserted, deleted, updated, replay_from}
+use Rattle.sql_semantics.specs.Effect.{effect, effect_unless, replay_from}
+use Rattle.sql_semantics.proofs.RefusedLemmas.{effect_leaves}
 use Rattle.sql_semantics.specs.Sources.{schema_of}
 use Rattle.sql_semantics.specs.declared.refusal.Refusal.{Refusal}
 use Rattle.sql_semantics.specs.declared.refusal.Refusal.TheVariants as refusal
 use Rattle.sql_semantics.specs.declared.refusal.Reply.{Reply}
 use Rattle.sql_semantics.specs.declared.refusal.Reply.TheVariants.{Done, Rows, Refused}
 use Rattle.sql_tree.specs.Tree.{QueryTree, StmtTree}
-use Rattle.sql_tree.specs.Tree.StmtTree.{CreateTable, DropTable, InsertInto, DeleteFrom, UpdateTable, Select, ExplainSelect}
+use Rattle.sql_tree.specs.Tree.StmtTree.{CreateTable, DropTable, AlterTable, InsertInto, DeleteFrom, UpdateTable, Select, ExplainSelect}
 use Rattle.answer_text.specs.Log.{EventTree, Writes, commits, committed, acts_over, shown_reply, code_of, count_of}
 use Rattle.sql_shell.specs.Session.{events_of, db_after}
 
@@ -34,31 +33,6 @@ number_not_zero (refusal.NameTwice name) = refl
 number_not_zero refusal.NullStored = refl
 number_not_zero (refusal.NotGrouped name) = refl
 
-changed_by_keeps : (name : List ℕ) (change : Change) (db : Db) (r : Refusal) → (changed_by name change db).1 ≡ Refused r → (changed_by name change db).0 ≡ db
-changed_by_keeps name (Ok outcome) db r e = cc
-changed_by_keeps name (Err refusal) db r e = refl
-
-changed_keeps : (name : List ℕ) (change : Table → Change) (found : Option Table) (db : Db) (r : Refusal) → (changed name change found db).1 ≡ Refused r → (changed name change found db).0 ≡ db
-changed_keeps name change (Some table) db r e = changed_by_keeps name (change table) db r e
-changed_keeps name change None db r e = refl
-
-accepted_keeps : (statement : StmtTree) (db : Db) (r : Refusal) → (accepted statement db).1 ≡ Refused r → (accepted statement db).0 ≡ db
-accepted_keeps (CreateTable table columns) db r e = cc
-accepted_keeps (DropTable table) db r e = cc
-accepted_keeps (InsertInto table listed rows) db r e = changed_keeps table (inserted listed rows) (named_table table db) db r e
-accepted_keeps (DeleteFrom table cond) db r e = changed_keeps table (deleted cond) (named_table table db) db r e
-accepted_keeps (UpdateTable table sets cond) db r e = changed_keeps table (updated sets cond) (named_table table db) db r e
-accepted_keeps (Select query) db r e = refl
-accepted_keeps (ExplainSelect query) db r e = refl
-
-unless_keeps : (why : Option Refusal) (statement : StmtTree) (db : Db) (r : Refusal) → (effect_unless why statement db).1 ≡ Refused r → (effect_unless why statement db).0 ≡ db
-unless_keeps (Some refusal) statement db r e = refl
-unless_keeps None statement db r e = accepted_keeps statement db r e
-
--- a refused statement leaves the database
-pub refused_keeps : (statement : StmtTree) (db : Db) (r : Refusal) → (effect statement db).1 ≡ Refused r → (effect statement db).0 ≡ db
-refused_keeps statement db r e = unless_keeps (check_refusal statement (schema_of db)) statement db r e
-
 select_unless : (why : Option Refusal) (query : QueryTree) (db : Db) → (effect_unless why (Select query) db).0 ≡ db
 select_unless (Some refusal) query db = refl
 select_unless None query db = refl
@@ -67,7 +41,7 @@ explain_unless : (why : Option Refusal) (query : QueryTree) (db : Db) → (effec
 explain_unless (Some refusal) query db = refl
 explain_unless None query db = refl
 
--- so does a query, and an EXPLAIN
+-- a query leaves the database, and so does an EXPLAIN
 pub select_keeps : (query : QueryTree) (db : Db) → (effect (Select query) db).0 ≡ db
 select_keeps query db = select_unless (check_refusal (Select query) (schema_of db)) query db
 
@@ -86,13 +60,14 @@ written statement db after (Refused r) s k n leads keeps =
 
 -- the commits of a change that is written lead where it does
 change_leads : (s : ℕ) (db : Db) (statement : StmtTree) (k : ℕ) → replay_from db (commits (events_of s k (Writes (Some statement) (code_of (shown_reply (effect statement db).1)) (count_of (shown_reply (effect statement db).1)) ∷ []))) ≡ (effect statement db).0
-change_leads s db statement k = written statement db _ (effect statement db).1 s k (count_of (shown_reply (effect statement db).1)) refl (refused_keeps statement db)
+change_leads s db statement k = written statement db _ (effect statement db).1 s k (count_of (shown_reply (effect statement db).1)) refl (effect_leaves statement db)
 
 -- the commits of a statement's events lead where the statement does
 pub commits_lead : (s : ℕ) (db : Db) (reading : Result StmtTree Refusal) (k : ℕ) → replay_from db (commits (events_of s k (acts_over db reading))) ≡ db_after db reading
 commits_lead s db (Err r) k = ap (λ b. replay_from db (filter_map (λ (x : Option StmtTree). x) (cond b None None ∷ []))) (number_not_zero r)
 commits_lead s db (Ok (CreateTable table columns)) k = change_leads s db (CreateTable table columns) k
 commits_lead s db (Ok (DropTable table)) k = change_leads s db (DropTable table) k
+commits_lead s db (Ok (AlterTable table column)) k = change_leads s db (AlterTable table column) k
 commits_lead s db (Ok (InsertInto table listed rows)) k = change_leads s db (InsertInto table listed rows) k
 commits_lead s db (Ok (DeleteFrom table cond)) k = change_leads s db (DeleteFrom table cond) k
 commits_lead s db (Ok (UpdateTable table sets cond)) k = change_leads s db (UpdateTable table sets cond) k

@@ -4,3 +4,4 @@ pub mod ScriptLemmas
 pub mod ServedLemmas
 pub mod SessionLemmas
 pub mod ShowLemmas
+pub mod TextLemmas

@@ -1,32 +1,30 @@
 -- Scripts that were read, beside what is told of their files.
 use Rattle.std.proofs.Common.{◌≡◌, ℕ, zero, suc, ◌+◌, ◌<◌, ◌≤◌, ◌⊎◌, inl, inr, List, [], ◌∷◌, ◌++◌, Bool, true, false, ◌&&◌, cond, length, map, take, drop, slice_index_or, Option, Some, None, Result, refl, ap, sym, ◌∙◌, subst, arith}
-use Rattle.std.specs.Prelude.{All, IfSome, bytes_eq, codes, nat_le}
+use Rattle.std.specs.Prelude.{All, IfSome, bytes_eq, codes, nat_le, replicate}
 use Rattle.std.specs.Option.{option_and_then}
-use Rattle.std.proofs.lemmas.List.{take_more, take-append-drop, length-take-le}
+use Rattle.std.proofs.lemmas.List.{take_more, take-append-drop, length-take-le, length-replicate}
 use Rattle.std.proofs.Math.Seq.{drop-cons}
 use Rattle.std.proofs.lemmas.Bool.Decides.{nat_tests}
 use Rattle.sql_semantics.specs.declared.refusal.Refusal.{Refusal}
 use Rattle.sql_tree.specs.Pieces.{pieces_of}
 use Rattle.sql_tree.specs.Tree.{StmtTree}
-use Rattle.answer_text.specs.Log.{EventTree, IsOrdered}
+use Rattle.answer_text.specs.Log.{EventTree}
 use Rattle.answer_text.specs.Layout.{printed}
 use Rattle.sql_shell.specs.Readings.{AreReadings, AreAllRead}
 use Rattle.command_words.specs.Words.{few_files, files_in, run_files}
-use Rattle.sql_shell.specs.Scripts.{IsRunnable, IsUnfit, TooLong, NotText, TooMany, IsFirstUnfit, AreRunnable, both_told, told, names_of, pieces_in, IsCut, AreCut}
-use Rattle.sql_shell.specs.Served.{AreRead, IsServed}
+use Rattle.causes.specs.Limits.{most_bytes}
+use Rattle.sql_shell.specs.Scripts.{IsRunnable, IsUnfit, TooLong, NotText, TooMany, IsFirstUnfit, AreRunnable, AreTexts, AreToldFirst, CanBeRun, names_of, pieces_in, IsCut, AreCut}
+use Rattle.sql_shell.specs.Served.{AreRead}
 use Rattle.sql_shell.specs.Session.{Produces}
-use Rattle.sql_shell.specs.Work.{HasWork}
+use Rattle.sql_shell.specs.Work.{IsRun}
 use Rattle.sql_shell.specs.Failures.{status_of, at_of, is_by_bytes}
 use Rattle.sql_shell.specs.declared.scripts.Failure.{Failure}
 use Rattle.sql_shell.specs.declared.scripts.Failure.TheVariants.{Words, Fault, Memory}
 use Rattle.sql_shell.specs.declared.scripts.Failure.TheVariants as failure
 use Rattle.sql_shell.specs.declared.scripts.Script.{Script}
+use Rattle.sql_shell.proofs.TextLemmas.{no_utf8}
 
 -- ## Options
-
-pub if_some : {X : Type 0} (o : Option X) (P : X → Type 0) → ((x : X) → o ≡ Some x → P x) → IfSome o P
-if_some None P f = tt
-if_some (Some x) P f = f x refl
 
 pub some_of : {X : Type 0} (o : Option X) (P : X → Type 0) (x : X) → o ≡ Some x → IfSome o P → P x
 some_of None P x e h = cc
@@ -34,66 +32,118 @@ some_of (Some y) P x e h = let same : y ≡ x = cc in subst P same h
 
 -- ## What is told
 
--- the first script and the others
-record FirstTold (b : Option (List ℕ)) (later : Option (List (List ℕ))) (texts : List (List ℕ)) : Type 0 where
-  text : List ℕ
-  more : List (List ℕ)
-  here : b ≡ Some text
-  there : later ≡ Some more
-  all : text ∷ more ≡ texts
-
-first_told : (b : Option (List ℕ)) (later : Option (List (List ℕ))) (texts : List (List ℕ)) → both_told b later ≡ Some texts → FirstTold b later texts
-first_told None None texts e = let wrong : None ≡ Some texts = e in cc
-first_told None (Some more) texts e = let wrong : None ≡ Some texts = e in cc
-first_told (Some text) None texts e = let wrong : None ≡ Some texts = e in cc
-first_told (Some text) (Some more) texts e = record { text = text; more = more; here = refl; there = refl; all = let same : text ∷ more ≡ texts = cc in same }
-
 pub cut_more : (bytes : List ℕ → Option (List ℕ)) (names : List (List ℕ)) (scripts : List Script) (name : List ℕ) (script : Script) → AreCut bytes names scripts → IsCut bytes name script → AreCut bytes (names ++ name ∷ []) (scripts ++ script ∷ [])
 cut_more bytes [] [] name script are is = (is, tt)
 cut_more bytes [] (s ∷ ss) name script are is = absurd are
 cut_more bytes (n ∷ ns) [] name script are is = absurd are
 cut_more bytes (n ∷ ns) (s ∷ ss) name script are is = (are.0, cut_more bytes ns ss name script are.1 is)
 
+-- a script of a text that is what is told of its file
+pub is_cut : (bytes : List ℕ → Option (List ℕ)) (name : List ℕ) (script : Script) (text : List ℕ) → IfSome (bytes name) (λ told. text ≡ told) → (script.name ≡ name) × IsRunnable text × (script.pieces ≡ pieces_of text) → IsCut bytes name script
+is_cut bytes name script text told is = record { text = text; told = told; runnable = is.1; named = is.0; cut = is.2 }
+
 -- the scripts are those of the files
-pub record AreOf (names : List (List ℕ)) (scripts : List Script) (texts : List (List ℕ)) : Type 0 where
+pub record AreOf (bytes : List ℕ → Option (List ℕ)) (names : List (List ℕ)) (scripts : List Script) : Type 0 where
+  pub texts : List (List ℕ)
+  pub told : AreTexts bytes names texts
+  pub runnable : AreRunnable texts
   pub named : names_of scripts ≡ names
   pub cut : pieces_in scripts ≡ map pieces_of texts
-  pub fit : AreRunnable texts
 
-pub are_of : (bytes : List ℕ → Option (List ℕ)) (names : List (List ℕ)) (scripts : List Script) (texts : List (List ℕ)) → AreCut bytes names scripts → told bytes names ≡ Some texts → AreOf names scripts texts
-are_of bytes [] [] texts are e =
-    let none : [] ≡ texts = cc in
-    record { named = refl; cut = ap (map pieces_of) none; fit = subst AreRunnable none tt }
-are_of bytes [] (s ∷ ss) texts are e = absurd are
-are_of bytes (n ∷ ns) [] texts are e = absurd are
-are_of bytes (n ∷ ns) (s ∷ ss) texts are e =
-    let first = first_told (bytes n) (told bytes ns) texts e in
-    let rest = are_of bytes ns ss first.more are.1 first.there in
-    let own = some_of (bytes n) (λ text. IsRunnable text × (s.pieces ≡ pieces_of text)) first.text first.here are.0.cut in
+pub are_of : (bytes : List ℕ → Option (List ℕ)) (names : List (List ℕ)) (scripts : List Script) → AreCut bytes names scripts → AreOf bytes names scripts
+are_of bytes [] [] are = record { texts = []; told = tt; runnable = tt; named = refl; cut = refl }
+are_of bytes [] (s ∷ ss) are = absurd are
+are_of bytes (n ∷ ns) [] are = absurd are
+are_of bytes (n ∷ ns) (s ∷ ss) are =
+    let rest = are_of bytes ns ss are.1 in
     record {
+      texts = are.0.text ∷ rest.texts;
+      told = (are.0.told, rest.told);
+      runnable = (are.0.runnable, rest.runnable);
       named = ap (λ x. x ∷ names_of ss) are.0.named ∙ ap (λ xs. n ∷ xs) rest.named;
-      cut = ap (λ x. x ∷ pieces_in ss) own.1 ∙ ap (λ xs. pieces_of first.text ∷ xs) rest.cut ∙ ap (map pieces_of) first.all;
-      fit = subst AreRunnable first.all (own.0, rest.fit);
+      cut = ap (λ x. x ∷ pieces_in ss) are.0.cut ∙ ap (λ xs. pieces_of are.0.text ∷ xs) rest.cut;
     }
 
+-- a file that was read can be run, if bytes are told of it
+pub can_be_run : (bytes : List ℕ → Option (List ℕ)) (names : List (List ℕ)) (scripts : List Script) → AreCut bytes names scripts → CanBeRun bytes names
+can_be_run bytes [] [] are = tt
+can_be_run bytes [] (s ∷ ss) are = absurd are
+can_be_run bytes (n ∷ ns) [] are = absurd are
+can_be_run bytes (n ∷ ns) (s ∷ ss) are = (own (bytes n) are.0.told, can_be_run bytes ns ss are.1)
+  where
+    own : (o : Option (List ℕ)) → IfSome o (λ told. are.0.text ≡ told) → IfSome o IsRunnable
+    own None told = tt
+    own (Some text) told = subst IsRunnable told are.0.runnable
+
+-- each file has a text
+texts_for : (bytes : List ℕ → Option (List ℕ)) (names : List (List ℕ)) → (texts : List (List ℕ)) × AreTexts bytes names texts
+texts_for bytes [] = ([], tt)
+texts_for bytes (name ∷ names) =
+    let rest = texts_for bytes names in
+    let own = text_for (bytes name) in
+    (own.0 ∷ rest.0, (own.1, rest.1))
+  where
+    text_for : (o : Option (List ℕ)) → (text : List ℕ) × IfSome o (λ told. text ≡ told)
+    text_for None = ([], tt)
+    text_for (Some text) = (text, refl)
+
+-- ## The first script that isn't run
+
+-- a text of a file that isn't run: what is told of it, or else any such text
+record UnfitText (o : Option (List ℕ)) (status : ℕ) : Type 0 where
+  text : List ℕ
+  told : IfSome o (λ told. text ≡ told)
+  unfit : IsUnfit text status
+
+-- a text longer than a number of bytes
+long_text : (n : ℕ) → (text : List ℕ) × (n < length text)
+long_text n =
+    let b : ℕ = 0 in
+    let long : length (replicate (n + 1) b) ≡ n + 1 = length-replicate (n + 1) b in
+    (replicate (n + 1) b, omega (arith, long))
+
+unfit_text : (o : Option (List ℕ)) (failure : Failure) → is_by_bytes (status_of failure) ≡ true → IfSome o (λ text. IsUnfit text (status_of failure)) → UnfitText o (status_of failure)
+unfit_text (Some text) failure by unfit = record { text = text; told = refl; unfit = unfit }
+unfit_text None Words by unfit = cc
+unfit_text None (Fault n) by unfit = cc
+unfit_text None Memory by unfit = cc
+unfit_text None (failure.TooLong n) by unfit =
+    let long = long_text most_bytes in
+    record { text = long.0; told = tt; unfit = TooLong long.1 refl }
+unfit_text None (failure.NotText n) by unfit = record { text = 255 ∷ []; told = tt; unfit = NotText (omega arith) no_utf8 refl }
+
+-- the file that a failure is about, where its bytes decide or a fault does
+pub place_by : (failure : Failure) (number : ℕ) → is_by_bytes (status_of failure) ≡ true → (status_of failure ≡ 5) × (at_of failure ≡ 0) ⊎ (at_of failure ≡ number) → at_of failure ≡ number
+place_by failure number by (inr at) = at
+place_by Words number by (inl memory) = cc
+place_by (Fault n) number by (inl memory) = cc
+place_by (failure.TooLong n) number by (inl memory) = let wrong : 4 ≡ 5 = memory.0 in cc
+place_by (failure.NotText n) number by (inl memory) = let wrong : 6 ≡ 5 = memory.0 in cc
+place_by Memory number by (inl memory) = cc
+
+pub place_at_fault : (failure : Failure) (number : ℕ) → status_of failure ≡ 2 → (status_of failure ≡ 5) × (at_of failure ≡ 0) ⊎ (at_of failure ≡ number) → at_of failure ≡ number
+place_at_fault failure number two (inr at) = at
+place_at_fault failure number two (inl memory) = let wrong : 2 ≡ 5 = sym two ∙ memory.0 in cc
+
+-- texts of the files, of which the first that isn't run has this status
+pub record FirstUnfit (bytes : List ℕ → Option (List ℕ)) (names : List (List ℕ)) (number status at : ℕ) : Type 0 where
+  pub texts : List (List ℕ)
+  pub told : AreTexts bytes names texts
+  pub first : IsFirstUnfit number texts status at
+
 -- behind scripts that were read, one that can't be run is the first
-pub unfit_at : (bytes : List ℕ → Option (List ℕ)) (names : List (List ℕ)) (scripts : List Script) (name : List ℕ) (more : List (List ℕ)) (number status at : ℕ) (texts : List (List ℕ))
-    → AreCut bytes names scripts → IfSome (bytes name) (λ text. IsUnfit text status × (at ≡ number + length names))
-    → told bytes (names ++ name ∷ more) ≡ Some texts → IsFirstUnfit number texts status at
-unfit_at bytes [] [] name more number status at texts are unfit e =
-    let first = first_told (bytes name) (told bytes more) texts e in
-    let own = some_of (bytes name) (λ text. IsUnfit text status × (at ≡ number + 0)) first.text first.here unfit in
-    let P : List (List ℕ) → Type 0 = λ ts. IsFirstUnfit number ts status at in
-    subst P first.all (inl (own.0, own.1 ∙ (let n : number + 0 ≡ number = omega arith in n)))
-unfit_at bytes [] (s ∷ ss) name more number status at texts are unfit e = absurd are
-unfit_at bytes (n ∷ ns) [] name more number status at texts are unfit e = absurd are
-unfit_at bytes (n ∷ ns) (s ∷ ss) name more number status at texts are unfit e =
-    let first = first_told (bytes n) (told bytes (ns ++ name ∷ more)) texts e in
-    let own = some_of (bytes n) (λ text. IsRunnable text × (s.pieces ≡ pieces_of text)) first.text first.here are.0.cut in
-    let Q : ℕ → Type 0 = λ m. IfSome (bytes name) (λ text. IsUnfit text status × (at ≡ m)) in
-    let on : number + (length ns + 1) ≡ (number + 1) + length ns = omega arith in
-    let P : List (List ℕ) → Type 0 = λ ts. IsFirstUnfit number ts status at in
-    subst P first.all (inr (own.0, unfit_at bytes ns ss name more (number + 1) status at first.more are.1 (subst Q (let e : number + length (n ∷ ns) ≡ (number + 1) + length ns = omega arith in e) unfit) first.there))
+unfit_at : (bytes : List ℕ → Option (List ℕ)) (names : List (List ℕ)) (scripts : List Script) (name : List ℕ) (more : List (List ℕ)) (number status at : ℕ)
+    → AreCut bytes names scripts → UnfitText (bytes name) status → at ≡ number + length names
+    → FirstUnfit bytes (names ++ name ∷ more) number status at
+unfit_at bytes [] [] name more number status at are unfit is =
+    let rest = texts_for bytes more in
+    record { texts = unfit.text ∷ rest.0; told = (unfit.told, rest.1); first = inl (unfit.unfit, is ∙ (let n : number + 0 ≡ number = omega arith in n)) }
+unfit_at bytes [] (s ∷ ss) name more number status at are unfit is = absurd are
+unfit_at bytes (n ∷ ns) [] name more number status at are unfit is = absurd are
+unfit_at bytes (n ∷ ns) (s ∷ ss) name more number status at are unfit is =
+    let on : number + length (n ∷ ns) ≡ (number + 1) + length ns = omega arith in
+    let rest = unfit_at bytes ns ss name more (number + 1) status at are.1 unfit (is ∙ on) in
+    record { texts = are.0.text ∷ rest.texts; told = (are.0.told, rest.told); first = inr (are.0.runnable, rest.first) }
 
 -- the same at a place among the names, where what is told stays
 module _ (bytes now : List ℕ → Option (List ℕ)) (same : (other : List ℕ) → now other ≡ bytes other)
@@ -102,40 +152,89 @@ module _ (bytes now : List ℕ → Option (List ℕ)) (same : (other : List ℕ)
   split : take i names ++ name ∷ drop (suc i) names ≡ names
   split = ap (λ n. take i names ++ n ∷ drop (suc i) names) is ∙ ap (λ d. take i names ++ d) (sym (drop-cons names i name inside)) ∙ take-append-drop i names
 
-  pub unfit_here : (status at : ℕ) → IfSome (now name) (λ text. IsUnfit text status × (at ≡ i + 1)) → IfSome (told bytes names) (λ texts. IsFirstUnfit 1 texts status at)
-  unfit_here status at unfit =
-      let Q : Option (List ℕ) → Type 0 = λ b. IfSome b (λ text. IsUnfit text status × (at ≡ i + 1)) in
-      let here = subst Q (same name) unfit in
-      let R : ℕ → Type 0 = λ n. IfSome (bytes name) (λ text. IsUnfit text status × (at ≡ n)) in
+  pub unfit_here : (failure : Failure) → is_by_bytes (status_of failure) ≡ true → IfSome (now name) (λ text. IsUnfit text (status_of failure)) → at_of failure ≡ i + 1 → FirstUnfit bytes names 1 (status_of failure) (at_of failure)
+  unfit_here failure by unfit at =
+      let Q : Option (List ℕ) → Type 0 = λ b. IfSome b (λ text. IsUnfit text (status_of failure)) in
+      let own = unfit_text (bytes name) failure by (subst Q (same name) unfit) in
       let long : length (take i names) ≡ i = length-take-le i names (omega arith) in
-      let counted = subst R (let e : i + 1 ≡ 1 + length (take i names) = omega (arith, long) in e) here in
-      if_some (told bytes names) (λ texts. IsFirstUnfit 1 texts status at)
-      (λ texts e. unfit_at bytes (take i names) scripts name (drop (suc i) names) 1 status at texts are counted (ap (told bytes) split ∙ e))
+      let counted : i + 1 ≡ 1 + length (take i names) = omega (arith, long) in
+      subst (λ ns. FirstUnfit bytes ns 1 (status_of failure) (at_of failure)) split
+      (unfit_at bytes (take i names) scripts name (drop (suc i) names) 1 (status_of failure) (at_of failure) are own (at ∙ counted))
 
   pub cut_next : (script : Script) → IsCut now name script → AreCut bytes (take (i + 1) names) (scripts ++ script ∷ [])
   cut_next script cut =
-      let Q : Option (List ℕ) → Type 0 = λ b. IfSome b (λ text. IsRunnable text × (script.pieces ≡ pieces_of text)) in
+      let Q : Option (List ℕ) → Type 0 = λ b. IfSome b (λ told. cut.text ≡ told) in
       let P : List (List ℕ) → Type 0 = λ ns. AreCut bytes ns (scripts ++ script ∷ []) in
       subst P (ap (λ n. take i names ++ n ∷ []) is ∙ sym (take_more names i name inside))
-      (cut_more bytes (take i names) scripts name script are (record { named = cut.named; few = cut.few; cut = subst Q (same name) cut.cut }))
+      (cut_more bytes (take i names) scripts name script are (record { text = cut.text; told = subst Q (same name) cut.told; runnable = cut.runnable; named = cut.named; cut = cut.cut }))
 
--- scripts that can all be run have no first that can't
-pub all_fit : (number : ℕ) (texts : List (List ℕ)) (status at : ℕ) → AreRunnable texts → IsFirstUnfit number texts status at → ⊥
-all_fit number [] status at fit unfit = unfit
-all_fit number (text ∷ texts) status at fit (inl unfit) = runs unfit.0
-  where
-    runs : IsUnfit text status → ⊥
-    runs (TooLong long is) = absurd (omega (arith, fit.0.short, long))
-    runs (NotText short bad is) = bad fit.0.text
-    runs (TooMany short good many is) = absurd (omega (arith, fit.0.few, many))
-all_fit number (text ∷ texts) status at fit (inr unfit) = all_fit (number + 1) texts status at fit.1 unfit.1
+-- what can be run isn't unfit
+runs : (text : List ℕ) (status : ℕ) → IsRunnable text → IsUnfit text status → ⊥
+runs text status fit (TooLong long is) = absurd (omega (arith, fit.short, long))
+runs text status fit (NotText short bad is) = bad fit.text
+runs text status fit (TooMany short good many is) = absurd (omega (arith, fit.few, many))
+
+-- a text is unfit in one way
+one_way : (text : List ℕ) (a b : ℕ) → IsUnfit text a → IsUnfit text b → a ≡ b
+one_way text a b (TooLong long is) (TooLong long' is') = is ∙ sym is'
+one_way text a b (TooLong long is) (NotText short' bad' is') = absurd (omega (arith, long, short'))
+one_way text a b (TooLong long is) (TooMany short' good' many' is') = is ∙ sym is'
+one_way text a b (NotText short bad is) (TooLong long' is') = absurd (omega (arith, short, long'))
+one_way text a b (NotText short bad is) (NotText short' bad' is') = is ∙ sym is'
+one_way text a b (NotText short bad is) (TooMany short' good' many' is') = absurd (bad good')
+one_way text a b (TooMany short good many is) (TooLong long' is') = is ∙ sym is'
+one_way text a b (TooMany short good many is) (NotText short' bad' is') = absurd (bad' good)
+one_way text a b (TooMany short good many is) (TooMany short' good' many' is') = is ∙ sym is'
+
+-- the text of a file of which bytes are told
+told_text : (o : Option (List ℕ)) (text told : List ℕ) → o ≡ Some told → IfSome o (λ t. text ≡ t) → text ≡ told
+told_text o text told e h = some_of o (λ t. text ≡ t) told e h
+
+-- told texts that can all be run have no first that can't
+all_fit : (bytes : List ℕ → Option (List ℕ)) (number : ℕ) (names texts told : List (List ℕ)) (status at : ℕ)
+    → AreTexts bytes names texts → AreToldFirst bytes names told → length told ≡ length names → AreRunnable told → IsFirstUnfit number texts status at → ⊥
+all_fit bytes number [] [] told status at are first long fit unfit = unfit
+all_fit bytes number [] (t ∷ ts) told status at are first long fit unfit = absurd are
+all_fit bytes number (n ∷ ns) [] told status at are first long fit unfit = unfit
+all_fit bytes number (n ∷ ns) (t ∷ ts) [] status at are first long fit unfit = absurd (omega (arith, long))
+all_fit bytes number (n ∷ ns) (t ∷ ts) (u ∷ us) status at are first long fit (inl unfit) =
+    runs u status fit.0 (subst (λ x. IsUnfit x status) (told_text (bytes n) t u first.0 are.0) unfit.0)
+all_fit bytes number (n ∷ ns) (t ∷ ts) (u ∷ us) status at are first long fit (inr unfit) =
+    all_fit bytes (number + 1) ns ts us status at are.1 first.1 (omega (arith, long)) fit.1 unfit.1
+
+-- the first told text that can't be run is the first of all
+same_first : (bytes : List ℕ → Option (List ℕ)) (number : ℕ) (names texts told : List (List ℕ)) (status at s a : ℕ)
+    → AreTexts bytes names texts → AreToldFirst bytes names told → IsFirstUnfit number texts status at → IsFirstUnfit number told s a → (status ≡ s) × (at ≡ a)
+same_first bytes number [] [] told status at s a are first unfit found = absurd unfit
+same_first bytes number [] (t ∷ ts) told status at s a are first unfit found = absurd are
+same_first bytes number (n ∷ ns) [] told status at s a are first unfit found = absurd unfit
+same_first bytes number (n ∷ ns) (t ∷ ts) [] status at s a are first unfit found = absurd found
+same_first bytes number (n ∷ ns) (t ∷ ts) (u ∷ us) status at s a are first (inl unfit) (inl found) =
+    let here = subst (λ x. IsUnfit x status) (told_text (bytes n) t u first.0 are.0) unfit.0 in
+    (one_way u status s here found.0, unfit.1 ∙ sym found.1)
+same_first bytes number (n ∷ ns) (t ∷ ts) (u ∷ us) status at s a are first (inl unfit) (inr found) =
+    absurd (runs u status found.0 (subst (λ x. IsUnfit x status) (told_text (bytes n) t u first.0 are.0) unfit.0))
+same_first bytes number (n ∷ ns) (t ∷ ts) (u ∷ us) status at s a are first (inr unfit) (inl found) =
+    absurd (runs t s unfit.0 (subst (λ x. IsUnfit x s) (sym (told_text (bytes n) t u first.0 are.0)) found.0))
+same_first bytes number (n ∷ ns) (t ∷ ts) (u ∷ us) status at s a are first (inr unfit) (inr found) =
+    same_first bytes (number + 1) ns ts us status at s a are.1 first.1 unfit.1 found.1
+
+-- files that were all read have no first that can't be run
+pub none_unfit : (bytes : List ℕ → Option (List ℕ)) (number : ℕ) (names told : List (List ℕ)) (scripts : List Script) (s a : ℕ)
+    → AreCut bytes names scripts → AreToldFirst bytes names told → IsFirstUnfit number told s a → ⊥
+none_unfit bytes number names [] scripts s a are first found = found
+none_unfit bytes number [] (u ∷ us) scripts s a are first found = first
+none_unfit bytes number (n ∷ ns) (u ∷ us) [] s a are first found = are
+none_unfit bytes number (n ∷ ns) (u ∷ us) (p ∷ ps) s a are first (inl found) =
+    runs u s (subst IsRunnable (told_text (bytes n) are.0.text u first.0 are.0.told) are.0.runnable) found.0
+none_unfit bytes number (n ∷ ns) (u ∷ us) (p ∷ ps) s a are first (inr found) = none_unfit bytes (number + 1) ns us ps s a are.1 first.1 found.1
 
 -- no script has too many statements
 pub all_short : (bytes : List ℕ → Option (List ℕ)) (names : List (List ℕ)) (scripts : List Script) → AreCut bytes names scripts → All (λ (script : Script). length script.pieces ≤ 256) scripts
 all_short bytes [] [] are k d inside = absurd (omega (arith, inside))
 all_short bytes [] (s ∷ ss) are k d inside = absurd are
 all_short bytes (n ∷ ns) [] are k d inside = absurd are
-all_short bytes (n ∷ ns) (s ∷ ss) are zero d inside = are.0.few
+all_short bytes (n ∷ ns) (s ∷ ss) are zero d inside = omega (arith, ap length are.0.cut, are.0.runnable.few)
 all_short bytes (n ∷ ns) (s ∷ ss) are (suc k) d inside = all_short bytes ns ss are.1 k d (omega arith)
 
 few_of : (b : Bool) (files names : List (List ℕ)) → (nat_le 1 (length files) && nat_le (length files) 16) ≡ b → cond b (Some files) None ≡ Some names → length names ≤ 16
@@ -169,40 +268,53 @@ read_of [] (r ∷ rs) are = absurd are
 read_of (t ∷ ts) [] are = absurd are
 read_of (t ∷ ts) (r ∷ rs) are = (are.0, read_of ts rs are.1)
 
-module _ (bytes : List ℕ → Option (List ℕ)) (names : List (List ℕ)) (scripts : List Script) (texts : List (List ℕ)) (are : AreCut bytes names scripts) (e : told bytes names ≡ Some texts)
-    (log : List EventTree) (text : List ℕ) (work : ℕ) (produced : Produces (names_of scripts) (pieces_in scripts) log text work) where
-  all_read : AreRead texts produced.readings
-  all_read =
-      let P : List (List (List ℕ)) → Type 0 = λ ps. AreAllRead ps produced.readings in
-      read_of texts produced.readings (subst P ((are_of bytes names scripts texts are e).cut) produced.read)
-
-  pub served_of : IsServed names texts text log
-  served_of = record {
-    readings = produced.readings;
-    read = all_read;
-    ordered = produced.ordered;
-    printed_is = produced.printed_is ∙ ap (λ ns. printed ns produced.readings log) ((are_of bytes names scripts texts are e).named);
-  }
-
-  pub work_of : HasWork texts log work
-  work_of = record { readings = produced.readings; read = all_read; work_is = produced.work_is }
+-- the run of scripts that were read is one over their files
+pub run_of : (bytes : List ℕ → Option (List ℕ)) (names : List (List ℕ)) (scripts : List Script) (log : List EventTree) (text : List ℕ) (work : ℕ)
+    → AreCut bytes names scripts → Produces (names_of scripts) (pieces_in scripts) log text work → IsRun bytes names text log work
+run_of bytes names scripts log text work are produced =
+    let of = are_of bytes names scripts are in
+    let P : List (List (List ℕ)) → Type 0 = λ ps. AreAllRead ps produced.readings in
+    let read : AreRead of.texts produced.readings = read_of of.texts produced.readings (subst P of.cut produced.read) in
+    record {
+      scripts = of.texts;
+      told = of.told;
+      runnable = of.runnable;
+      served = record {
+        readings = produced.readings;
+        read = read;
+        ordered = produced.ordered;
+        printed_is = produced.printed_is ∙ ap (λ ns. printed ns produced.readings log) of.named;
+      };
+      worked = record { readings = produced.readings; read = read; work_is = produced.work_is };
+    }
 
 -- ## What is said of the words and of what is told
 
--- what holds of the files' names and of their texts holds where both are there
-pub lifted : (bytes : List ℕ → Option (List ℕ)) (words names : List (List ℕ)) (P : List (List ℕ) → List (List ℕ) → Type 0) → run_files words ≡ Some names
-    → ((texts : List (List ℕ)) → told bytes names ≡ Some texts → P names texts)
-    → IfSome (run_files words) (λ ns. IfSome (told bytes ns) (λ texts. P ns texts))
-lifted bytes words names P found f =
-    let Q : Option (List (List ℕ)) → Type 0 = λ o. IfSome o (λ ns. IfSome (told bytes ns) (λ texts. P ns texts)) in
-    subst Q (sym found) (if_some (told bytes names) (λ texts. P names texts) f)
+-- what holds of the files' names holds where the words name files
+pub lifted : (words names : List (List ℕ)) (P : List (List ℕ) → Type 0) → run_files words ≡ Some names → P names → IfSome (run_files words) P
+lifted words names P found h =
+    let Q : Option (List (List ℕ)) → Type 0 = λ o. IfSome o P in
+    subst Q (sym found) h
 
--- scripts that can all be run, from a source without a fault, leave want of memory alone
-pub complete_of : (failure : Failure) (texts : List (List ℕ)) (Rises : Type 0)
-    → (is_by_bytes (status_of failure) ≡ true → IsFirstUnfit 1 texts (status_of failure) (at_of failure)) → (status_of failure ≡ 2 → Rises)
-    → (status_of failure ≡ 1 → ⊥) → AreRunnable texts → (Rises → ⊥) → (status_of failure ≡ 0) ⊎ (status_of failure ≡ 5)
-complete_of Words texts Rises unfit fault bytes fit calm = absurd (bytes refl)
-complete_of (Fault n) texts Rises unfit fault bytes fit calm = absurd (calm (fault refl))
-complete_of (failure.TooLong n) texts Rises unfit fault bytes fit calm = absurd (all_fit 1 texts 4 n fit (unfit refl))
-complete_of (failure.NotText n) texts Rises unfit fault bytes fit calm = absurd (all_fit 1 texts 6 n fit (unfit refl))
-complete_of Memory texts Rises unfit fault bytes fit calm = inr refl
+-- what ends a run before its first statement, over files with these names: how the first that isn't run tells
+module _ (bytes : List ℕ → Option (List ℕ)) (names : List (List ℕ)) (Rises : Type 0) where
+  abbrev pub Unfit : Failure → Type 0
+  Unfit failure = is_by_bytes (status_of failure) ≡ true → FirstUnfit bytes names 1 (status_of failure) (at_of failure)
+
+  -- scripts that can all be run, from a source without a fault, leave want of memory alone
+  pub complete_of : (failure : Failure) (told : List (List ℕ)) → Unfit failure → (status_of failure ≡ 2 → Rises) → (status_of failure ≡ 1 → ⊥)
+      → AreToldFirst bytes names told → length told ≡ length names → AreRunnable told → (Rises → ⊥) → (status_of failure ≡ 0) ⊎ (status_of failure ≡ 5)
+  complete_of Words told unfit fault words first long fit calm = absurd (words refl)
+  complete_of (Fault n) told unfit fault words first long fit calm = absurd (calm (fault refl))
+  complete_of (failure.TooLong n) told unfit fault words first long fit calm = absurd (all_fit bytes 1 names ((unfit refl).texts) told 4 n ((unfit refl).told) first long fit ((unfit refl).first))
+  complete_of (failure.NotText n) told unfit fault words first long fit calm = absurd (all_fit bytes 1 names ((unfit refl).texts) told 6 n ((unfit refl).told) first long fit ((unfit refl).first))
+  complete_of Memory told unfit fault words first long fit calm = inr refl
+
+  -- the first told script that can't be run is told, from a source without a fault, unless memory runs out
+  pub found_of : (failure : Failure) (told : List (List ℕ)) (s a : ℕ) → Unfit failure → (status_of failure ≡ 2 → Rises) → (status_of failure ≡ 1 → ⊥)
+      → AreToldFirst bytes names told → IsFirstUnfit 1 told s a → (Rises → ⊥) → ((status_of failure ≡ s) × (at_of failure ≡ a)) ⊎ (status_of failure ≡ 5)
+  found_of Words told s a unfit fault words first found calm = absurd (words refl)
+  found_of (Fault n) told s a unfit fault words first found calm = absurd (calm (fault refl))
+  found_of (failure.TooLong n) told s a unfit fault words first found calm = inl (same_first bytes 1 names ((unfit refl).texts) told 4 n s a ((unfit refl).told) first ((unfit refl).first) found)
+  found_of (failure.NotText n) told s a unfit fault words first found calm = inl (same_first bytes 1 names ((unfit refl).texts) told 6 n s a ((unfit refl).told) first ((unfit refl).first) found)
+  found_of Memory told s a unfit fault words first found calm = inr refl

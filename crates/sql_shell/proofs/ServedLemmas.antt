@@ -1,5 +1,6 @@
 -- A run that has served scripts, and one statement or one script more.
 use Rattle.std.proofs.Common.{◌≡◌, ℕ, ◌+◌, ◌<◌, List, [], ◌∷◌, ◌++◌, length, take, map, slice_index_or, refl, ap, sym, ◌∙◌, subst, arith, true, append_assoc, append-nil, Option, Some, None, Ok, Err, Result}
+use Rattle.std.specs.List.{AllByRecursion}
 use Rattle.std.proofs.lemmas.List.{take_more, length-take-le, length-map, map-append}
 use Rattle.cell_core.specs.declared.table.Db.{Db}
 use Rattle.sql_parse.specs.Answered.{Reads}
@@ -8,16 +9,17 @@ use Rattle.sql_semantics.specs.Refusals.{refusal_number}
 use Rattle.sql_semantics.specs.declared.refusal.Refusal.{Refusal}
 use Rattle.sql_semantics.specs.declared.refusal.Reply.{Reply}
 use Rattle.sql_tree.specs.Tree.{QueryTree, StmtTree}
-use Rattle.sql_tree.specs.Tree.StmtTree.{CreateTable, DropTable, InsertInto, DeleteFrom, UpdateTable, Select, ExplainSelect}
+use Rattle.sql_tree.specs.Tree.StmtTree.{CreateTable, DropTable, AlterTable, InsertInto, DeleteFrom, UpdateTable, Select, ExplainSelect}
 use Rattle.answer_text.specs.declared.event.Shown.{Shown}
 use Rattle.answer_text.specs.declared.event.Shown.TheVariants as shown
 use Rattle.answer_text.specs.Log.{ActTree, EventTree, Begins, Writes, Ends, log_tree, acts_over, refusal_over, explain_refusal, shown_over, shown_reply, code_of, count_of, begin_code, IsOrdered}
 use Rattle.answer_text.specs.Layout.{reply_text, session_line, history_text, printed}
 use Rattle.sql_shell.specs.declared.session.Run.{Run}
-use Rattle.sql_shell.specs.Session.{no_tables, events_of, db_after, run_db, run_log, run_text, work_from, all_db, all_log, all_text, all_work, is_change, is_explain, Follows, Serves, ServesPieces, HasServed, Changes, Notes, Tells, TellsRead, Counts, Produces}
+use Rattle.sql_shell.specs.Session.{no_tables, events_of, db_after, run_db, run_log, run_text, work_from, all_db, all_log, all_text, all_work, is_change, is_explain, IsFormedReading, AreFormed, Follows, Serves, ServesPieces, HasServed, Changes, Notes, Tells, TellsRead, Counts, Produces}
+use Rattle.sql_shell.specs.Served.{RiseFrom}
 use Rattle.sql_shell.specs.Work.{statement_work, run_work}
 use Rattle.sql_shell.proofs.CommitLemmas.{select_keeps, explain_keeps}
-use Rattle.sql_shell.proofs.SessionLemmas.{sessions_ordered, sessions_printed, sessions_work}
+use Rattle.sql_shell.proofs.SessionLemmas.{sessions_ordered, sessions_printed, sessions_work, sessions_rise}
 use Rattle.sql_shell.specs.Readings.{AreReadings, AreAllRead}
 use Rattle.sql_shell.specs.Scripts.{names_of, pieces_in}
 use Rattle.sql_shell.specs.declared.scripts.Script.{Script}
@@ -27,6 +29,10 @@ more_readings [] [] text reading are is = (is, tt)
 more_readings [] (r ∷ rs) text reading are is = absurd are
 more_readings (p ∷ ps) [] text reading are is = absurd are
 more_readings (p ∷ ps) (r ∷ rs) text reading are is = (are.0, more_readings ps rs text reading are.1 is)
+
+more_formed : (readings : List (Result StmtTree Refusal)) (reading : Result StmtTree Refusal) → AreFormed readings → IsFormedReading reading → AreFormed (readings ++ reading ∷ [])
+more_formed [] reading are is = (is, tt)
+more_formed (r ∷ rs) reading are is = (are.0, more_formed rs reading are.1 is)
 
 as_many : (pieces : List (List ℕ)) (readings : List (Result StmtTree Refusal)) → AreReadings pieces readings → length readings ≡ length pieces
 as_many [] [] are = refl
@@ -56,7 +62,7 @@ more_work db (r ∷ rs) reading = omega (arith, more_work (db_after db r) rs rea
 
 -- no statement yet
 pub serves_none : (run : Run) (s : ℕ) → ServesPieces run run s []
-serves_none run s = record { readings = []; read = tt; db = refl; log = sym (append-nil (log_tree run.log.items)); text = sym (append-nil run.text.items); work = omega arith }
+serves_none run s = record { readings = []; read = tt; formed = tt; db = refl; log = sym (append-nil (log_tree run.log.items)); text = sym (append-nil run.text.items); work = omega arith }
 
 -- one piece more
 pub serves_more : (first old new : Run) (s : ℕ) (pieces : List (List ℕ)) (k : ℕ) (text : List ℕ) → k ≡ length pieces + 1 → ServesPieces first old s pieces → Serves old new s k text → ServesPieces first new s (pieces ++ text ∷ [])
@@ -67,6 +73,7 @@ serves_more first old new s pieces k text is served serves =
     record {
       readings = readings ++ reading ∷ [];
       read = more_readings pieces readings text reading served.read serves.read;
+      formed = more_formed readings reading served.formed serves.formed;
       db = serves.follows.db ∙ ap (λ db. db_after db reading) served.db ∙ sym (more_db first.db readings reading);
       log = serves.follows.log ∙ ap (λ log. log ++ events_of s k (acts_over old.db reading)) served.log
           ∙ ap (λ db. (log_tree first.log.items ++ run_log s first.db 1 readings) ++ events_of s k (acts_over db reading)) served.db
@@ -88,6 +95,10 @@ all_more_read [] [] pieces more are is = (is, tt)
 all_more_read [] (r ∷ rs) pieces more are is = absurd are
 all_more_read (p ∷ ps) [] pieces more are is = absurd are
 all_more_read (p ∷ ps) (r ∷ rs) pieces more are is = (are.0, all_more_read ps rs pieces more are.1 is)
+
+all_more_formed : (all : List (List (Result StmtTree Refusal))) (more : List (Result StmtTree Refusal)) → AllByRecursion AreFormed all → AreFormed more → AllByRecursion AreFormed (all ++ more ∷ [])
+all_more_formed [] more are is = (is, tt)
+all_more_formed (r ∷ rs) more are is = (are.0, all_more_formed rs more are.1 is)
 
 all_as_many : (scripts : List (List (List ℕ))) (readings : List (List (Result StmtTree Refusal))) → AreAllRead scripts readings → length readings ≡ length scripts
 all_as_many [] [] are = refl
@@ -131,6 +142,7 @@ served_more names scripts old begun new s name pieces long count served db log w
     record {
       readings = all ++ more ∷ [];
       read = all_more_read scripts all pieces more served.read serves.read;
+      formed = all_more_formed all more served.formed serves.formed;
       db = serves.db ∙ ap (λ d. run_db d more) before ∙ sym (all_more_db no_tables all more);
       log = serves.log ∙ ap (λ l. l ++ run_log s begun.db 1 more) (ap log_tree log ∙ served.log) ∙ ap (λ d. all_log 1 no_tables all ++ run_log s d 1 more) before ∙ sym (all_more_log 1 s no_tables all more number);
       text = serves.text ∙ ap (λ t. t ++ run_text begun.db 1 more) (text ∙ ap (λ t. t ++ session_line s name) served.text)
@@ -172,6 +184,7 @@ produces names scripts run text served is =
           ∙ sym (sessions_printed names readings)
           ∙ ap (λ log. printed names readings log) (sym served.log);
       work_is = served.work ∙ sym (sessions_work readings) ∙ ap (λ log. run_work readings log) (sym served.log);
+      in_turn = subst (RiseFrom 1) (sym served.log) (sessions_rise 1 no_tables readings);
     }
 
 -- ## Statements
@@ -207,6 +220,7 @@ explained : (statement : StmtTree) → is_explain statement ≡ true → (query 
 explained (ExplainSelect query) h = (query, refl)
 explained (CreateTable table columns) h = cc
 explained (DropTable table) h = cc
+explained (AlterTable table column) h = cc
 explained (InsertInto table listed rows) h = cc
 explained (DeleteFrom table cond) h = cc
 explained (UpdateTable table sets cond) h = cc
@@ -244,6 +258,7 @@ record IsWritten (db : Db) (statement : StmtTree) : Type 0 where
 is_written : (db : Db) (statement : StmtTree) → is_change statement ≡ true → IsWritten db statement
 is_written db (CreateTable table columns) h = record { acts = refl; shows = refl; no_work = refl }
 is_written db (DropTable table) h = record { acts = refl; shows = refl; no_work = refl }
+is_written db (AlterTable table column) h = record { acts = refl; shows = refl; no_work = refl }
 is_written db (InsertInto table listed rows) h = record { acts = refl; shows = refl; no_work = refl }
 is_written db (DeleteFrom table cond) h = record { acts = refl; shows = refl; no_work = refl }
 is_written db (UpdateTable table sets cond) h = record { acts = refl; shows = refl; no_work = refl }

@@ -11,22 +11,23 @@ use Rattle.cell_core.specs.declared.table.Db.{Db}
 use Rattle.sql_semantics.specs.Effect.{replay, replay_from}
 use Rattle.sql_semantics.specs.declared.refusal.Refusal.{Refusal}
 use Rattle.sql_tree.specs.Tree.{StmtTree}
-use Rattle.sql_tree.specs.Tree.StmtTree.{CreateTable, DropTable, InsertInto, DeleteFrom, UpdateTable, Select, ExplainSelect}
-use Rattle.answer_text.specs.Log.{ActTree, EventTree, commits, tables_at, is_opening, is_place, place_in, tables_met, acts_over, acts_of, logged_of, shown_over, IsOrdered}
+use Rattle.sql_tree.specs.Tree.StmtTree.{CreateTable, DropTable, AlterTable, InsertInto, DeleteFrom, UpdateTable, Select, ExplainSelect}
+use Rattle.answer_text.specs.Log.{ActTree, EventTree, commits, tables_at, is_opening, is_place, statement_place, tables_met, acts_over, AreStatements, logged_of, shown_over, IsOrdered}
 use Rattle.answer_text.specs.Layout.{reply_text, replies_text, session_line, session_text, history_text, printed}
 use Rattle.sql_shell.specs.Session.{no_tables, events_of, db_after, run_db, run_log, run_text, work_from, all_db, all_log, all_text, all_work}
+use Rattle.sql_shell.specs.Served.{RiseFrom}
 use Rattle.sql_shell.specs.Work.{statement_work, session_work, run_work}
 use Rattle.sql_shell.proofs.CommitLemmas.{commits_lead, commits-append, replay_from-append}
 
 -- ## Places
 
--- an event of an earlier session, or of an earlier statement of this one
+-- an event of another session, or of an earlier statement of this one
 abbrev IsEarlier : ℕ → ℕ → EventTree → Type 0
-IsEarlier s k event = (event.session < s) ⊎ ((event.session ≡ s) × (event.statement < k))
+IsEarlier s k event = ((event.session == s) ≡ false) ⊎ ((event.session ≡ s) × (event.statement < k))
 
+-- no event is of this session from statement k on; those of other sessions may stand anywhere
 abbrev AreBefore : ℕ → ℕ → List EventTree → Type 0
-AreBefore s k [] = Unit {0}
-AreBefore s k (event ∷ log) = IsEarlier s k event × AreBefore s k log
+AreBefore s k log = AllByRecursion (IsEarlier s k) log
 
 other_number : (a b : ℕ) → a < b → (a == b) ≡ false
 other_number a b h = grind (arith, nat_tests)
@@ -38,21 +39,21 @@ itself : (k : ℕ) → (k == k) ≡ true
 itself k = grind (arith, nat_tests)
 
 not_here : (s k : ℕ) (event : EventTree) → IsEarlier s k event → is_place s k event ≡ false
-not_here s k event (inl h) = ap (λ b. b && (event.statement == k) && is_opening event.act) (other_number event.session s h)
+not_here s k event (inl h) = ap (λ b. b && (event.statement == k) && is_opening event.act) h
 not_here s k event (inr h) =
     ap (λ n. (n == s) && (event.statement == k) && is_opening event.act) h.0
     ∙ ap (λ b. b && (event.statement == k) && is_opening event.act) (itself s)
     ∙ ap (λ b. b && is_opening event.act) (other_number event.statement k h.1)
 
 -- behind such events the place of statement k is where it begins
-place_behind : (s k : ℕ) (log : List EventTree) (act : ActTree) (more : List EventTree) → AreBefore s k log → is_opening act ≡ true → place_in s k (log ++ record { session = s; statement = k; act = act } ∷ more) ≡ suc (length log)
+place_behind : (s k : ℕ) (log : List EventTree) (act : ActTree) (more : List EventTree) → AreBefore s k log → is_opening act ≡ true → statement_place s k (log ++ record { session = s; statement = k; act = act } ∷ more) ≡ suc (length log)
 place_behind s k [] act more before opening =
-    ap (λ b. cond (b && (k == k) && is_opening act) 1 (suc (place_in s k more))) (itself s)
-    ∙ ap (λ b. cond (b && is_opening act) 1 (suc (place_in s k more))) (itself k)
-    ∙ ap (λ b. cond b 1 (suc (place_in s k more))) opening
+    ap (λ b. cond (b && (k == k) && is_opening act) 1 (suc (statement_place s k more))) (itself s)
+    ∙ ap (λ b. cond (b && is_opening act) 1 (suc (statement_place s k more))) (itself k)
+    ∙ ap (λ b. cond b 1 (suc (statement_place s k more))) opening
 place_behind s k (event ∷ log) act more before opening =
     let rest = log ++ record { session = s; statement = k; act = act } ∷ more in
-    ap (λ b. cond b 1 (suc (place_in s k rest))) (not_here s k event before.0)
+    ap (λ b. cond b 1 (suc (statement_place s k rest))) (not_here s k event before.0)
     ∙ ap suc (place_behind s k log act more before.1 opening)
 
 -- the tables at the place behind a log are those that its commits lead to
@@ -67,6 +68,7 @@ opened : (db : Db) (reading : Result StmtTree Refusal) → (act : ActTree) × (a
 opened db (Err r) = (_, _, refl, refl)
 opened db (Ok (CreateTable table columns)) = (_, _, refl, refl)
 opened db (Ok (DropTable table)) = (_, _, refl, refl)
+opened db (Ok (AlterTable table column)) = (_, _, refl, refl)
 opened db (Ok (InsertInto table listed rows)) = (_, _, refl, refl)
 opened db (Ok (DeleteFrom table cond)) = (_, _, refl, refl)
 opened db (Ok (UpdateTable table sets cond)) = (_, _, refl, refl)
@@ -79,7 +81,7 @@ met s k log db reading more leads before =
     let open_ = opened db reading in
     let here : events_of s k (acts_over db reading) ++ more ≡ record { session = s; statement = k; act = open_.0 } ∷ (events_of s k open_.1 ++ more) =
     ap (λ acts. events_of s k acts ++ more) open_.2 in
-    ap (λ p. tables_at (log ++ (events_of s k (acts_over db reading) ++ more)) p) (ap (λ xs. place_in s k (log ++ xs)) here ∙ place_behind s k log open_.0 _ before open_.3)
+    ap (λ p. tables_at (log ++ (events_of s k (acts_over db reading) ++ more)) p) (ap (λ xs. statement_place s k (log ++ xs)) here ∙ place_behind s k log open_.0 _ before open_.3)
     ∙ tables_behind log _ ∙ leads
 
 -- ## What goes on behind a statement
@@ -117,22 +119,15 @@ run_leads s k log db (reading ∷ readings) leads =
     ap (λ l. replay (commits l)) (sym (append_assoc log (events_of s k (acts_over db reading)) (run_log s (db_after db reading) (k + 1) readings)))
     ∙ run_leads s (k + 1) (log ++ events_of s k (acts_over db reading)) (db_after db reading) readings (leads_on s k log db reading leads)
 
--- all its events are earlier than those of the next session
-before-next : (s k : ℕ) (xs : List EventTree) → AreBefore s k xs → AreBefore (s + 1) 0 xs
-before-next s k [] a = tt
-before-next s k (x ∷ xs) a = (next a.0, before-next s k xs a.1)
-  where
-    next : IsEarlier s k x → IsEarlier (s + 1) 0 x
-    next (inl h) = inl (omega (arith, h))
-    next (inr h) = inl (omega (arith, h.0))
+-- none of its events is of another session
+own_before : (s j k : ℕ) (acts : List ActTree) → (s == j) ≡ false → AreBefore j 0 (events_of s k acts)
+own_before s j k [] other = tt
+own_before s j k (act ∷ acts) other = (inl other, own_before s j k acts other)
 
-session_events : (s k : ℕ) (acts : List ActTree) → AreBefore (s + 1) 0 (events_of s k acts)
-session_events s k [] = tt
-session_events s k (act ∷ acts) = (inl (omega arith), session_events s k acts)
-
-session_before : (s k : ℕ) (db : Db) (readings : List (Result StmtTree Refusal)) → AreBefore (s + 1) 0 (run_log s db k readings)
-session_before s k db [] = tt
-session_before s k db (reading ∷ readings) = before-append (s + 1) 0 _ _ (session_events s k (acts_over db reading)) (session_before s (k + 1) (db_after db reading) readings)
+session_before : (s j k : ℕ) (db : Db) (readings : List (Result StmtTree Refusal)) → (s == j) ≡ false → AreBefore j 0 (run_log s db k readings)
+session_before s j k db [] other = tt
+session_before s j k db (reading ∷ readings) other =
+    before-append j 0 _ _ (own_before s j k (acts_over db reading) other) (session_before s j (k + 1) (db_after db reading) readings other)
 
 -- ## One session in the log
 
@@ -162,19 +157,20 @@ goes_here log front s k db reading readings more goes =
     let rest = run_log s (db_after db reading) (k + 1) readings in
     ap (λ l. tables_met l s k) (goes.is ∙ ap (λ l. front ++ l) (append_assoc events rest more)) ∙ met s k front db reading (rest ++ more) goes.leads goes.before
 
--- the acts of the statements from k on are what the log has of them
-acts_from : (log front : List EventTree) (s k : ℕ) (db : Db) (readings : List (Result StmtTree Refusal)) (more : List EventTree) → Goes log front s k db readings more → flat_map {A = ℕ × ActTree} (λ (j, reading). map (λ act. (j, act)) (acts_over (tables_met log s j) reading)) (enumerate_from k readings) ≡ map {B = ℕ × ActTree} (λ (event : EventTree). (event.statement, event.act)) (run_log s db k readings)
+-- what the log has of the statements from k on are their acts
+acts_from : (log front : List EventTree) (s k : ℕ) (db : Db) (readings : List (Result StmtTree Refusal)) (more : List EventTree) → Goes log front s k db readings more → AreStatements log s k readings (map {B = ℕ × ActTree} (λ (event : EventTree). (event.statement, event.act)) (run_log s db k readings))
 acts_from log front s k db [] more goes = refl
 acts_from log front s k db (reading ∷ readings) more goes =
     let events = events_of s k (acts_over db reading) in
     let rest = run_log s (db_after db reading) (k + 1) readings in
     let later = acts_from log (front ++ events) s (k + 1) (db_after db reading) readings more (goes_next log front s k db reading readings more goes) in
-    let pair = λ (event : EventTree). let p : ℕ × ActTree = (event.statement, event.act) in p in
-    let tail = flat_map {A = ℕ × ActTree} (λ (j, reading). map (λ act. (j, act)) (acts_over (tables_met log s j) reading)) (enumerate_from (k + 1) readings) in
-    ap (λ d. map {B = ℕ × ActTree} (λ act. (k, act)) (acts_over d reading) ++ tail) (goes_here log front s k db reading readings more goes)
-    ∙ ap (λ acts. acts ++ tail) (named_acts s k (acts_over db reading))
-    ∙ ap (λ acts. map pair events ++ acts) later
-    ∙ sym (map-append pair events rest)
+    let pair = λ (event : EventTree). let p : ℕ × ActTree = (event.statement, event.act) in p in (
+      acts_over db reading,
+      map pair rest,
+      map-append pair events rest ∙ ap (λ acts. acts ++ map pair rest) (sym (named_acts s k (acts_over db reading))),
+      ap (λ d. acts_over d reading) (sym (goes_here log front s k db reading readings more goes)),
+      later,
+    )
 
 -- so with the replies
 texts_from : (log front : List EventTree) (s k : ℕ) (db : Db) (readings : List (Result StmtTree Refusal)) (more : List EventTree) → Goes log front s k db readings more → flat_map {A = ℕ} (λ (j, reading). reply_text j (shown_over (tables_met log s j) reading)) (enumerate_from k readings) ≡ run_text db k readings
@@ -200,16 +196,16 @@ works_from log front s k db (reading ∷ readings) more goes =
 record GoesAll (log front : List EventTree) (s : ℕ) (db : Db) (scripts : List (List (Result StmtTree Refusal))) : Type 0 where
   is : log ≡ front ++ all_log s db scripts
   leads : replay (commits front) ≡ db
-  before : AreBefore s 0 front
+  before : (j : ℕ) → s ≤ j → AreBefore j 0 front
 
 goes_first : (log front : List EventTree) (s : ℕ) (db : Db) (readings : List (Result StmtTree Refusal)) (others : List (List (Result StmtTree Refusal))) → GoesAll log front s db (readings ∷ others) → Goes log front s 1 db readings (all_log (s + 1) (run_db db readings) others)
-goes_first log front s db readings others goes = record { is = goes.is; leads = goes.leads; before = before-later s 0 front goes.before }
+goes_first log front s db readings others goes = record { is = goes.is; leads = goes.leads; before = before-later s 0 front (goes.before s (omega arith)) }
 
 goes_others : (log front : List EventTree) (s : ℕ) (db : Db) (readings : List (Result StmtTree Refusal)) (others : List (List (Result StmtTree Refusal))) → GoesAll log front s db (readings ∷ others) → GoesAll log (front ++ run_log s db 1 readings) (s + 1) (run_db db readings) others
 goes_others log front s db readings others goes = record {
   is = goes.is ∙ sym (append_assoc front (run_log s db 1 readings) (all_log (s + 1) (run_db db readings) others));
   leads = run_leads s 1 front db readings goes.leads;
-  before = before-append (s + 1) 0 front (run_log s db 1 readings) (before-next s 0 front goes.before) (session_before s 1 db readings);
+  before = λ j h. before-append j 0 front (run_log s db 1 readings) (goes.before j (omega (arith, h))) (session_before s j 1 db readings (other_number s j (omega (arith, h))));
 }
 
 -- ## The events of a session are its own
@@ -223,12 +219,12 @@ none_kept s [] a = refl
 none_kept s (event ∷ log) a =
     ap (λ b. cond b (event ∷ filter (λ (e : EventTree). e.session == s) log) (filter (λ (e : EventTree). e.session == s) log)) a.0 ∙ none_kept s log a.1
 
-front_others : (s j : ℕ) (log : List EventTree) → s ≤ j → AreBefore s 0 log → AreOthers j log
-front_others s j [] h a = tt
-front_others s j (event ∷ log) h a = (other a.0, front_others s j log h a.1)
+front_others : (s : ℕ) (log : List EventTree) → AreBefore s 0 log → AreOthers s log
+front_others s [] a = tt
+front_others s (event ∷ log) a = (other a.0, front_others s log a.1)
   where
-    other : IsEarlier s 0 event → (event.session == j) ≡ false
-    other (inl e) = other_number event.session j (omega (arith, e))
+    other : IsEarlier s 0 event → (event.session == s) ≡ false
+    other (inl e) = e
     other (inr e) = absurd (omega (arith, e.1))
 
 events_others : (s j k : ℕ) (acts : List ActTree) → (s == j) ≡ false → AreOthers j (events_of s k acts)
@@ -267,7 +263,7 @@ logged_is log front s db readings others goes =
     let later = all_log (s + 1) (run_db db readings) others in
     ap (filter own) goes.is
     ∙ filter-append own front (run_log s db 1 readings ++ later)
-    ∙ ap (λ xs. xs ++ filter own (run_log s db 1 readings ++ later)) (none_kept s front (front_others s s front (omega arith) goes.before))
+    ∙ ap (λ xs. xs ++ filter own (run_log s db 1 readings ++ later)) (none_kept s front (front_others s front (goes.before s (omega arith))))
     ∙ filter-append own (run_log s db 1 readings) later
     ∙ ap (λ xs. xs ++ filter own later) (all_kept s 1 db readings)
     ∙ ap (λ ys. run_log s db 1 readings ++ ys) (none_kept s later (later_others (s + 1) s (run_db db readings) others (omega arith)))
@@ -275,19 +271,21 @@ logged_is log front s db readings others goes =
 
 -- ## The theorem
 
-statements_from : (log front : List EventTree) (s : ℕ) (db : Db) (scripts : List (List (Result StmtTree Refusal))) → GoesAll log front s db scripts → (i : ℕ) (readings : List (Result StmtTree Refusal)) → slice_get scripts i ≡ Some readings → logged_of (i + s) log ≡ acts_of log (i + s) readings
+statements_from : (log front : List EventTree) (s : ℕ) (db : Db) (scripts : List (List (Result StmtTree Refusal))) → GoesAll log front s db scripts → (i : ℕ) (readings : List (Result StmtTree Refusal)) → slice_get scripts i ≡ Some readings → AreStatements log (i + s) 1 readings (logged_of (i + s) log)
 statements_from log front s db [] goes i readings e = cc
 statements_from log front s db (first ∷ others) goes zero readings e =
     let same : first ≡ readings = cc in
-    ap (λ n. logged_of n log) (let n : 0 + s ≡ s = omega arith in n)
-    ∙ ap (map {B = ℕ × ActTree} (λ (event : EventTree). (event.statement, event.act))) (logged_is log front s db first others goes)
-    ∙ sym (acts_from log front s 1 db first _ (goes_first log front s db first others goes))
-    ∙ ap (acts_of log s) same
-    ∙ ap (λ n. acts_of log n readings) (let n : s ≡ 0 + s = omega arith in n)
+    let number : s ≡ 0 + s = omega arith in
+    let pair = λ (event : EventTree). let p : ℕ × ActTree = (event.statement, event.act) in p in
+    let Logged : List (ℕ × ActTree) → Type 0 = λ logged. AreStatements log s 1 first logged in
+    let Numbered : ℕ → Type 0 = λ n. AreStatements log n 1 readings (logged_of n log) in
+    let Read : List (Result StmtTree Refusal) → Type 0 = λ rs. AreStatements log s 1 rs (logged_of s log) in
+    let own = acts_from log front s 1 db first _ (goes_first log front s db first others goes) in
+    subst Numbered number (subst Read same (subst Logged (sym (ap (map pair) (logged_is log front s db first others goes))) own))
 statements_from log front s db (first ∷ others) goes (suc i) readings e =
-    ap (λ n. logged_of n log) (let n : suc i + s ≡ i + (s + 1) = omega arith in n)
-    ∙ statements_from log (front ++ run_log s db 1 first) (s + 1) (run_db db first) others (goes_others log front s db first others goes) i readings e
-    ∙ ap (λ n. acts_of log n readings) (let n : i + (s + 1) ≡ suc i + s = omega arith in n)
+    let number : i + (s + 1) ≡ suc i + s = omega arith in
+    let Numbered : ℕ → Type 0 = λ n. AreStatements log n 1 readings (logged_of n log) in
+    subst Numbered number (statements_from log (front ++ run_log s db 1 first) (s + 1) (run_db db first) others (goes_others log front s db first others goes) i readings e)
 
 -- each event is of one of the sessions
 abbrev AreWithin : ℕ → ℕ → List EventTree → Type 0
@@ -310,7 +308,7 @@ within-all low high s db [] a b = tt
 within-all low high s db (readings ∷ others) a b = within-append low high _ _ (within-run low high s 1 db readings a (omega arith)) (within-all low high (s + 1) (run_db db readings) others (omega arith) (omega arith))
 
 goes_from_none : (scripts : List (List (Result StmtTree Refusal))) → GoesAll (all_log 1 no_tables scripts) [] 1 no_tables scripts
-goes_from_none scripts = record { is = refl; leads = refl; before = tt }
+goes_from_none scripts = record { is = refl; leads = refl; before = λ j h. tt }
 
 -- the log of the sessions is in order
 pub sessions_ordered : (scripts : List (List (Result StmtTree Refusal))) → IsOrdered scripts (all_log 1 no_tables scripts)
@@ -343,3 +341,25 @@ works_of log front s db (readings ∷ others) goes =
 -- and the work is that of the statements one after the other
 pub sessions_work : (scripts : List (List (Result StmtTree Refusal))) → run_work scripts (all_log 1 no_tables scripts) ≡ all_work no_tables scripts
 sessions_work scripts = works_of (all_log 1 no_tables scripts) [] 1 no_tables scripts (goes_from_none scripts)
+
+-- ## Until sessions run in threads
+
+lower : (low high : ℕ) (log : List EventTree) → low ≤ high → RiseFrom high log → RiseFrom low log
+lower low high [] h rise = tt
+lower low high (event ∷ log) h rise = (omega (arith, h, rise.0), rise.1)
+
+events_rise : (low s k : ℕ) (acts : List ActTree) (more : List EventTree) → low ≤ s → RiseFrom s more → RiseFrom low (events_of s k acts ++ more)
+events_rise low s k [] more h rise = lower low s more h rise
+events_rise low s k (act ∷ acts) more h rise = (h, events_rise s s k acts more (omega arith) rise)
+
+run_rise : (s k : ℕ) (db : Db) (readings : List (Result StmtTree Refusal)) (more : List EventTree) → RiseFrom s more → RiseFrom s (run_log s db k readings ++ more)
+run_rise s k db [] more rise = rise
+run_rise s k db (reading ∷ readings) more rise =
+    subst (RiseFrom s) (sym (append_assoc (events_of s k (acts_over db reading)) (run_log s (db_after db reading) (k + 1) readings) more))
+    (events_rise s s k (acts_over db reading) _ (omega arith) (run_rise s (k + 1) (db_after db reading) readings more rise))
+
+-- the sessions stand in the log one after the other
+pub sessions_rise : (s : ℕ) (db : Db) (scripts : List (List (Result StmtTree Refusal))) → RiseFrom s (all_log s db scripts)
+sessions_rise s db [] = tt
+sessions_rise s db (readings ∷ others) =
+    run_rise s 1 db readings (all_log (s + 1) (run_db db readings) others) (lower s (s + 1) _ (omega arith) (sessions_rise (s + 1) (run_db db readings) others))

@@ -1,22 +1,21 @@
 -- Scripts that were read: their names and the texts of their statements.
 use Rattle.std.specs.Prelude.{◌≡◌, ℕ, ◌+◌, ◌≤◌, ◌<◌, ◌⊎◌, List, [], ◌∷◌, length, map, Option, Some, None, IfSome, IsUtf8}
 use Rattle.std.specs.List.{AllByRecursion}
-use Rattle.causes.specs.declared.reading.TheConstants.{MOST_BYTES}
-use Rattle.sql_tokens.specs.declared.pieces.TheConstants.{MOST_STATEMENTS}
-use Rattle.sql_tree.specs.Pieces.{pieces_of}
+use Rattle.causes.specs.Limits.{most_bytes}
+use Rattle.sql_tree.specs.Pieces.{most_statements, pieces_of}
 use Rattle.sql_shell.specs.declared.scripts.Script.{Script}
 
 -- a script that is run: not too long, UTF-8, and without too many statements
 pub record IsRunnable (script : List ℕ) : Type 0 where
-  pub short : length script ≤ MOST_BYTES
+  pub short : length script ≤ most_bytes
   pub text : IsUtf8 script
-  pub few : length (pieces_of script) ≤ MOST_STATEMENTS
+  pub few : length (pieces_of script) ≤ most_statements
 
 -- why a script isn't run, and the status that tells it
 pub data IsUnfit (script : List ℕ) (status : ℕ) : Type 0 where
-  TooLong : MOST_BYTES < length script → status ≡ 4 → IsUnfit script status
-  NotText : length script ≤ MOST_BYTES → (IsUtf8 script → ⊥) → status ≡ 6 → IsUnfit script status
-  TooMany : length script ≤ MOST_BYTES → IsUtf8 script → MOST_STATEMENTS < length (pieces_of script) → status ≡ 4 → IsUnfit script status
+  TooLong : most_bytes < length script → status ≡ 4 → IsUnfit script status
+  NotText : length script ≤ most_bytes → (IsUtf8 script → ⊥) → status ≡ 6 → IsUnfit script status
+  TooMany : length script ≤ most_bytes → IsUtf8 script → most_statements < length (pieces_of script) → status ≡ 4 → IsUnfit script status
 
 -- the first of the scripts that isn't run, counted from a number, has this status
 abbrev pub IsFirstUnfit : ℕ → List (List ℕ) → ℕ → ℕ → Type 0
@@ -27,16 +26,23 @@ IsFirstUnfit number (script ∷ scripts) status at =
 abbrev pub AreRunnable : List (List ℕ) → Type 0
 AreRunnable scripts = AllByRecursion IsRunnable scripts
 
--- ## Told scripts
+-- ## Files, and what is told of their bytes
 
-abbrev pub both_told : Option (List ℕ) → Option (List (List ℕ)) → Option (List (List ℕ))
-both_told (Some script) (Some scripts) = Some (script ∷ scripts)
-both_told _ _ = None
+-- a text for each file, which is what is told of the file where it is told
+abbrev pub AreTexts : (List ℕ → Option (List ℕ)) → List (List ℕ) → List (List ℕ) → Type 0
+AreTexts bytes [] [] = Unit {0}
+AreTexts bytes (name ∷ names) (text ∷ texts) = IfSome (bytes name) (λ told. text ≡ told) × AreTexts bytes names texts
+AreTexts bytes _ _ = ⊥
 
--- the scripts of files with these names, where all are told
-abbrev pub told : (List ℕ → Option (List ℕ)) → List (List ℕ) → Option (List (List ℕ))
-told bytes [] = Some []
-told bytes (name ∷ names) = both_told (bytes name) (told bytes names)
+-- the first files are told to have these texts
+abbrev pub AreToldFirst : (List ℕ → Option (List ℕ)) → List (List ℕ) → List (List ℕ) → Type 0
+AreToldFirst bytes names [] = Unit {0}
+AreToldFirst bytes [] (text ∷ texts) = ⊥
+AreToldFirst bytes (name ∷ names) (text ∷ texts) = (bytes name ≡ Some text) × AreToldFirst bytes names texts
+
+-- each file of which bytes are told can be run
+abbrev pub CanBeRun : (List ℕ → Option (List ℕ)) → List (List ℕ) → Type 0
+CanBeRun bytes names = AllByRecursion (λ name. IfSome (bytes name) IsRunnable) names
 
 -- ## What the code keeps, which no public clause names
 
@@ -48,9 +54,11 @@ pieces_in scripts = map (λ (script : Script). script.pieces) scripts
 
 -- the script is that of the file, cut into its statements
 pub record IsCut (bytes : List ℕ → Option (List ℕ)) (name : List ℕ) (script : Script) : Type 0 where
+  pub text : List ℕ
+  pub told : IfSome (bytes name) (λ told. text ≡ told)
+  pub runnable : IsRunnable text
   pub named : script.name ≡ name
-  pub few : length script.pieces ≤ 256
-  pub cut : IfSome (bytes name) (λ text. IsRunnable text × (script.pieces ≡ pieces_of text))
+  pub cut : script.pieces ≡ pieces_of text
 
 abbrev pub AreCut : (List ℕ → Option (List ℕ)) → List (List ℕ) → List Script → Type 0
 AreCut bytes [] [] = Unit {0}

@@ -1,5 +1,5 @@
 -- What the program answers: from words, told scripts and a sink to a status, a log and what is written.
-use Rattle.std.specs.Prelude.{◌≡◌, ℕ, List, [], ◌∷◌, Bool, nat_le, Result}
+use Rattle.std.specs.Prelude.{◌≡◌, ℕ, ◌≤◌, List, [], ◌∷◌, Bool, nat_le, Result}
 use Rattle.sql_semantics.specs.declared.refusal.Refusal.{Refusal}
 use Rattle.sql_tree.specs.Pieces.{pieces_of}
 use Rattle.sql_tree.specs.Tree.{StmtTree}
@@ -21,6 +21,11 @@ pub record IsServed (names scripts : List (List ℕ)) (text : List ℕ) (log : L
   pub read : AreRead scripts readings
   pub ordered : IsOrdered readings log
   pub printed_is : text ≡ printed names readings log
+
+-- the sessions of the events never fall, and the first is no less than this; so it is as long as sessions run one after the other
+abbrev pub RiseFrom : ℕ → List EventTree → Type 0
+RiseFrom low [] = Unit {0}
+RiseFrom low (event ∷ log) = (low ≤ event.session) × RiseFrom event.session log
 
 -- a status: served, words, read fault, write fault, too long, memory, not text
 abbrev pub is_status : ℕ → Bool

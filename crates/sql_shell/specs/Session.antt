@@ -1,6 +1,8 @@
 -- What sessions log and print that run one after the other, statement after statement.
 use Rattle.std.specs.Prelude.{◌≡◌, ℕ, ◌+◌, List, [], ◌∷◌, ◌++◌, map, Bool, true, false, Result, Ok, Err}
 use Rattle.cell_core.specs.declared.table.Db.{Db}
+use Rattle.std.specs.List.{AllByRecursion}
+use Rattle.sql_grammar.specs.Formed.{IsFormed}
 use Rattle.sql_parse.specs.Answered.{Reads}
 use Rattle.sql_semantics.specs.Effect.{effect}
 use Rattle.sql_semantics.specs.declared.refusal.Refusal.{Refusal}
@@ -11,6 +13,7 @@ use Rattle.sql_shell.specs.declared.session.Run.{Run}
 use Rattle.answer_text.specs.declared.event.Shown.{Shown}
 use Rattle.answer_text.specs.Log.{ActTree, EventTree, Begins, Ends, log_tree, code_of, acts_over, shown_over, shown_reply, IsOrdered}
 use Rattle.answer_text.specs.Layout.{reply_text, session_line, printed}
+use Rattle.sql_shell.specs.Served.{RiseFrom}
 use Rattle.sql_shell.specs.Work.{statement_work, run_work}
 
 -- the database that every run begins with
@@ -83,6 +86,14 @@ is_change (Select query) = false
 is_change (ExplainSelect query) = false
 is_change _ = true
 
+-- a statement that was read is formed
+abbrev pub IsFormedReading : Result StmtTree Refusal → Type 0
+IsFormedReading (Ok statement) = IsFormed statement
+IsFormedReading (Err refusal) = Unit {0}
+
+abbrev pub AreFormed : List (Result StmtTree Refusal) → Type 0
+AreFormed readings = AllByRecursion IsFormedReading readings
+
 -- the run goes on by statement k of session s, which was read so
 pub record Follows (old new : Run) (s k : ℕ) (reading : Result StmtTree Refusal) : Type 0 where
   pub db : new.db ≡ db_after old.db reading
@@ -94,12 +105,14 @@ pub record Follows (old new : Run) (s k : ℕ) (reading : Result StmtTree Refusa
 pub record Serves (old new : Run) (s k : ℕ) (text : List ℕ) : Type 0 where
   pub reading : Result StmtTree Refusal
   pub read : Reads text reading
+  pub formed : IsFormedReading reading
   pub follows : Follows old new s k reading
 
 -- the run goes on by these statements of session s, from its first on
 pub record ServesPieces (old new : Run) (s : ℕ) (pieces : List (List ℕ)) : Type 0 where
   pub readings : List (Result StmtTree Refusal)
   pub read : AreReadings pieces readings
+  pub formed : AreFormed readings
   pub db : new.db ≡ run_db old.db readings
   pub log : log_tree new.log.items ≡ log_tree old.log.items ++ run_log s old.db 1 readings
   pub text : new.text.items ≡ old.text.items ++ run_text old.db 1 readings
@@ -109,6 +122,7 @@ pub record ServesPieces (old new : Run) (s : ℕ) (pieces : List (List ℕ)) : T
 pub record HasServed (names : List (List ℕ)) (scripts : List (List (List ℕ))) (run : Run) : Type 0 where
   pub readings : List (List (Result StmtTree Refusal))
   pub read : AreAllRead scripts readings
+  pub formed : AllByRecursion AreFormed readings
   pub db : run.db ≡ all_db no_tables readings
   pub log : log_tree run.log.items ≡ all_log 1 no_tables readings
   pub text : run.text.items ≡ all_text 1 no_tables names readings
@@ -157,3 +171,4 @@ pub record Produces (names : List (List ℕ)) (scripts : List (List (List ℕ)))
   pub ordered : IsOrdered readings log
   pub printed_is : text ≡ printed names readings log
   pub work_is : work ≡ run_work readings log
+  pub in_turn : RiseFrom 1 log

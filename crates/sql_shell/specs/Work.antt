@@ -12,7 +12,8 @@ use Rattle.mal_meaning.specs.declared.plan.Plan.{Plan}
 use Rattle.mal_meaning.specs.Meaning.{plan_load}
 use Rattle.sql_to_mal.specs.Translation.{planned}
 use Rattle.answer_text.specs.Log.{EventTree, refusal_over, tables_met}
-use Rattle.sql_shell.specs.Served.{AreRead}
+use Rattle.sql_shell.specs.Scripts.{AreTexts, AreRunnable}
+use Rattle.sql_shell.specs.Served.{AreRead, IsServed}
 
 -- the tables of a database that a statement speaks of, without their rows
 abbrev pub sources_over : Db → StmtTree → List Source
@@ -41,3 +42,11 @@ pub record HasWork (scripts : List (List ℕ)) (log : List EventTree) (work : �
   pub readings : List (List (Result StmtTree Refusal))
   pub read : AreRead scripts readings
   pub work_is : work ≡ run_work readings log
+
+-- a run over files with these names and of these told bytes: each file has a text, which is what is told of it where it is told; these texts can be run, and what is printed, logged and counted is theirs
+pub record IsRun (bytes : List ℕ → Option (List ℕ)) (names : List (List ℕ)) (text : List ℕ) (log : List EventTree) (work : ℕ) : Type 0 where
+  pub scripts : List (List ℕ)
+  pub told : AreTexts bytes names scripts
+  pub runnable : AreRunnable scripts
+  pub served : IsServed names scripts text log
+  pub worked : HasWork scripts log work

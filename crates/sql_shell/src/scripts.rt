@@ -1,14 +1,29 @@
 //! Reading the scripts of a run.
-ghost use Rattle.std.specs.Prelude.{◌≡◌, ◌≢◌, ◌≤◌, ℕ, List, true, length, IfOk, IfSome, MatchResult};
+ghost use Rattle.std.specs.Prelude.{◌≡◌, ◌≢◌, ◌≤◌, ◌-◌, ◌⊎◌, ℕ, List, true, length, take, IfOk, IfErr, IfSome};
 ghost use Rattle.causes.specs.Faults.{Rose};
 ghost use Rattle.sql_tree.specs.Pieces.{pieces_of};
 ghost use Rattle.sql_shell.specs.Failures.{status_of, at_of, is_by_bytes};
-ghost use Rattle.sql_shell.specs.Scripts.{IsRunnable, IsCut, AreCut, IsUnfit, IsFirstUnfit, told};
+ghost use Rattle.sql_shell.specs.Scripts.{IsRunnable, IsCut, AreCut, AreTexts, AreToldFirst, CanBeRun, IsUnfit, IsFirstUnfit};
 
 use causes::{ReadError, Scripts, read_all};
 use cell_core::{Memory, Sequence, Word};
 use sql_parse::{SplitError, split};
 use std::alloc::{AllocFailed, Global};
+
+/// The status of a run that is served.
+pub const STATUS_SERVED: u8 = 0;
+/// The status of words outside the grammar.
+pub const STATUS_WORDS: u8 = 1;
+/// The status of a file that can't be read.
+pub const STATUS_UNREAD: u8 = 2;
+/// The status of an answer that can't be written.
+pub const STATUS_UNWRITTEN: u8 = 3;
+/// The status of a file with too many bytes or statements.
+pub const STATUS_TOO_LONG: u8 = 4;
+/// The status of a run that had too little memory.
+pub const STATUS_MEMORY: u8 = 5;
+/// The status of a file that isn't UTF-8.
+pub const STATUS_NOT_TEXT: u8 = 6;
 
 /// A script that was read, cut into its statements.
 #[derive(Debug, Drop)]
@@ -40,11 +55,11 @@ impl Failure {
         ensures { result ≡ status_of self }
     {
         match self {
-            Failure::Words => 1,
-            Failure::Fault(_) => 2,
-            Failure::TooLong(_) => 4,
-            Failure::NotText(_) => 6,
-            Failure::Memory => 5,
+            Failure::Words => STATUS_WORDS,
+            Failure::Fault(_) => STATUS_UNREAD,
+            Failure::TooLong(_) => STATUS_TOO_LONG,
+            Failure::NotText(_) => STATUS_NOT_TEXT,
+            Failure::Memory => STATUS_MEMORY,
         }
     }
 
@@ -87,11 +102,12 @@ pub fn read_scripts<S: Scripts>(
     names: &[Word],
 ) -> Result<Vec<Script>, Failure>
     ensures cut { IfOk result (λ scripts. AreCut (S.bytes_of source.old) names.now scripts.items) }
-    ensures unfit { MatchResult result (λ scripts. Unit {0}) (λ e. is_by_bytes (status_of e) ≡ true →
-        IfSome (told (S.bytes_of source.old) names.now) (λ scripts. IsFirstUnfit 1 scripts (status_of e) (at_of e))) }
-    ensures fault { MatchResult result (λ scripts. Unit {0}) (λ e. status_of e ≡ 2 → Rose (S.faults source.old) (S.faults source.new)) }
-    ensures bytes { MatchResult result (λ scripts. Unit {0}) (λ e. status_of e ≢ 1) }
-    ensures within { MatchResult result (λ scripts. Unit {0}) (λ e. at_of e ≤ length names.now) }
+    ensures unfit { IfErr result (λ e. is_by_bytes (status_of e) ≡ true →
+        (texts : List (List ℕ)) × AreTexts (S.bytes_of source.old) names.now texts × IsFirstUnfit 1 texts (status_of e) (at_of e)) }
+    ensures fault { IfErr result (λ e. status_of e ≡ 2 → Rose (S.faults source.old) (S.faults source.new)) }
+    ensures reached { IfErr result (λ e. status_of e ≡ 2 → (1 ≤ at_of e) × CanBeRun (S.bytes_of source.old) (take (at_of e - 1) names.now)) }
+    ensures words { IfErr result (λ e. status_of e ≢ 1) }
+    ensures within { IfErr result (λ e. at_of e ≤ length names.now) }
 {
     let mut read = Vec::new(alloc);
     'files: for i in 0..names.len() {
@@ -104,6 +120,7 @@ pub fn read_scripts<S: Scripts>(
 }
 
 /// Reads one script.
+#[tactic(auto, using(crate::proofs::ScriptLemmas::is_cut))]
 fn read_script<S: Scripts>(
     alloc: Global,
     source: &mut S,
@@ -111,11 +128,10 @@ fn read_script<S: Scripts>(
     number: u64,
 ) -> Result<Script, Failure>
     ensures cut { IfOk result (λ script. IsCut (S.bytes_of source.old) name.now script) }
-    ensures unfit { MatchResult result (λ script. Unit {0}) (λ e. is_by_bytes (status_of e) ≡ true →
-        IfSome (S.bytes_of source.old name.now) (λ text. IsUnfit text (status_of e) × (at_of e ≡ number))) }
-    ensures fault { MatchResult result (λ script. Unit {0}) (λ e. status_of e ≡ 2 → Rose (S.faults source.old) (S.faults source.new)) }
-    ensures bytes { MatchResult result (λ script. Unit {0}) (λ e. status_of e ≢ 1) }
-    ensures within { MatchResult result (λ script. Unit {0}) (λ e. at_of e ≤ number) }
+    ensures unfit { IfErr result (λ e. is_by_bytes (status_of e) ≡ true → IfSome (S.bytes_of source.old name.now) (λ text. IsUnfit text (status_of e))) }
+    ensures fault { IfErr result (λ e. status_of e ≡ 2 → Rose (S.faults source.old) (S.faults source.new)) }
+    ensures words { IfErr result (λ e. status_of e ≢ 1) }
+    ensures place { IfErr result (λ e. (status_of e ≡ 5) × (at_of e ≡ 0) ⊎ (at_of e ≡ number)) }
     ensures later { S.faults source.old ≤ S.faults source.new }
     ensures same { (other : List ℕ) → S.bytes_of source.new other ≡ S.bytes_of source.old other }
 {
@@ -132,10 +148,10 @@ fn read_script<S: Scripts>(
 fn cut(alloc: Global, name: &Word, text: &str, number: u64) -> Result<Script, Failure>
     requires { length text.now ≤ 1048576 }
     ensures cut { IfOk result (λ script. (script.name ≡ name.now) × IsRunnable text.now × (script.pieces ≡ pieces_of text.now)) }
-    ensures unfit { MatchResult result (λ script. Unit {0}) (λ e. is_by_bytes (status_of e) ≡ true → IsUnfit text.now (status_of e) × (at_of e ≡ number)) }
-    ensures told { MatchResult result (λ script. Unit {0}) (λ e. status_of e ≢ 2) }
-    ensures bytes { MatchResult result (λ script. Unit {0}) (λ e. status_of e ≢ 1) }
-    ensures within { MatchResult result (λ script. Unit {0}) (λ e. at_of e ≤ number) }
+    ensures unfit { IfErr result (λ e. is_by_bytes (status_of e) ≡ true → IsUnfit text.now (status_of e)) }
+    ensures told { IfErr result (λ e. status_of e ≢ 2) }
+    ensures words { IfErr result (λ e. status_of e ≢ 1) }
+    ensures place { IfErr result (λ e. (status_of e ≡ 5) × (at_of e ≡ 0) ⊎ (at_of e ≡ number)) }
 {
     match split(alloc, text) {
         Ok(pieces) => {

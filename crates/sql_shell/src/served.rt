@@ -1,16 +1,16 @@
-ghost use Rattle.std.specs.Prelude.{◌≡◌, ◌≤◌, ◌⊎◌, ◌+◌, ℕ, List, [], ◌∷◌, length, All, IfSome, None, true};
+ghost use Rattle.std.specs.Prelude.{◌≡◌, ◌≤◌, ◌⊎◌, ◌+◌, ◌-◌, ℕ, List, [], ◌∷◌, length, take, All, IfSome, None, true};
 ghost use Rattle.std.specs.Io.KnownBytes.{Appends};
 ghost use Rattle.causes.specs.Faults.{AppendsPrefix, Rose};
 ghost use Rattle.answer_text.specs.Log.{log_tree};
 ghost use Rattle.sql_shell.specs.Failures.{status_of, at_of};
-ghost use Rattle.sql_shell.specs.Scripts.{AreRunnable, IsFirstUnfit, told, names_of, pieces_in};
-ghost use Rattle.sql_shell.specs.Served.{IsServed, is_status};
+ghost use Rattle.sql_shell.specs.Scripts.{AreRunnable, AreTexts, AreToldFirst, CanBeRun, IsFirstUnfit, names_of, pieces_in};
+ghost use Rattle.sql_shell.specs.Served.{RiseFrom, is_status};
 ghost use Rattle.sql_shell.specs.Session.{Produces};
 ghost use Rattle.command_words.specs.Words.{run_files};
-ghost use Rattle.sql_shell.specs.Work.{HasWork};
+ghost use Rattle.sql_shell.specs.Work.{IsRun};
 
 use crate::produce::produce;
-use crate::scripts::{Failure, Script, read_scripts};
+use crate::scripts::{Failure, STATUS_SERVED, STATUS_UNWRITTEN, Script, read_scripts};
 use answer_text::Event;
 use bat_core::Operate;
 use causes::{Scripts, Sink, write_all};
@@ -46,21 +46,27 @@ pub fn top<S: Scripts, K: Sink, E: Operate, L: Ledger>(
     steps: &mut Steps<L>,
 ) -> Served
     // The headline: what is written is the meaning of the scripts, by the log of this run.
-    ensures served { result.status ≡ 0 → IfSome (run_files words.now) (λ names. IfSome (told (S.bytes_of scripts.old) names) (λ texts.
-        (text : List ℕ) × Appends (K.contents out.old) (K.contents out.new) text × IsServed names texts text (log_tree result.log))) }
-    ensures prefix { result.status ≡ 3 → IfSome (run_files words.now) (λ names. IfSome (told (S.bytes_of scripts.old) names) (λ texts.
-        (text : List ℕ) × AppendsPrefix (K.contents out.old) (K.contents out.new) text × IsServed names texts text (log_tree result.log))) }
+    ensures served { result.status ≡ 0 → IfSome (run_files words.now) (λ names.
+        (text : List ℕ) × Appends (K.contents out.old) (K.contents out.new) text × IsRun (S.bytes_of scripts.old) names text (log_tree result.log) result.work) }
+    ensures prefix { result.status ≡ 3 → IfSome (run_files words.now) (λ names.
+        (text : List ℕ) × AppendsPrefix (K.contents out.old) (K.contents out.new) text × IsRun (S.bytes_of scripts.old) names text (log_tree result.log) result.work) }
+    ensures in_turn { (result.status ≡ 0) ⊎ (result.status ≡ 3) → RiseFrom 1 (log_tree result.log) }
 
     // When each other status comes, and which file it is about.
     ensures words { run_files words.now ≡ None → (result.status ≡ 1) × (result.at ≡ 0) ⊎ (result.status ≡ 5) }
     ensures other_words { result.status ≡ 1 → run_files words.now ≡ None }
-    ensures bytes { (result.status ≡ 4) ⊎ (result.status ≡ 6) → IfSome (run_files words.now) (λ names. IfSome (told (S.bytes_of scripts.old) names) (λ texts.
-        IsFirstUnfit 1 texts result.status result.at)) }
+    ensures unfit { (result.status ≡ 4) ⊎ (result.status ≡ 6) → IfSome (run_files words.now) (λ names.
+        (texts : List (List ℕ)) × AreTexts (S.bytes_of scripts.old) names texts × IsFirstUnfit 1 texts result.status result.at) }
+    ensures found { IfSome (run_files words.now) (λ names. (texts : List (List ℕ)) (status at : ℕ)
+        → AreToldFirst (S.bytes_of scripts.old) names texts → IsFirstUnfit 1 texts status at → ¬ Rose (S.faults scripts.old) (S.faults scripts.new)
+        → ((result.status ≡ status) × (result.at ≡ at)) ⊎ (result.status ≡ 5)) }
     ensures read_fault { result.status ≡ 2 → Rose (S.faults scripts.old) (S.faults scripts.new) }
+    ensures reached { result.status ≡ 2 → IfSome (run_files words.now) (λ names. (1 ≤ result.at) × CanBeRun (S.bytes_of scripts.old) (take (result.at - 1) names)) }
     ensures write_fault { result.status ≡ 3 → Rose (K.faults out.old) (K.faults out.new) }
-    ensures complete { IfSome (run_files words.now) (λ names. IfSome (told (S.bytes_of scripts.old) names) (λ texts.
-        AreRunnable texts → ¬ Rose (S.faults scripts.old) (S.faults scripts.new) → ¬ Rose (K.faults out.old) (K.faults out.new)
-        → (result.status ≡ 0) ⊎ (result.status ≡ 5))) }
+    ensures complete { IfSome (run_files words.now) (λ names. (texts : List (List ℕ))
+        → AreToldFirst (S.bytes_of scripts.old) names texts → length texts ≡ length names → AreRunnable texts
+        → ¬ Rose (S.faults scripts.old) (S.faults scripts.new) → ¬ Rose (K.faults out.old) (K.faults out.new)
+        → (result.status ≡ 0) ⊎ (result.status ≡ 5)) }
     ensures known { is_status result.status ≡ true }
     ensures at { (result.status ≡ 0) ⊎ (result.status ≡ 1) ⊎ (result.status ≡ 3) ⊎ (result.status ≡ 5) → result.at ≡ 0 }
     ensures file { IfSome (run_files words.now) (λ names. result.at ≤ length names) }
@@ -68,8 +74,7 @@ pub fn top<S: Scripts, K: Sink, E: Operate, L: Ledger>(
     // What each of them leaves.
     ensures silent { (result.status ≡ 1) ⊎ (result.status ≡ 2) ⊎ (result.status ≡ 4) ⊎ (result.status ≡ 5) ⊎ (result.status ≡ 6) → (K.contents out.new ≡ K.contents out.old) × (result.log ≡ []) × (result.work ≡ 0) }
 
-    // The work of the run's plans, which is counted.
-    ensures work { (result.status ≡ 0) ⊎ (result.status ≡ 3) → IfSome (run_files words.now) (λ names. IfSome (told (S.bytes_of scripts.old) names) (λ texts. HasWork texts (log_tree result.log) result.work)) }
+    // The work of the run's plans is counted.
     ensures counted { (result.status ≡ 0) ⊎ (result.status ≡ 3) → steps.new ≡ steps.old + result.work }
     ensures idle { (result.status ≡ 1) ⊎ (result.status ≡ 2) ⊎ (result.status ≡ 4) ⊎ (result.status ≡ 6) → steps.new ≡ steps.old }
 {
@@ -121,8 +126,8 @@ fn serve<K: Sink, E: Operate, L: Ledger>(
         Err(Memory) => failed(alloc, Failure::Memory),
         Ok(produced) => {
             let status = match write_all(out, produced.text.as_slice()) {
-                Ok(()) => 0,
-                Err(_) => 3,
+                Ok(()) => STATUS_SERVED,
+                Err(_) => STATUS_UNWRITTEN,
             };
             Served {
                 status,

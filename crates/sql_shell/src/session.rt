@@ -1,5 +1,6 @@
 ghost use Rattle.std.specs.Prelude.{◌≡◌, ◌≤◌, ◌+◌, true, length, All, OnOk, IfOk, Ok, Err, Some};
-ghost use Rattle.sql_kinds.specs.HoldsKinds.{HoldsKinds};
+ghost use Rattle.sql_grammar.specs.Formed.{IsFormed};
+ghost use Rattle.sql_semantics.specs.Valid.{IsValid};
 ghost use Rattle.sql_tree.specs.Tree.{query_tree, stmt_tree};
 ghost use Rattle.sql_tree.specs.Tree.StmtTree.{Select};
 ghost use Rattle.answer_text.specs.Log.{Writes, act_tree, code_of, count_of};
@@ -12,7 +13,7 @@ use crate::show::{code, count, refuse_explain, show_query, show_reply};
 use answer_text::{Act, Event, Shown, write_reply, write_session_line};
 use bat_core::Operate;
 use cell_core::{Db, Memory, Sequence, Steps, Word};
-use sql_kinds::statements_keep_kinds;
+use sql_kinds::statements_keep_valid;
 use sql_parse::{ParseError, parse};
 use sql_semantics::Refusal;
 use sql_tree::{Query, Stmt};
@@ -52,7 +53,7 @@ pub fn run_scripts<E: Operate, L: Ledger>(
         text: Vec::new(alloc),
         work: 0,
     };
-    statements_keep_kinds();
+    statements_keep_valid();
     'scripts: for i in 0..scripts.len() {
         let number = i as u32 + 1;
         let script = &scripts[i];
@@ -73,11 +74,11 @@ impl Run {
         steps: &mut Steps<L>,
     ) -> Result<(), Memory>
         requires short { length pieces.now ≤ 256 }
-        requires kinds { HoldsKinds self.old.db }
+        requires valid { IsValid self.old.db }
         ensures served { OnOk result (ServesPieces self.old self.new s pieces.now) }
         ensures counted { OnOk result (steps.new + self.old.work ≡ steps.old + self.new.work) }
     {
-        statements_keep_kinds();
+        statements_keep_valid();
         'pieces: for i in 0..pieces.len() {
             self.serve(alloc, s, i as u32 + 1, pieces[i].text(), kernel, steps)?;
         }
@@ -94,7 +95,7 @@ impl Run {
         kernel: &E,
         steps: &mut Steps<L>,
     ) -> Result<(), Memory>
-        requires { HoldsKinds self.old.db }
+        requires { IsValid self.old.db }
         ensures served { OnOk result (Serves self.old self.new s k text.now) }
         ensures counted { OnOk result (steps.new + self.old.work ≡ steps.old + self.new.work) }
     {
@@ -115,7 +116,8 @@ impl Run {
         kernel: &E,
         steps: &mut Steps<L>,
     ) -> Result<(), Memory>
-        requires { HoldsKinds self.old.db }
+        requires formed { IsFormed (stmt_tree stmt) }
+        requires valid { IsValid self.old.db }
         ensures follows { OnOk result (Follows self.old self.new s k (Ok (stmt_tree stmt))) }
         ensures counted { OnOk result (steps.new + self.old.work ≡ steps.old + self.new.work) }
     {
@@ -138,7 +140,8 @@ impl Run {
         steps: &mut Steps<L>,
     ) -> Result<(), Memory>
         requires select { stmt_tree stmt.now ≡ Select (query_tree query.now) }
-        requires kinds { HoldsKinds self.old.db }
+        requires formed { IsFormed (stmt_tree stmt.now) }
+        requires valid { IsValid self.old.db }
         ensures follows { OnOk result (Follows self.old self.new s k (Ok (Select (query_tree query.now)))) }
         ensures counted { OnOk result (steps.new + self.old.work ≡ steps.old + self.new.work) }
     {

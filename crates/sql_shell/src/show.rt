@@ -2,7 +2,8 @@
 ghost use Rattle.std.specs.Prelude.{◌≡◌, ◌+◌, Ok, Some, None, IfOk, IsSome};
 ghost use Rattle.mal_meaning.specs.Meaning.{plan_load, plan_rows};
 ghost use Rattle.mal_meaning.specs.Runs.{Runs};
-ghost use Rattle.sql_kinds.specs.HoldsKinds.{HoldsKinds};
+ghost use Rattle.sql_grammar.specs.Formed.{IsFormed};
+ghost use Rattle.sql_semantics.specs.Valid.{IsValid};
 ghost use Rattle.sql_semantics.specs.Answer.{answer};
 ghost use Rattle.sql_to_mal.specs.Translation.{planned};
 ghost use Rattle.sql_tree.specs.Tree.{query_tree, stmt_tree};
@@ -17,7 +18,7 @@ use bat_core::Operate;
 use cell_core::{Db, Memory, RunError, Steps, word_of};
 use mal_exec::run_plan;
 use mal_meaning::Plan;
-use sql_check::{CheckError, check};
+use sql_check::{CheckError, check, refusal_of};
 use sql_meaning::slow_answer;
 use sql_semantics::{Refusal, Reply, Typed};
 use sql_to_mal::compile_query;
@@ -46,7 +47,8 @@ pub fn show_query<E: Operate, L: Ledger>(
     steps: &mut Steps<L>,
 ) -> Result<Answered, Memory>
     requires select { stmt_tree stmt.now ≡ Select (query_tree query.now) }
-    requires kinds { HoldsKinds db.now }
+    requires formed { IsFormed (stmt_tree stmt.now) }
+    requires valid { IsValid db.now }
     ensures begin { IfOk result (λ answered. answered.begin ≡ begin_code (refusal_over db.now (Select (query_tree query.now)))) }
     ensures shown { IfOk result (λ answered. answered.shown ≡ shown_over db.now (Ok (Select (query_tree query.now)))) }
     ensures work { IfOk result (λ answered. answered.work ≡ statement_work db.now (Ok (Select (query_tree query.now)))) }
@@ -84,7 +86,7 @@ fn run_query<E: Operate, L: Ledger>(
     requires select { stmt_tree typed.now.stmt ≡ Select (query_tree query.now) }
     requires accepted { refusal_over db.now (Select (query_tree query.now)) ≡ None }
     requires sources { typed.now.sources ≡ sources_over db.now (Select (query_tree query.now)) }
-    requires kinds { HoldsKinds db.now }
+    requires valid { IsValid db.now }
     ensures shown { IfOk result (λ out. out.0 ≡ shown_query None (answer (query_tree query.now) db.now)) }
     ensures work { IfOk result (λ out. out.1 ≡ load_unless None (planned (query_tree query.now) (sources_over db.now (Select (query_tree query.now)))) db.now) }
     ensures counted { IfOk result (λ out. steps.new ≡ steps.old + out.1) }
@@ -135,10 +137,9 @@ pub fn refuse_explain(alloc: Global, stmt: &Stmt, db: &Db) -> Result<Refusal, Me
     ensures { IfOk result (λ refusal. refusal ≡ explain_refusal (refusal_over db.now (stmt_tree stmt.now))) }
 {
     let schema = schema_of(alloc, db)?;
-    match check(alloc, stmt, &schema) {
-        Ok(_) => Ok(Refusal::Unsupported(word_of(alloc, "NOT BUILT")?)),
-        Err(CheckError::Refused(refusal)) => Ok(refusal),
-        Err(CheckError::Memory) => Err(Memory),
+    match refusal_of(alloc, stmt, &schema)? {
+        Some(refusal) => Ok(refusal),
+        None => Ok(Refusal::Unsupported(word_of(alloc, "NOT BUILT")?)),
     }
 }
 

@@ -11,7 +11,9 @@ use std::marker::Brand;
 use std::sync::ledger::{Blank, Ledger};
 use std::test::Fail;
 
-mod rows;
+mod replies;
+
+use replies::Replied;
 
 /// The status of a run, the file that it is about, and what is written.
 type Outcome = (u8, u64, Vec<u8>);
@@ -67,13 +69,10 @@ const THREE_SERVED: &str = "session 1 a.sql\n1 ok\n2 ok 3\n3 rows 2\n2\n3\nhisto
     1 1 1 CREATE TABLE t (a INT);\n2 1 2 INSERT INTO t VALUES (3), (1), (2);\n";
 
 /// Scripts, and what is written of them.
-const SCRIPTS: [(&str, &str); 15] = [
+const SCRIPTS: [(&str, &str); 12] = [
     ("", "session 1 a.sql\nhistory 0\n"),
     (" ;\n\t; -- ;\n/* ; */", "session 1 a.sql\nhistory 0\n"),
     (THREE, THREE_SERVED),
-    (rows::CHECKS, rows::CHECKS_PRINTED),
-    (rows::ANSWERS, rows::ANSWERS_PRINTED),
-    (rows::EFFECTS, rows::EFFECTS_PRINTED),
     (
         "CREATE TABLE t (s TEXT, k INT); INSERT INTO t VALUES ('\\N', 1), ('', 2); SELECT s, k FROM t; SELECT MIN(s), COUNT(*) FROM t WHERE k > 5;",
         "session 1 a.sql\n1 ok\n2 ok 2\n3 rows 2\n,2\n\\\\N,1\n4 rows 1\n\\N,0\nhistory 2\n1 1 1 CREATE TABLE t (s TEXT, k INT);\n2 1 2 INSERT INTO t VALUES ('\\N', 1), ('', 2);\n",
@@ -119,6 +118,57 @@ fn scripts_and_what_is_written(rt: HostRuntime) -> Result<(), Fail> {
         let (status, at, text) = run(alloc, &["run", "a.sql"], script.as_bytes(), (0, 0))?;
         assert_eq!(rt; (status, at), (0, 0), "{script}");
         assert_eq!(rt; text.as_slice(), want.as_bytes(), "{script}");
+    }
+    Ok(())
+}
+
+/// The text of a script of these statements.
+fn script_of(alloc: Global, statements: &[Replied]) -> Result<Vec<u8>, Memory> {
+    let mut script = Vec::new(alloc);
+    for (statement, _) in statements {
+        script.extend_from_slice(statement.as_bytes())?;
+        script.extend_from_slice(b";\n")?;
+    }
+    Ok(script)
+}
+
+/// What is written of the session of these statements, up to the history.
+fn session_of(alloc: Global, statements: &[Replied]) -> Result<String, Memory> {
+    let mut text = format!(in alloc; "session 1 a.sql\n")?;
+    let mut number = 0u64;
+    for (_, reply) in statements {
+        number = number.saturating_add(1);
+        let line = format!(in alloc; "{number} {reply}\n")?;
+        text.push_str(line.as_str())?;
+    }
+    text.push_str("history ")?;
+    Ok(text)
+}
+
+#[test]
+fn each_statement_has_its_reply(rt: HostRuntime) -> Result<(), Fail> {
+    let alloc = rt.alloc();
+    let tables: [&[Replied]; 13] = [
+        &replies::CHECKS,
+        &replies::ANSWERS,
+        &replies::EFFECTS,
+        &replies::NO_ROWS,
+        &replies::CONSTANT_OVERFLOW,
+        &replies::TWO_SIDES,
+        &replies::OVERLAPPING,
+        &replies::CONTAINED,
+        &replies::GROWN,
+        &replies::LEFT_OUT,
+        &replies::NULLS,
+        &replies::ADDED_COLUMN,
+        &replies::GUESTS,
+    ];
+    for statements in tables {
+        let script = script_of(alloc, statements)?;
+        let want = session_of(alloc, statements)?;
+        let (status, _, text) = run(alloc, &["run", "a.sql"], script.as_slice(), (0, 0))?;
+        assert_eq!(rt; status, 0);
+        assert!(rt; text.as_slice().starts_with(want.as_bytes()), "{want}");
     }
     Ok(())
 }
@@ -178,6 +228,15 @@ fn statuses_and_what_they_are_about(rt: HostRuntime) -> Result<(), Fail> {
         ("a missing file", &["run", "b.sql"], three, (0, 0), 2, 1, ""),
         ("a failing start", run_a, three, (1, 0), 2, 1, ""),
         ("a failing read", run_a, three, (2, 0), 2, 1, ""),
+        (
+            "an unfit file before one that isn't there",
+            &["run", "a.sql", "b.sql"],
+            &[0xff],
+            (0, 0),
+            6,
+            1,
+            "",
+        ),
         ("a failing write", run_a, three, (0, 2), 3, 0, "session 1 "),
         (
             "the longest",

@@ -83,6 +83,11 @@ unfolding is_key
 end_no_not (Some (Key word.Not)) h = cc
 end_no_not other h = refl
 
+pub end_no_default : (o : Option Token) → is_end o ≡ true → is_key word.Default o ≡ false
+unfolding is_key
+end_no_default (Some (Key word.Default)) h = cc
+end_no_default other h = refl
+
 -- ## The clauses of a query, in their order
 
 -- the place of the clause that the token begins, behind FROM; 0 for none of them, 6 at the end

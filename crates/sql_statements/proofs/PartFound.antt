@@ -17,7 +17,7 @@ use Rattle.sql_tree.specs.declared.token.Symbol.TheVariants as symbol
 use Rattle.sql_tree.specs.declared.token.Token.{Token}
 use Rattle.sql_tree.specs.declared.token.Token.TheVariants.{Key}
 use Rattle.sql_tree.specs.declared.tree.FromItem.{FromItem}
-use Rattle.sql_statements.specs.Reader.{name, column, one_more, listed, enclosed, present, optional, listed_by, names, alias, source}
+use Rattle.sql_statements.specs.Reader.{name, column, one_more, listed, enclosed, present, optional, listed_by, flag, names, alias, source}
 
 -- ## Names
 
@@ -76,6 +76,15 @@ source_sound ts x rest h =
       written = ap (λ r. write_name table.rule (write_alias alias.rule r)) (sym parts.1) ∙ ap (write_name table.rule) alias.written ∙ table.written;
       means = ap (λ (t : List ℕ). let s : FromItem = record { table = t; alias = alias_of alias.rule } in s) table.means ∙ ap (λ (a : Option (List ℕ)). let s : FromItem = record { table = f.0.0; alias = a } in s) alias.means ∙ parts.0;
     }
+
+-- ## A word that may be left out
+
+pub flag_found : (w : Keyword) (write : Bool → List Token → List Token) → ((rest : List Token) → Key w ∷ rest ≡ write true rest) → ((rest : List Token) → rest ≡ write false rest) → IsSound write (λ b. b) (flag w)
+flag_found w write there absent ts x rest h = at (is_key w (first_token ts)) refl h
+  where
+    at : (b : Bool) → is_key w (first_token ts) ≡ b → cond {A = Found Bool} b (Some (true, after_first ts)) (Some (false, ts)) ≡ Some (x, rest) → IsWritten write (λ b. b) ts x rest
+    at true e h = let parts = pair_found _ _ _ _ h in record { rule = true; written = sym (there rest) ∙ ap (λ r. Key w ∷ r) (sym parts.1) ∙ key_found w ts e; means = parts.0 }
+    at false e h = let parts = pair_found _ _ _ _ h in record { rule = false; written = sym (absent rest) ∙ sym parts.1; means = parts.0 }
 
 -- ## Lists
 

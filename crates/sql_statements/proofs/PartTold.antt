@@ -1,5 +1,5 @@
 -- What a derivation of a name, a list or a part that may be left out writes is read as what it stands for.
-use Rattle.std.proofs.Common.{◌≡◌, ℕ, zero, suc, ◌<◌, ◌≤◌, List, [], ◌∷◌, ◌++◌, length, map, true, false, Option, Some, None, refl, ap, sym, ◌∙◌, arith, append_assoc, append-nil}
+use Rattle.std.proofs.Common.{◌≡◌, ℕ, zero, suc, ◌<◌, ◌≤◌, List, [], ◌∷◌, ◌++◌, length, map, Bool, true, false, Option, Some, None, refl, ap, sym, ◌∙◌, arith, append_assoc, append-nil}
 use Rattle.std.specs.Option.{option_map}
 use denote.Enum.Bare.{true_same}
 use Rattle.sql_grammar.specs.Grammar.{sign, write_more, write_some, write_enclosed, write_behind, all_of, any_of, NameRule, write_name, name_of, ColumnRule, write_column, column_of}
@@ -19,7 +19,7 @@ use Rattle.sql_tree.specs.declared.token.Keyword.TheVariants as word
 use Rattle.sql_tree.specs.declared.token.Symbol.TheVariants as symbol
 use Rattle.sql_tree.specs.declared.token.Token.{Token}
 use Rattle.sql_tree.specs.declared.token.Token.TheVariants.{Key}
-use Rattle.sql_statements.specs.Reader.{name, column, one_more, listed, enclosed, present, optional, listed_by, names, alias, source}
+use Rattle.sql_statements.specs.Reader.{name, column, one_more, listed, enclosed, present, optional, listed_by, flag, names, alias, source}
 use Rattle.sql_statements.proofs.EndLemmas.{IsEnd, plain_end, end_expr, end_no_name, end_no_as, more_end}
 use Rattle.sql_statements.proofs.PartFound.{same_all}
 
@@ -73,6 +73,11 @@ alias_longer (AsAlias n) rest = let a = name_longer n rest in omega (arith, a)
 pub source_told : (d : NameRule × AliasRule) (rest : List Token) → IsEnd rest → source (write_source d rest) ≡ Some (source_of d, rest)
 unfolding source
 source_told d rest h = then_told _ _ _ _ (name_told d.0 (write_alias d.1 rest)) (then_told _ _ _ _ (alias_told d.1 rest h) refl)
+
+-- a word that may be left out
+pub flag_told : (w : Keyword) (write : Bool → List Token → List Token) → ((rest : List Token) → write true rest ≡ Key w ∷ rest) → ((rest : List Token) → write false rest ≡ rest) → (d : Bool) (rest : List Token) → is_key w (first_token rest) ≡ false → flag w (write d rest) ≡ Some (d, rest)
+flag_told w write there absent true rest h = ap (flag w) (there rest) ∙ branch_true _ _ _ _ (key_told w) refl
+flag_told w write there absent false rest h = ap (flag w) (absent rest) ∙ branch_false _ _ _ _ h refl
 
 -- ## Lists
 

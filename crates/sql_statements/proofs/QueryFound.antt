@@ -35,8 +35,8 @@ use Rattle.sql_statements.specs.declared.from.Joint.TheVariants as joint
 use Rattle.sql_statements.specs.Derived.{place_with, key_with, item_with, query_with}
 use Rattle.sql_statements.specs.Reader.{listed, flag, Sources, joint_in, also, with_source, ascending, where_cond, source_on, joined, joins, sources, item, items, having_cond, counted, place, key, from, optional_from, query, explain, stmt}
 use Rattle.sql_statements.proofs.JoinLemmas.{same_pair, joins_found, no_joins_found}
-use Rattle.sql_statements.proofs.PartFound.{column_sound, alias_sound, source_sound, listed_found, listed_by_found, optional_found, groups_sound}
-use Rattle.sql_statements.proofs.StmtFound.{where_cond_sound, IsForm, create_found, drop_found, insert_found, delete_found, update_found}
+use Rattle.sql_statements.proofs.PartFound.{column_sound, alias_sound, source_sound, flag_found, listed_found, listed_by_found, optional_found, groups_sound}
+use Rattle.sql_statements.proofs.StmtFound.{where_cond_sound, IsForm, create_found, drop_found, alter_found, insert_found, delete_found, update_found}
 
 -- ## Sources
 
@@ -164,12 +164,8 @@ ascending_sound ts x rest h = at (is_key word.Desc (first_token ts)) refl h
     at true e h = let parts = pair_found _ _ _ _ h in record { rule = DescOrder; written = ap (λ r. Key word.Desc ∷ r) (sym parts.1) ∙ key_found word.Desc ts e; means = parts.0 }
     at false e h = at_asc (is_key word.Asc (first_token ts)) refl h
 
-flag_sound : IsSound write_distinct (λ b. b) (flag word.Distinct)
-flag_sound ts x rest h = at (is_key word.Distinct (first_token ts)) refl h
-  where
-    at : (b : Bool) → is_key word.Distinct (first_token ts) ≡ b → cond {A = Found Bool} b (Some (true, after_first ts)) (Some (false, ts)) ≡ Some (x, rest) → IsWritten write_distinct (λ b. b) ts x rest
-    at true e h = let parts = pair_found _ _ _ _ h in record { rule = true; written = ap (λ r. Key word.Distinct ∷ r) (sym parts.1) ∙ key_found word.Distinct ts e; means = parts.0 }
-    at false e h = let parts = pair_found _ _ _ _ h in record { rule = false; written = sym parts.1; means = parts.0 }
+distinct_sound : IsSound write_distinct (λ b. b) (flag word.Distinct)
+distinct_sound ts x rest h = flag_found word.Distinct write_distinct (λ rest. refl) (λ rest. refl) ts x rest h
 
 -- ## Queries
 
@@ -291,7 +287,7 @@ module _ (build : Builder) (count : ℕ → ℕ) (long : ℕ → ℕ) where
   query_found ts x rest h =
       let f = then_found _ _ _ h in
       let g = then_found _ _ _ f.2 in
-      let distinct = flag_sound ts f.0.0 f.0.1 f.1 in
+      let distinct = distinct_sound ts f.0.0 f.0.1 f.1 in
       let list = items_sound f.0.1 g.0.0 g.0.1 g.1 in
       let w = optional_from_found f.0.0 (items_of list.rule) g.0.1 x rest (ap (λ i. optional_from build count f.0.0 i g.0.1) list.means ∙ g.2) in
       record {
@@ -329,6 +325,7 @@ module _ (build : Builder) (count : ℕ → ℕ) (long : ℕ → ℕ) where
   unfolding stmt
   stmt_found (Key word.Create ∷ ts) x h = create_found build count long ts x h
   stmt_found (Key word.Drop ∷ ts) x h = drop_found build count long ts x h
+  stmt_found (Key word.Alter ∷ ts) x h = alter_found build count long ts x h
   stmt_found (Key word.Insert ∷ ts) x h = insert_found build count long ts x h
   stmt_found (Key word.Delete ∷ ts) x h = delete_found build count long ts x h
   stmt_found (Key word.Update ∷ ts) x h = update_found build count long ts x h

@@ -11,7 +11,7 @@ use Rattle.sql_grammar.specs.Statements.ItemsRule.{AllColumns, SomeItems}
 use Rattle.sql_grammar.specs.Statements.JoinRule.{CommaSource, JoinOn}
 use Rattle.sql_grammar.specs.Statements.PlaceRule.{PositionKey, ColumnKey}
 use Rattle.sql_grammar.specs.Statements.OrderRule.{NoOrder, AscOrder, DescOrder}
-use Rattle.sql_grammar.specs.Statements.StmtRule.{CreateRule, DropRule, InsertRule, DeleteRule, UpdateRule, SelectRule, ExplainRule}
+use Rattle.sql_grammar.specs.Statements.StmtRule.{CreateRule, DropRule, AlterRule, InsertRule, DeleteRule, UpdateRule, SelectRule, ExplainRule}
 use Rattle.sql_reader.specs.Bounded.{Builder, as_written}
 use Rattle.sql_reader.specs.Chain.{first_token, after_first}
 use Rattle.sql_reader.specs.CondReader.{value}
@@ -35,13 +35,13 @@ use Rattle.sql_tree.specs.declared.tree.FromItem.{FromItem}
 use Rattle.sql_statements.specs.declared.from.Joint.{Joint}
 use Rattle.sql_statements.specs.declared.from.Joint.TheVariants as joint
 use Rattle.sql_statements.specs.Derived.{place_with, key_with, item_with, query_with, stmt_with}
-use Rattle.sql_statements.specs.Reader.{column, listed_by, flag, joint_in, also, ascending, where_cond, source_on, joined, joins, sources, item, items, having_cond, counted, place, key, from, optional_from, query, explain, stmt}
+use Rattle.sql_statements.specs.Reader.{column, listed_by, joint_in, also, ascending, where_cond, source_on, joined, joins, sources, item, items, having_cond, counted, place, key, from, optional_from, query, explain, stmt}
 use Rattle.sql_statements.proofs.EndLemmas.{IsEnd, IsPast, end_ends, end_no_asc, end_no_desc, past_end, past_no_comma, past_no_joint, past_no_where, past_no_group, past_no_having, past_no_order, past_no_limit, limit_past, order_past, having_past, group_past, where_past}
 use Rattle.sql_statements.proofs.JoinLemmas.{same_pair, joins_end, joins_go_on}
 use Rattle.sql_statements.proofs.PartFound.{same_all}
-use Rattle.sql_statements.proofs.PartTold.{same_found, column_told, end_no_dot, alias_told, alias_ends, alias_longer, source_told, listed_told, listed_by_told, optional_told}
+use Rattle.sql_statements.proofs.PartTold.{same_found, column_told, end_no_dot, alias_told, alias_ends, alias_longer, source_told, flag_told, listed_told, listed_by_told, optional_told}
 use Rattle.sql_statements.proofs.QueryFound.{on_of, on_next, with_where_is, also_with}
-use Rattle.sql_statements.proofs.StmtTold.{where_told, where_longer, create_told, drop_told, insert_told, delete_told, update_told}
+use Rattle.sql_statements.proofs.StmtTold.{where_told, where_longer, create_told, drop_told, alter_told, insert_told, delete_told, update_told}
 
 -- ## The first token of an item
 
@@ -78,11 +78,6 @@ items_no_distinct : (d : ItemsRule) (rest : List Token) → is_key word.Distinct
 unfolding is_key
 items_no_distinct AllColumns rest = refl
 items_no_distinct (SomeItems ds) rest = value_no_distinct ds.0.0 _
-
-flag_told : (d : Bool) (rest : List Token) → is_key word.Distinct (first_token rest) ≡ false → flag word.Distinct (write_distinct d rest) ≡ Some (d, rest)
-unfolding is_key
-flag_told true rest h = refl
-flag_told false rest h = branch_false _ _ _ _ h refl
 
 -- ## Sources
 
@@ -294,7 +289,7 @@ module _ (build : Builder) (count : ℕ → ℕ) (long : ℕ → ℕ) where
   unfolding query
   query_told d =
       let behind = write_optional_from d.from [] in
-      then_told _ _ _ _ (flag_told d.distinct (write_items d.items behind) (items_no_distinct d.items behind))
+      then_told _ _ _ _ (flag_told word.Distinct write_distinct (λ rest. refl) (λ rest. refl) d.distinct (write_items d.items behind) (items_no_distinct d.items behind))
       (then_told _ _ _ _ (items_told d.items behind (from_ends d.from) (from_no_comma d.from))
       (optional_from_told d.distinct (items_of d.items) d.from))
 
@@ -304,6 +299,7 @@ module _ (build : Builder) (count : ℕ → ℕ) (long : ℕ → ℕ) where
   unfolding stmt explain is_key
   stmt_told (CreateRule table columns) = create_told build count long table columns
   stmt_told (DropRule table) = drop_told build count long table
+  stmt_told (AlterRule table word_ coldef) = alter_told build count long table word_ coldef
   stmt_told (InsertRule table columns rows) = insert_told build count long table columns rows
   stmt_told (DeleteRule table cond) = delete_told build count long table cond
   stmt_told (UpdateRule table sets cond) = update_told build count long table sets cond

@@ -1,20 +1,25 @@
 -- What is read as a statement, and only that, is derived.
-use Rattle.std.proofs.Common.{◌≡◌, ℕ, List, [], ◌∷◌, map, Option, Some, None, refl, ap, sym, ◌∙◌, subst}
+use Rattle.std.proofs.Common.{◌≡◌, ℕ, List, [], ◌∷◌, map, Option, Some, None, Result, Ok, Err, refl, ap, sym, ◌∙◌, subst}
+use Rattle.std.specs.Prelude.{IfOk, OnOk}
 use Rattle.std.specs.Option.{option_map}
+use Rattle.cell_core.specs.declared.cell.Cell.{Cell}
+use Rattle.cell_core.specs.declared.table.Column.{Column}
 use Rattle.sql_grammar.specs.Statements.{write_stmt, stmt_of, Derives}
 use Rattle.sql_reader.specs.Bounded.{Builder, as_written, bounded}
 use Rattle.sql_reader.specs.Chain.{Found}
 use Rattle.sql_reader.specs.Derived.{cond_with}
-use Rattle.sql_reader.proofs.ChainLemmas.{pair_found}
+use Rattle.sql_reader.proofs.ChainLemmas.{pair_found, all_found}
 use Rattle.sql_reader.proofs.CondLaws.{same_cond}
 use Rattle.sql_reader.proofs.ExprLaws.{same_cell, same_tree}
-use Rattle.sql_tree.specs.Tree.{ExprTree, CondTree, ItemTree, QueryTree, StmtTree}
-use Rattle.sql_tree.specs.Tree.StmtTree.{CreateTable, DropTable, InsertInto, DeleteFrom, UpdateTable, Select, ExplainSelect}
+use Rattle.sql_reader.specs.declared.reading.ReadError.{ReadError}
+use Rattle.sql_tree.specs.Tree.{ExprTree, CondTree, ItemTree, QueryTree, StmtTree, stmt_tree}
+use Rattle.sql_tree.specs.Tree.StmtTree.{CreateTable, DropTable, AlterTable, InsertInto, DeleteFrom, UpdateTable, Select, ExplainSelect}
 use Rattle.sql_tree.specs.declared.token.Token.{Token}
 use Rattle.sql_tree.specs.declared.tree.Place.{Place}
 use Rattle.sql_tree.specs.declared.tree.Place.TheVariants.{Position, Named}
 use Rattle.sql_tree.specs.declared.tree.SortKey.{SortKey}
-use Rattle.sql_statements.specs.Derived.{key_with, item_with, set_with, query_with, stmt_with, count_64, length_32, IsReadStmt}
+use Rattle.sql_tree.specs.declared.tree.Stmt.{Stmt}
+use Rattle.sql_statements.specs.Derived.{column_with, key_with, item_with, set_with, query_with, stmt_with, count_64, length_32, IsReadStmt}
 use Rattle.sql_statements.specs.Reader.{stmt}
 use Rattle.sql_statements.proofs.QueryFound.{stmt_found}
 use Rattle.sql_statements.proofs.QueryTold.{stmt_told}
@@ -29,6 +34,9 @@ option_same f same (Some x) = ap Some (same x)
 
 abbrev own : ℕ → ℕ
 own n = n
+
+same_column : (c : Column) → column_with as_written own own c ≡ c
+same_column c = ap (λ (d : Cell). let made : Column = record { name = c.name; kind = c.kind; width = c.width; not_null = c.not_null; default = d } in made) (same_cell c.default)
 
 same_key : (k : SortKey) → key_with as_written own own k ≡ k
 same_key k = at k.at
@@ -56,8 +64,9 @@ same_query q =
 
 -- the numbers of a statement are its own
 same_stmt : (s : StmtTree) → stmt_with as_written own own s ≡ s
-same_stmt (CreateTable table columns) = ap (CreateTable table) (map_same _ (λ column. refl) columns)
+same_stmt (CreateTable table columns) = ap (CreateTable table) (map_same _ same_column columns)
 same_stmt (DropTable table) = refl
+same_stmt (AlterTable table column) = ap (AlterTable table) (same_column column)
 same_stmt (InsertInto table columns rows) = ap (InsertInto table columns) (map_same _ (map_same _ same_cell) rows)
 same_stmt (DeleteFrom table cond) = ap (DeleteFrom table) (option_same _ same_cond cond)
 same_stmt (UpdateTable table sets cond) = ap (λ s. UpdateTable table s (option_map (cond_with as_written) cond)) (map_same _ same_set sets) ∙ ap (UpdateTable table sets) (option_same _ same_cond cond)
@@ -84,3 +93,9 @@ stmt_read ts x h =
 
 pub read_told : (ts : List Token) (s : StmtTree) → Derives ts s → stmt bounded count_64 length_32 ts ≡ Some (stmt_with bounded count_64 length_32 s, [])
 read_told ts s is = derived_told bounded count_64 length_32 ts s is
+
+-- where no token is left behind a statement, it is what all of them are read as
+pub if_alone : (o : Found StmtTree) (t : StmtTree) (rest : List Token) → o ≡ Some (t, rest) → (P : StmtTree → Type 0) → ((x : StmtTree) → o ≡ Some (x, []) → P x)
+    → (result : Result Stmt ReadError) → IfOk result (λ s. stmt_tree s ≡ t) → OnOk result (rest ≡ []) → IfOk result (λ s. P (stmt_tree s))
+if_alone o t rest h P told (Ok s) same none = told (stmt_tree s) (all_found o (stmt_tree s) rest (h ∙ ap (λ (t : StmtTree). let f : Found StmtTree = Some (t, rest) in f) (sym same)) none)
+if_alone o t rest h P told (Err e) same none = tt

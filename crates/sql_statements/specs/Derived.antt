@@ -6,7 +6,7 @@ use Rattle.sql_grammar.specs.Statements.{Derives}
 use Rattle.sql_reader.specs.Bounded.{Builder, bounded}
 use Rattle.sql_reader.specs.Derived.{cell_with, expr_with, cond_with}
 use Rattle.sql_tree.specs.Tree.{ExprTree, ItemTree, QueryTree, StmtTree}
-use Rattle.sql_tree.specs.Tree.StmtTree.{CreateTable, DropTable, InsertInto, DeleteFrom, UpdateTable, Select, ExplainSelect}
+use Rattle.sql_tree.specs.Tree.StmtTree.{CreateTable, DropTable, AlterTable, InsertInto, DeleteFrom, UpdateTable, Select, ExplainSelect}
 use Rattle.sql_tree.specs.declared.token.Token.{Token}
 use Rattle.sql_tree.specs.declared.tree.Place.{Place}
 use Rattle.sql_tree.specs.declared.tree.Place.TheVariants.{Position, Named}
@@ -19,7 +19,7 @@ at_most most n = if nat_le n most then n else most
 -- a statement with its expressions and conditions as a builder keeps them, and other counts and lengths
 module _ (build : Builder) (count : ℕ → ℕ) (length : ℕ → ℕ) where
   abbrev pub column_with : Column → Column
-  column_with column = record { name = column.name; kind = column.kind; width = length column.width; not_null = column.not_null }
+  column_with column = record { name = column.name; kind = column.kind; width = length column.width; not_null = column.not_null; default = cell_with build.number column.default }
 
   abbrev pub place_with : Place → Place
   place_with (Position n) = Position (count n)
@@ -49,6 +49,7 @@ module _ (build : Builder) (count : ℕ → ℕ) (length : ℕ → ℕ) where
   abbrev pub stmt_with : StmtTree → StmtTree
   stmt_with (CreateTable table columns) = CreateTable table (map column_with columns)
   stmt_with (DropTable table) = DropTable table
+  stmt_with (AlterTable table column) = AlterTable table (column_with column)
   stmt_with (InsertInto table columns rows) = InsertInto table columns (map (map (cell_with build.number)) rows)
   stmt_with (DeleteFrom table cond) = DeleteFrom table (option_map (cond_with build) cond)
   stmt_with (UpdateTable table sets cond) = UpdateTable table (map set_with sets) (option_map (cond_with build) cond)

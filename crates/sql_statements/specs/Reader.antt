@@ -1,6 +1,6 @@
 -- What the functions that read statements compute, on plain lists of tokens: a definition for each. The
 -- public clauses don't speak of these.
-use Rattle.std.specs.Prelude.{ℕ, zero, suc, List, [], ◌∷◌, ◌++◌, length, Bool, true, false, bytes_eq, codes, if◌then◌else◌, Option, Some, None, pos}
+use Rattle.std.specs.Prelude.{ℕ, zero, suc, List, [], ◌∷◌, ◌++◌, length, Bool, true, false, if◌then◌else◌, Option, Some, None, pos}
 use Rattle.cell_core.specs.declared.cell.Cell.{Cell}
 use Rattle.cell_core.specs.declared.cell.Cell.TheVariants as cell
 use Rattle.cell_core.specs.declared.cell.Kind.{Kind}
@@ -17,13 +17,13 @@ use Rattle.sql_reader.specs.Reader as expressions
 use Rattle.sql_statements.specs.declared.from.Joint.{Joint}
 use Rattle.sql_statements.specs.declared.from.Joint.TheVariants as joint
 use Rattle.sql_tree.specs.Tree.{ExprTree, CondTree, ItemTree, QueryTree, StmtTree}
-use Rattle.sql_tree.specs.Tree.StmtTree.{CreateTable, DropTable, InsertInto, DeleteFrom, UpdateTable, Select, ExplainSelect}
+use Rattle.sql_tree.specs.Tree.StmtTree.{CreateTable, DropTable, AlterTable, InsertInto, DeleteFrom, UpdateTable, Select, ExplainSelect}
 use Rattle.sql_tree.specs.declared.token.Keyword.{Keyword}
 use Rattle.sql_tree.specs.declared.token.Keyword.TheVariants as word
 use Rattle.sql_tree.specs.declared.token.Symbol.{Symbol}
 use Rattle.sql_tree.specs.declared.token.Symbol.TheVariants as symbol
 use Rattle.sql_tree.specs.declared.token.Token.{Token}
-use Rattle.sql_tree.specs.declared.token.Token.TheVariants.{Text, Digits, Key, Unsupported}
+use Rattle.sql_tree.specs.declared.token.Token.TheVariants.{Text, Digits, Key}
 use Rattle.sql_tree.specs.declared.token.Token.TheVariants as token
 use Rattle.sql_tree.specs.declared.tree.ColRef.{ColRef}
 use Rattle.sql_tree.specs.declared.tree.FromItem.{FromItem}
@@ -69,18 +69,48 @@ listed_by begin part tokens = if is_key begin (first_token tokens) then behind_k
 abbrev pub flag : Keyword → Parser Bool
 flag word tokens = if is_key word (first_token tokens) then Some (true, after_first tokens) else Some (false, tokens)
 
--- ## Column definitions
+-- ## Literals
 
--- NULL
-unfoldable pub is_null : Option Token → Bool
-is_null (Some (Unsupported word)) = bytes_eq word (codes "null")
-is_null other = false
+-- what follows DATE
+unfoldable pub day_literal : Parser Cell
+day_literal tokens = then_read (text_in (first_token tokens)) (λ text. then_read (day_named text) (λ day. Some (cell.Day day, after_first tokens)))
+
+module _ (build : Builder) where
+  -- the digits behind a `-`
+  unfoldable pub negative_literal : Parser Cell
+  negative_literal tokens = then_read (digits_in (first_token tokens)) (λ digits. Some (build.number (negative_of digits), after_first tokens))
+
+  -- the literal that begins with the token
+  abbrev pub literal_at : Option Token → Parser Cell
+  literal_at (Some (Digits digits)) rest = Some (build.number (pos (number_of digits)), rest)
+  literal_at (Some (Text text)) rest = Some (cell.Text text, rest)
+  literal_at (Some (Key word.Null)) rest = Some (cell.Nil, rest)
+  literal_at (Some (Key word.Date)) rest = day_literal rest
+  literal_at (Some (token.Symbol symbol.Minus)) rest = negative_literal rest
+  literal_at other rest = None
+
+  unfoldable pub literal : Parser Cell
+  literal tokens = literal_at (first_token tokens) (after_first tokens)
+
+-- ## Column definitions
 
 -- [NOT NULL]
 unfoldable pub not_null : Parser Bool
 not_null tokens =
-    if is_key word.Not (first_token tokens) then (if is_null (first_token (after_first tokens)) then Some (true, after_first (after_first tokens)) else None)
+    if is_key word.Not (first_token tokens) then behind_key word.Null (λ rest. Some (true, rest)) (after_first tokens)
     else Some (false, tokens)
+
+-- what follows a default: [NOT NULL], where that doesn't stand before it
+abbrev pub default_end : Bool → Cell → Parser (Bool × Cell)
+default_end true default tokens = Some ((true, default), tokens)
+default_end false default tokens = then_read (not_null tokens) (λ required. Some ((required.0, default), required.1))
+
+-- [NOT NULL] [DEFAULT literal] | DEFAULT literal NOT NULL: whether Nil is refused, and the default
+unfoldable pub column_end : Builder → Parser (Bool × Cell)
+column_end build tokens =
+    then_read (not_null tokens) (λ required.
+    if is_key word.Default (first_token required.1) then then_read (literal build (after_first required.1)) (λ default. default_end required.0 default.0 default.1)
+    else Some ((required.0, cell.Nil), required.1))
 
 module _ (long : ℕ → ℕ) where
   -- the length behind VARCHAR
@@ -97,51 +127,43 @@ module _ (long : ℕ → ℕ) where
   type_at (Some (Key word.Varchar)) rest = varchar rest
   type_at other rest = None
 
-  -- coldef = name type [NOT NULL]
-  unfoldable pub coldef : Parser Column
-  coldef tokens =
-      then_read (name tokens) (λ name.
-      then_read (type_at (first_token name.1) (after_first name.1)) (λ type.
-      then_read (not_null type.1) (λ required.
-      Some (record { name = name.0; kind = type.0.0; width = type.0.1; not_null = required.0 }, required.1))))
+  module _ (build : Builder) where
+    -- coldef = name type, and what follows the type
+    unfoldable pub coldef : Parser Column
+    coldef tokens =
+        then_read (name tokens) (λ name.
+        then_read (type_at (first_token name.1) (after_first name.1)) (λ type.
+        then_read (column_end build type.1) (λ ends.
+        Some (record { name = name.0; kind = type.0.0; width = type.0.1; not_null = ends.0.0; default = ends.0.1 }, ends.1))))
 
-  -- what follows CREATE
-  unfoldable pub create : Parser StmtTree
-  create = behind_key word.Table (λ tokens. then_read (name tokens) (λ table. then_read (enclosed coldef table.1) (λ columns. Some (CreateTable table.0 columns.0, columns.1))))
+    -- what follows CREATE
+    unfoldable pub create : Parser StmtTree
+    create = behind_key word.Table (λ tokens. then_read (name tokens) (λ table. then_read (enclosed coldef table.1) (λ columns. Some (CreateTable table.0 columns.0, columns.1))))
+
+    -- what follows ALTER
+    unfoldable pub alter : Parser StmtTree
+    alter =
+        behind_key word.Table (λ tokens.
+        then_read (name tokens) (λ table.
+        behind_key word.Add (λ tokens.
+        then_read (flag word.Column tokens) (λ written.
+        then_read (coldef written.1) (λ column.
+        Some (AlterTable table.0 column.0, column.1)))) table.1))
 
 -- what follows DROP
 unfoldable pub drop_table : Parser StmtTree
 drop_table = behind_key word.Table (λ tokens. then_read (name tokens) (λ table. Some (DropTable table.0, table.1)))
 
--- ## Literals and rows
-
--- what follows DATE
-unfoldable pub day_literal : Parser Cell
-day_literal tokens = then_read (text_in (first_token tokens)) (λ text. then_read (day_named text) (λ day. Some (cell.Day day, after_first tokens)))
+-- ## Rows
 
 -- ["(" name {"," name} ")"]
 unfoldable pub names : Parser (List (List ℕ))
 names tokens = if is_symbol symbol.Open (first_token tokens) then enclosed name tokens else Some ([], tokens)
 
 module _ (build : Builder) where
-  -- the digits behind a `-`
-  unfoldable pub negative_literal : Parser Cell
-  negative_literal tokens = then_read (digits_in (first_token tokens)) (λ digits. Some (build.number (negative_of digits), after_first tokens))
-
-  -- the literal that begins with the token
-  abbrev pub literal_at : Option Token → Parser Cell
-  literal_at (Some (Digits digits)) rest = Some (build.number (pos (number_of digits)), rest)
-  literal_at (Some (Text text)) rest = Some (cell.Text text, rest)
-  literal_at (Some (Key word.Date)) rest = day_literal rest
-  literal_at (Some (token.Symbol symbol.Minus)) rest = negative_literal rest
-  literal_at other rest = None
-
-  unfoldable pub literal : Parser Cell
-  literal tokens = literal_at (first_token tokens) (after_first tokens)
-
   -- row = "(" literal {"," literal} ")"
   unfoldable pub row : Parser (List Cell)
-  row = enclosed literal
+  row = enclosed (literal build)
 
   -- what follows INSERT
   unfoldable pub insert : Parser StmtTree
@@ -305,7 +327,8 @@ module _ (build : Builder) where
     module _ (long : ℕ → ℕ) where
       -- the statement that begins with the token
       abbrev pub stmt_at : Option Token → Parser StmtTree
-      stmt_at (Some (Key word.Create)) rest = create long rest
+      stmt_at (Some (Key word.Create)) rest = create long build rest
+      stmt_at (Some (Key word.Alter)) rest = alter long build rest
       stmt_at (Some (Key word.Drop)) rest = drop_table rest
       stmt_at (Some (Key word.Insert)) rest = insert build rest
       stmt_at (Some (Key word.Delete)) rest = delete build rest

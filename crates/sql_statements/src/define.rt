@@ -1,14 +1,16 @@
-ghost use Rattle.std.specs.Prelude.{◌≡◌, ℕ, Some, None, option_copied, IfOk, IsErrOf};
+ghost use Rattle.std.specs.Prelude.{◌≡◌, ℕ, Some, None, IfOk, IsErrOf};
 ghost use Rattle.sql_grammar.specs.Grammar.{number_of};
 ghost use Rattle.sql_grammar.specs.Reads.{tokens_in};
 ghost use Rattle.sql_grammar.specs.Statements.{length_of};
 ghost use Rattle.sql_tree.specs.Tree.{stmt_tree};
+ghost use Rattle.sql_reader.specs.Bounded.{bounded};
 ghost use Rattle.sql_reader.specs.Chain.{first_token, after_first};
 ghost use Rattle.sql_statements.specs.Derived.{length_32};
 ghost use Rattle.sql_statements.specs.Reader as reader;
 
-use crate::part::{Part, enclosed, name};
-use cell_core::{Column, Kind, Word};
+use crate::part::{Part, enclosed, name, takes};
+use crate::values::literal;
+use cell_core::{Cell, Column, Kind, Word};
 use sql_reader::{Cursor, ReadError, digits, is_key, magnitude};
 use sql_tree::{Keyword, Stmt, Symbol, Token};
 use std::alloc::Global;
@@ -19,10 +21,10 @@ const PAST_WIDTHS: u32 = 65536;
 /// What follows CREATE: TABLE, a name and column definitions.
 #[tactic(auto, unfolding(crate::specs::Reader::create))]
 pub(crate) fn create(alloc: Global, tokens: &mut Cursor<'_>) -> Result<Stmt, ReadError>
-    ensures found { IfOk result (λ statement. reader.create length_32
+    ensures found { IfOk result (λ statement. reader.create length_32 bounded
         (tokens_in tokens.old.rest.now) ≡ Some (stmt_tree statement, tokens_in tokens.new.rest.now)) }
     ensures none { IsErrOf result ReadError.Syntax →
-        reader.create length_32 (tokens_in tokens.old.rest.now) ≡ None }
+        reader.create length_32 bounded (tokens_in tokens.old.rest.now) ≡ None }
 {
     tokens.key(Keyword::Table)?;
     let table = name(tokens)?;
@@ -43,22 +45,39 @@ pub(crate) fn drop_table(tokens: &mut Cursor<'_>) -> Result<Stmt, ReadError>
     Ok(Stmt::Drop { table })
 }
 
-/// A column definition: a name, a type and NOT NULL or nothing.
+/// What follows ALTER: TABLE, a name, ADD, perhaps COLUMN, and a column definition.
+#[tactic(auto, unfolding(crate::specs::Reader::alter))]
+pub(crate) fn alter(tokens: &mut Cursor<'_>) -> Result<Stmt, ReadError>
+    ensures found { IfOk result (λ statement. reader.alter length_32 bounded
+        (tokens_in tokens.old.rest.now) ≡ Some (stmt_tree statement, tokens_in tokens.new.rest.now)) }
+    ensures none { IsErrOf result ReadError.Syntax →
+        reader.alter length_32 bounded (tokens_in tokens.old.rest.now) ≡ None }
+{
+    tokens.key(Keyword::Table)?;
+    let table = name(tokens)?;
+    tokens.key(Keyword::Add)?;
+    let _written = takes(tokens, Keyword::Column);
+    let column = coldef(tokens)?;
+    Ok(Stmt::Alter { table, column })
+}
+
+/// A column definition: a name, a type, and what follows the type.
 #[tactic(auto, unfolding(crate::specs::Reader::coldef))]
 fn coldef(tokens: &mut Cursor<'_>) -> Result<Column, ReadError>
-    ensures found { IfOk result (λ column. reader.coldef length_32 (tokens_in tokens.old.rest.now)
+    ensures found { IfOk result (λ column. reader.coldef length_32 bounded (tokens_in tokens.old.rest.now)
         ≡ Some (column, tokens_in tokens.new.rest.now)) }
     ensures none { IsErrOf result ReadError.Syntax →
-        reader.coldef length_32 (tokens_in tokens.old.rest.now) ≡ None }
+        reader.coldef length_32 bounded (tokens_in tokens.old.rest.now) ≡ None }
 {
     let name = name(tokens)?;
     let (kind, width) = column_type(tokens)?;
-    let not_null = not_null(tokens)?;
+    let (not_null, default) = column_end(tokens)?;
     Ok(Column {
         name,
         kind,
         width,
         not_null,
+        default,
     })
 }
 
@@ -121,6 +140,28 @@ fn narrow(number: u64) -> u32
     }
 }
 
+/// Whether NOT NULL stands behind a type, and the default, which is Nil where none is written. NOT NULL
+/// may stand before DEFAULT and its literal or behind these.
+#[tactic(auto, unfolding(crate::specs::Reader::column_end))]
+fn column_end(tokens: &mut Cursor<'_>) -> Result<(bool, Cell), ReadError>
+    ensures found { IfOk result (λ ends. reader.column_end bounded (tokens_in tokens.old.rest.now)
+        ≡ Some (ends, tokens_in tokens.new.rest.now)) }
+    ensures none { IsErrOf result ReadError.Syntax →
+        reader.column_end bounded (tokens_in tokens.old.rest.now) ≡ None }
+{
+    let required = not_null(tokens)?;
+    if !is_key(tokens.peek(), Keyword::Default) {
+        return Ok((required, Cell::Nil));
+    }
+    tokens.advance();
+    let default = literal(tokens)?;
+    if required {
+        return Ok((true, default));
+    }
+    let required = not_null(tokens)?;
+    Ok((required, default))
+}
+
 /// Whether NOT NULL stands here, which may be left out.
 #[tactic(auto, unfolding(crate::specs::Reader::not_null))]
 fn not_null(tokens: &mut Cursor<'_>) -> Result<bool, ReadError>
@@ -133,25 +174,12 @@ fn not_null(tokens: &mut Cursor<'_>) -> Result<bool, ReadError>
         return Ok(false);
     }
     tokens.advance();
-    if !is_null(tokens.next()) {
-        return Err(ReadError::Syntax);
-    }
+    tokens.key(Keyword::Null)?;
     Ok(true)
 }
 
-/// Whether the token is NULL.
-#[tactic(auto, unfolding(crate::specs::Reader::is_null))]
-fn is_null(token: Option<&Token>) -> bool
-    ensures { result ≡ reader.is_null (option_copied token.entry) }
-{
-    match token {
-        Some(Token::Unsupported(word)) => word.text() == "null",
-        _ => false,
-    }
-}
-
 impl Part for Column {
-    ghost reader = { reader.coldef length_32 };
+    ghost reader = { reader.coldef length_32 bounded };
 
     fn read(alloc: Global, tokens: &mut Cursor<'_>) -> Result<Column, ReadError> {
         coldef(tokens)

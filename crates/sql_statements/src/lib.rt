@@ -8,8 +8,8 @@
 //!
 //! Expressions and conditions are kept as `sql_reader` keeps them: those of more than 64 and of more than
 //! 128 nodes are cut off a little past these limits, so a text of any length makes small trees. The
-//! conditions of ON and WHERE are joined under the same limit. Numbers that don't fit their type stand as
-//! Nil or as the most of the type.
+//! conditions of ON and WHERE are joined under the same limit. Numbers that don't fit their type stand as a
+//! Huge or as the most of the type.
 #![tactic(auto)]
 
 mod change;
@@ -19,8 +19,6 @@ mod laws;
 mod part;
 mod query;
 mod stmt;
-#[cfg(test)]
-mod tests;
 mod values;
 
 pub use laws::one_stmt;

@@ -82,6 +82,19 @@ pub(crate) fn listed_by<P: Part>(
     listed(alloc, tokens)
 }
 
+/// Takes the word where it stands next, and tells whether it did.
+pub(crate) fn takes(tokens: &mut Cursor<'_>, word: Keyword) -> bool
+    ensures { reader.flag word (tokens_in tokens.old.rest.now)
+        ≡ Some (result, tokens_in tokens.new.rest.now) }
+{
+    if is_key(tokens.peek(), word) {
+        tokens.advance();
+        true
+    } else {
+        false
+    }
+}
+
 /// A name, bare or in quotes.
 #[tactic(auto, unfolding(crate::specs::Reader::name))]
 pub(crate) fn name(tokens: &mut Cursor<'_>) -> Result<Word, ReadError>

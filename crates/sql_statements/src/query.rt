@@ -10,7 +10,7 @@ ghost use Rattle.sql_statements.specs.Reader as reader;
 
 use crate::change::where_cond;
 use crate::from::{alias, also, sources};
-use crate::part::{Part, column, listed_by};
+use crate::part::{Part, column, listed_by, takes};
 use cell_core::{Sequence, Word};
 use sql_reader::{
     Cursor, ReadError, comma, digits, is_key, is_symbol, magnitude, value, whole_cond,
@@ -93,19 +93,6 @@ fn from(
         keys,
         limit,
     })
-}
-
-/// Takes the word where it stands next, and tells whether it did.
-fn takes(tokens: &mut Cursor<'_>, word: Keyword) -> bool
-    ensures { reader.flag word (tokens_in tokens.old.rest.now)
-        ≡ Some (result, tokens_in tokens.new.rest.now) }
-{
-    if is_key(tokens.peek(), word) {
-        tokens.advance();
-        true
-    } else {
-        false
-    }
 }
 
 /// The items, none for `*`.

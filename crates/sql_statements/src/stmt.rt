@@ -1,4 +1,4 @@
-ghost use Rattle.std.specs.Prelude.{◌≡◌, Some, None, IfOk, IsErrOf};
+ghost use Rattle.std.specs.Prelude.{◌≡◌, ◌<◌, [], length, Some, None, IfOk, OnOk, IsErrOf};
 ghost use Rattle.sql_grammar.specs.Reads.{tokens_in};
 ghost use Rattle.sql_grammar.specs.Statements.{Derives};
 ghost use Rattle.sql_tree.specs.Tree.{StmtTree, stmt_tree};
@@ -7,7 +7,7 @@ ghost use Rattle.sql_statements.specs.Derived.{IsReadStmt, count_64, length_32};
 ghost use Rattle.sql_statements.specs.Reader as reader;
 
 use crate::change::{delete, update};
-use crate::define::{create, drop_table};
+use crate::define::{alter, create, drop_table};
 use crate::query::query;
 use crate::values::insert;
 use sql_reader::{Cursor, ReadError};
@@ -16,10 +16,10 @@ use std::alloc::Global;
 
 /// The statement that the tokens are, all of them.
 ///
-/// A literal outside the signed 64-bit range stands as Nil, which no literal gives; a position of ORDER
+/// A number outside the signed 64-bit range stands as a Huge, which no literal gives; a position of ORDER
 /// BY, a LIMIT or a length that doesn't fit stands as the most of its type. An expression of more than 64
 /// nodes and a condition of more than 128 stand cut off a little past these limits, with a sign of each of
-/// these in what is left out: a column, a Nil, arithmetic over columns. The limits of all these are a step
+/// these in what is left out: a column, a Huge, arithmetic over columns. The limits of all these are a step
 /// of its own.
 pub fn read_stmt(alloc: Global, tokens: &[Placed]) -> Result<Stmt, ReadError>
     ensures statement { IfOk result (λ s. IsReadStmt (tokens_in tokens.now) (stmt_tree s)) }
@@ -28,8 +28,23 @@ pub fn read_stmt(alloc: Global, tokens: &[Placed]) -> Result<Stmt, ReadError>
 {
     let mut rest = Cursor::new(tokens);
     let read = stmt(alloc, &mut rest)?;
-    rest.end()?;
-    Ok(read)
+    alone(&rest, read)
+}
+
+/// The statement, where no token is left behind it.
+fn alone(rest: &Cursor<'_>, read: Stmt) -> Result<Stmt, ReadError>
+    ensures same { IfOk result (λ s. stmt_tree s ≡ stmt_tree read) }
+    ensures found { OnOk result (tokens_in rest.now.rest.now ≡ []) }
+    ensures none { IsErrOf result ReadError.Syntax → 0 < length (tokens_in rest.now.rest.now) }
+{
+    match rest.end() {
+        Ok(()) => Ok(read),
+        Err(e) => {
+            // By name, since what a `?` drops in place here is more than the checker takes.
+            drop(read);
+            Err(e)
+        }
+    }
 }
 
 /// A statement.
@@ -43,6 +58,7 @@ fn stmt(alloc: Global, tokens: &mut Cursor<'_>) -> Result<Stmt, ReadError>
     match tokens.next() {
         Some(Token::Key(Keyword::Create)) => create(alloc, tokens),
         Some(Token::Key(Keyword::Drop)) => drop_table(tokens),
+        Some(Token::Key(Keyword::Alter)) => alter(tokens),
         Some(Token::Key(Keyword::Insert)) => insert(alloc, tokens),
         Some(Token::Key(Keyword::Delete)) => delete(alloc, tokens),
         Some(Token::Key(Keyword::Update)) => update(alloc, tokens),

@@ -55,9 +55,9 @@ fn row(alloc: Global, tokens: &mut Cursor<'_>) -> Result<Sequence<Cell>, ReadErr
     enclosed(alloc, tokens)
 }
 
-/// A literal: digits, digits behind a `-`, a string, or DATE and a string that names a day.
+/// A literal: digits, digits behind a `-`, a string, NULL, or DATE and a string that names a day.
 #[tactic(auto, unfolding(crate::specs::Reader::literal))]
-fn literal(tokens: &mut Cursor<'_>) -> Result<Cell, ReadError>
+pub(crate) fn literal(tokens: &mut Cursor<'_>) -> Result<Cell, ReadError>
     ensures found { IfOk result (λ literal. reader.literal bounded
         (tokens_in tokens.old.rest.now) ≡ Some (literal, tokens_in tokens.new.rest.now)) }
     ensures none { IsErrOf result ReadError.Syntax →
@@ -66,6 +66,7 @@ fn literal(tokens: &mut Cursor<'_>) -> Result<Cell, ReadError>
     match tokens.next() {
         Some(Token::Digits(digits)) => Ok(plain_number(digits.text())),
         Some(Token::Text(text)) => Ok(Cell::Text(text.share()?)),
+        Some(Token::Key(Keyword::Null)) => Ok(Cell::Nil),
         Some(Token::Key(Keyword::Date)) => day_literal(tokens),
         Some(Token::Symbol(Symbol::Minus)) => negative_literal(tokens),
         _ => Err(ReadError::Syntax),

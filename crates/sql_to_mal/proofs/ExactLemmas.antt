@@ -1,4 +1,4 @@
--- The plan of a range means what its query answers, and whatever it reaches fits.
+-- The plan of a range means what its query answers, and fits the database.
 use Rattle.std.proofs.Common.{◌≡◌, ℕ, ℤ, List, [], ◌∷◌, map, filter, Bool, true, false, cond, Option, Some, refl, ap, sym, ◌∙◌, subst}
 use Rattle.std.specs.Prelude.{bytes_eq, slice_index_or, IsSome}
 use Rattle.std.proofs.lemmas.Slice.Eq.{bytes_eq-Decides}
@@ -12,13 +12,13 @@ use Rattle.cell_core.specs.Relations.{column_cells}
 use Rattle.cell_core.specs.Tables.{column_place}
 use Rattle.sql_semantics.specs.Answer.{answer}
 use Rattle.mal_meaning.specs.Meaning.{plan_rows}
-use Rattle.mal_meaning.specs.Runs.{Runs}
-use Rattle.sql_to_mal.specs.Translation.{range_plan, shared_plan, separate_plan}
+use Rattle.mal_check.specs.Runnable.{fits_column, FitsDb}
+use Rattle.sql_to_mal.specs.Translation.{bind_of, range_plan, shared_plan, separate_plan}
 use Rattle.sql_to_mal.proofs.Serves.{Serves}
 use Rattle.sql_to_mal.proofs.RangeLemmas.{joined_rows}
 use Rattle.sql_to_mal.proofs.AnswerLemmas.{range_query, lies, answer_is}
 use Rattle.sql_to_mal.proofs.PlanLemmas.{bound_is, shared_rows, separate_rows}
-use Rattle.sql_to_mal.proofs.FitLemmas.{numbered_fit, shared_runs, separate_runs}
+use Rattle.sql_to_mal.proofs.FitLemmas.{numbered_fit, column_fits, shared_fits, separate_fits}
 
 module _ (item name of : List ℕ) (low high : ℤ) (db : Db) (s : Serves item name of db) where
   abbrev kept : List Cell → Bool
@@ -59,11 +59,14 @@ module _ (item name of : List ℕ) (low high : ℤ) (db : Db) (s : Serves item n
     | false ↦ λ e. separate_exact
   ] refl
 
-  pub runs : Runs (range_plan item name of low high) db
-  runs = elim (bytes_eq item of) as (λ b. Runs (cond b (shared_plan name of low high) (separate_plan item name of low high)) db) [
-    | true ↦ shared_runs db low high (numbered (column_cells s.of_in.place s.table.rows)) (numbered_fit (column_cells s.of_in.place s.table.rows) s.of_in.cells) name of
-        (bound_is name of db s.table s.of_in.place s.named s.of_in.is)
-    | false ↦ separate_runs db low high (numbered (column_cells s.of_in.place s.table.rows)) (numbered_fit (column_cells s.of_in.place s.table.rows) s.of_in.cells) name item of
-        (numbered (column_cells s.item_in.place s.table.rows)) (numbered_fit (column_cells s.item_in.place s.table.rows) s.item_in.cells)
-        (bound_is name of db s.table s.of_in.place s.named s.of_in.is) (bound_is name item db s.table s.item_in.place s.named s.item_in.is)
+  of_fits : fits_column db (bind_of name of).args ≡ true
+  of_fits = column_fits name of db (numbered (column_cells s.of_in.place s.table.rows)) (bound_is name of db s.table s.of_in.place s.named s.of_in.is) (numbered_fit (column_cells s.of_in.place s.table.rows) s.of_in.cells)
+
+  item_fits : fits_column db (bind_of name item).args ≡ true
+  item_fits = column_fits name item db (numbered (column_cells s.item_in.place s.table.rows)) (bound_is name item db s.table s.item_in.place s.named s.item_in.is) (numbered_fit (column_cells s.item_in.place s.table.rows) s.item_in.cells)
+
+  pub fits : FitsDb (range_plan item name of low high) db
+  fits = elim (bytes_eq item of) as (λ b. FitsDb (cond b (shared_plan name of low high) (separate_plan item name of low high)) db) [
+    | true ↦ shared_fits name of low high db of_fits
+    | false ↦ separate_fits item name of low high db of_fits item_fits
   ]

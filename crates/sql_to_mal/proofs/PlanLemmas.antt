@@ -1,6 +1,6 @@
 -- What the plan of a range gives over a database.
 use Rattle.std.proofs.Common.{◌≡◌, ℕ, ℤ, List, [], ◌∷◌, ◌++◌, map, length, Bool, true, Option, Some, refl, ap, sym, ◌∙◌}
-use Rattle.std.specs.Prelude.{get_or}
+use Rattle.std.specs.Prelude.{get_or, unwrap_or}
 use Rattle.std.specs.List.{range_with_len}
 use Rattle.std.specs.Option.{option_map, option_and_then}
 use Rattle.std.proofs.lemmas.List.{length-map}
@@ -34,7 +34,7 @@ bound_is name column db table place named there =
 -- the value of a bind of it
 pub bind_is : (name column : List ℕ) (db : Db) (values : List (Option Value)) (cells : Pairs) → bound name column db ≡ Some cells → instr_value db values (bind_of name column) ≡ Some (Bat cells)
 unfolding instr_value
-bind_is name column db values cells e = ap (option_map Bat) e
+bind_is name column db values cells e = ap (λ found. Some (Bat (unwrap_or found []))) e
 
 -- one instruction after the others
 next : (db : Db) (values : List Value) (instr : Instr) (more : List Instr) (value : Value) → instr_value db (map Some values) instr ≡ Some value

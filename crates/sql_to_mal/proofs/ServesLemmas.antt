@@ -1,4 +1,4 @@
--- A database that holds kinds serves a query whose two columns are of numbers.
+-- A valid database serves a query whose two columns are of numbers.
 use Rattle.std.proofs.Common.{◌≡◌, ℕ, suc, ◌+◌, List, [], ◌∷◌, map, filter, true, false, cond, Option, Some, None, refl, ap, sym, ◌∙◌, append-nil, zero-add, arith}
 use Rattle.std.specs.Prelude.{bytes_eq, slice_get, slice_index_or}
 use Rattle.std.specs.List.{list_any, list_all, enumerate_from, cons_option}
@@ -18,9 +18,10 @@ use Rattle.cell_core.specs.Tables.{named_table, column_place}
 use Rattle.sql_semantics.specs.declared.source.Source.{Source}
 use Rattle.sql_semantics.specs.Sources.{only, source_named, schema_of}
 use Rattle.sql_semantics.specs.Check.{column_named, sources_named}
-use Rattle.sql_kinds.specs.HoldsKinds.{names_differ, column_names, fits_columns, holds_kinds, HoldsKinds}
+use Rattle.sql_semantics.specs.Valid.{names_differ, column_names, are_valid_columns, fits_columns, is_valid_table, IsValid}
 use Rattle.sql_kinds.proofs.NameLemmas.{same_name, other_name}
 use Rattle.sql_kinds.proofs.CellLemmas.{cell_fits}
+use Rattle.sql_kinds.proofs.RowLemmas.{columns_differ}
 use Rattle.sql_kinds.proofs.TableLemmas.{as_source, source_is, found_holds}
 use Rattle.sql_to_mal.specs.Translation.{holds_numbers}
 use Rattle.sql_to_mal.proofs.Serves.{HasNumbers, Serves}
@@ -115,17 +116,17 @@ number_column : (found : Option Column) → option_map_or (λ (column : Column).
 number_column None e = cc
 number_column (Some column) e = (column, refl, e)
 
-has_numbers : (name column : List ℕ) (table : Table) → holds_kinds table ≡ true → holds_numbers table.columns column ≡ true → HasNumbers name column table
+has_numbers : (name column : List ℕ) (table : Table) → is_valid_table table ≡ true → holds_numbers table.columns column ≡ true → HasNumbers name column table
 has_numbers name column table holds numbers =
     let found : (c : Column) × (column_named table.columns column ≡ Some c) × (same_kind c.kind kind.Int ≡ true) = number_column (column_named table.columns column) numbers in
     let there : (place : ℕ) × (column_place column table.columns ≡ Some place) × (slice_get table.columns place ≡ Some found.0) = place_found column table.columns found.0 found.1 in
-    let parts : (names_differ (column_names table.columns) ≡ true) × (list_all (fits_columns table.columns) table.rows ≡ true) = and_parts _ _ holds in
+    let parts : (are_valid_columns table.columns ≡ true) × (list_all (fits_columns table.columns) table.rows ≡ true) = and_parts _ _ holds in
     record {
       place = there.0;
       is = there.1;
       meant = ap only
           (append-nil (map in_first (filter (λ (at : ℕ × Column). bytes_eq column at.1.name) (enumerate_from 0 table.columns)))
-          ∙ meant_from column 0 table.columns there.0 parts.0 there.1 ∙ ap at_alone (zero-add there.0));
+          ∙ meant_from column 0 table.columns there.0 (columns_differ table.columns parts.0) there.1 ∙ ap at_alone (zero-add there.0));
       cells = cells_are table.columns there.0 found.0 there.2 found.2 table.rows parts.1;
     }
 
@@ -142,12 +143,12 @@ one_table (Some table) source e = (table, refl, same_source (as_source table) so
     same_source : (a b : Source) → Some a ≡ Some b → a ≡ b
     same_source a b h = cc
 
-pub serves : (item name of : List ℕ) (db : Db) (source : Source) → HoldsKinds db → source ∷ [] ≡ sources_named (name ∷ []) (schema_of db)
+pub serves : (item name of : List ℕ) (db : Db) (source : Source) → IsValid db → source ∷ [] ≡ sources_named (name ∷ []) (schema_of db)
     → holds_numbers source.columns item ≡ true → holds_numbers source.columns of ≡ true → Serves item name of db
 serves item name of db source holds is item_fits of_fits =
     let found : (table : Table) × (named_table name db ≡ Some table) × (as_source table ≡ source) =
     one_table (named_table name db) source (sym (source_is name db.tables) ∙ one_source (source_named name (schema_of db)) source is) in
-    let kept : holds_kinds found.0 ≡ true = found_holds name db.tables found.0 holds.tables found.1 in
+    let kept : is_valid_table found.0 ≡ true = found_holds name db.tables found.0 holds.tables found.1 in
     record {
       table = found.0;
       named = found.1;

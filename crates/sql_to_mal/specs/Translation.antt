@@ -19,7 +19,7 @@ use Rattle.sql_tree.specs.declared.tree.FromItem.{FromItem}
 use Rattle.sql_semantics.specs.declared.source.Source.{Source}
 use Rattle.sql_semantics.specs.Sources.{schema_of}
 use Rattle.sql_semantics.specs.Check.{column_named, sources_named, tables_of}
-use Rattle.sql_kinds.specs.HoldsKinds.{HoldsKinds}
+use Rattle.sql_semantics.specs.Valid.{IsValid}
 use Rattle.mal_meaning.specs.declared.plan.Plan.{Plan}
 
 -- ## Plans
@@ -119,7 +119,7 @@ abbrev pub planned : QueryTree → List Source → Option Plan
 planned query sources =
     if is_plain query then planned_parts (only_item query.items) (only_table query.froms) (range_in query.cond) sources else None
 
--- the database holds kinds, and these are the tables of the query in it
+-- the database is valid, and these are the tables of the query in it
 pub record HoldsQuery (query : QueryTree) (sources : List Source) (db : Db) : Type 0 where
-  pub kinds : HoldsKinds db
+  pub kinds : IsValid db
   pub tables : sources ≡ sources_named (tables_of (Select query)) (schema_of db)

@@ -1,16 +1,19 @@
 //! From a query to its plan.
-ghost use Rattle.std.specs.Prelude.{◌≡◌, IfOk, IfSome, IsSome};
+ghost use Rattle.std.specs.Prelude.{◌≡◌, None, IfOk, IfSome, IsSome};
 ghost use Rattle.std.specs.Option.{option_copied, option_map};
 ghost use Rattle.cell_core.specs.declared.table.Db.{Db};
 ghost use Rattle.sql_tree.specs.Tree.{query_tree, cond_tree};
 ghost use Rattle.sql_semantics.specs.Answer.{answer};
 ghost use Rattle.mal_meaning.specs.Meaning.{plan_rows};
 ghost use Rattle.mal_meaning.specs.Runs.{Runs};
+ghost use Rattle.mal_check.specs.Checked.{plan_fault};
+ghost use Rattle.mal_check.specs.Runnable.{FitsDb};
 ghost use Rattle.sql_to_mal.specs.Translation.{range_plan, range_in, planned_over, planned, HoldsQuery};
 
 use crate::form::{bare_name, holds_numbers, is_plain, number_in, only_item, only_table};
 use crate::instructions::{answer, bind, join, range};
 use cell_core::{Memory, Word};
+use mal_check::checked_plans_run;
 use mal_meaning::Plan;
 use sql_semantics::Source;
 use sql_tree::{Cond, Query};
@@ -20,14 +23,17 @@ use std::alloc::Global;
 /// that is the query for the rows of one table where a column of numbers lies in a range; any other
 /// has none.
 ///
-/// Over every database that holds kinds and has these tables, the query has an answer, the plan's
-/// meaning is that answer, and the plan can be run.
+/// The plan has no fault. Over every valid database that has these tables, the plan fits its columns
+/// and can be run, the query has an answer, and the plan's meaning is that answer.
 pub fn compile_query(
     alloc: Global,
     query: &Query,
     sources: &[Source],
 ) -> Result<Option<Plan>, Memory>
     ensures plan { IfOk result (λ found. found ≡ planned (query_tree query.now) sources.now) }
+    ensures checked { IfOk result (λ found. IfSome found (λ plan. plan_fault plan ≡ None)) }
+    ensures fits { IfOk result (λ found. IfSome found (λ plan.
+        (db : Db) → HoldsQuery (query_tree query.now) sources.now db → FitsDb plan db)) }
     ensures meaning { IfOk result (λ found. IfSome found (λ plan.
         (db : Db) → HoldsQuery (query_tree query.now) sources.now db → plan_rows plan db ≡ answer (query_tree query.now) db)) }
     ensures answered { IfOk result (λ found. IfSome found (λ plan.
@@ -35,6 +41,7 @@ pub fn compile_query(
     ensures runs { IfOk result (λ found. IfSome found (λ plan.
         (db : Db) → HoldsQuery (query_tree query.now) sources.now db → Runs plan db)) }
 {
+    checked_plans_run();
     compile_form(alloc, query, sources)
 }
 

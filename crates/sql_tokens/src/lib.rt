@@ -14,8 +14,6 @@ mod pieces;
 mod quoted;
 mod reading;
 mod symbols;
-#[cfg(test)]
-mod tests;
 
 pub use laws::one_list;
 pub use pieces::{MOST_STATEMENTS, SplitError, split};

@@ -47,9 +47,9 @@ impl<T: Drop> From<AllocFailed<T>> for SplitError {
 /// comments. Strings, quoted names and comments may hold a `;`.
 pub fn split(alloc: Global, script: &str) -> Result<Vec<Word>, SplitError>
     ensures pieces { IfOk result (λ found. found.items ≡ told.pieces_of script.now) }
-    ensures at_most { IfOk result (λ found. length found.items ≤ MOST_STATEMENTS) }
+    ensures at_most { IfOk result (λ found. length found.items ≤ told.most_statements) }
     ensures too_many { IsErrOf result SplitError.TooMany →
-        MOST_STATEMENTS < length (told.pieces_of script.now) }
+        told.most_statements < length (told.pieces_of script.now) }
 {
     let mut pieces = Vec::new(alloc);
     let mut rest = script;
@@ -94,10 +94,10 @@ fn run_length(bytes: &[u8]) -> Option<usize>
 
 /// Adds a run of bytes to the pieces, unless it is only blanks and comments.
 fn add_run(alloc: Global, pieces: &mut Vec<Word>, run: &str) -> Result<(), SplitError>
-    requires { length pieces.old.items ≤ MOST_STATEMENTS }
+    requires { length pieces.old.items ≤ told.most_statements }
     ensures added { OnOk result (pieces.new.items ≡ pieces.old.items ++ reader.kept_runs (run.now ∷ [])) }
-    ensures at_most { OnOk result (length pieces.new.items ≤ MOST_STATEMENTS) }
-    ensures full { IsErrOf result SplitError.TooMany → length pieces.old.items ≡ MOST_STATEMENTS }
+    ensures at_most { OnOk result (length pieces.new.items ≤ told.most_statements) }
+    ensures full { IsErrOf result SplitError.TooMany → length pieces.old.items ≡ told.most_statements }
     ensures kept { IsErrOf result SplitError.TooMany → reader.kept_runs (run.now ∷ []) ≡ run.now ∷ [] }
 {
     if !says_something(run) {

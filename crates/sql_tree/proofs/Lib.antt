@@ -1,4 +1,5 @@
 pub mod ListedLemmas
 pub mod QuotedLemmas
 pub mod MapLemmas
+pub mod WordLists
 mod Examples

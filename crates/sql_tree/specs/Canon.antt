@@ -11,8 +11,8 @@ use Rattle.sql_tree.specs.Names.{name_text}
 use Rattle.sql_tree.specs.Bytes.{doubled}
 use Rattle.sql_tree.specs.Tree.{ExprTree, CondTree, ItemTree, QueryTree, StmtTree}
 use Rattle.sql_tree.specs.Tree.ExprTree.{Literal, ColumnOf, Operator, AggregateAll, Aggregate}
-use Rattle.sql_tree.specs.Tree.CondTree.{Compare, Within, Negation, Both, Either}
-use Rattle.sql_tree.specs.Tree.StmtTree.{CreateTable, DropTable, InsertInto, DeleteFrom, UpdateTable, Select, ExplainSelect}
+use Rattle.sql_tree.specs.Tree.CondTree.{Compare, Within, IsNull, Negation, Both, Either}
+use Rattle.sql_tree.specs.Tree.StmtTree.{CreateTable, DropTable, AlterTable, InsertInto, DeleteFrom, UpdateTable, Select, ExplainSelect}
 use Rattle.sql_tree.specs.declared.tree.AggOp.{AggOp}
 use Rattle.sql_tree.specs.declared.tree.AggOp.TheVariants as aggregate
 use Rattle.sql_tree.specs.declared.tree.ArithOp.{ArithOp}
@@ -50,11 +50,6 @@ type_text kind.Day width = codes "DATE"
 type_text kind.Bit width = codes "BIT"
 type_text kind.Oid width = codes "OID"
 
--- a column of CREATE
-abbrev pub column_text : Column → List ℕ
-column_text column =
-    name_text column.name ++ codes " " ++ type_text column.kind column.width ++ (if column.not_null then codes " NOT NULL" else [])
-
 -- a text between marks, each mark in it doubled
 abbrev pub quoted_text : ℕ → List ℕ → List ℕ
 quoted_text mark text = mark ∷ flat_map (doubled mark) text ++ mark ∷ []
@@ -67,7 +62,22 @@ is_dated day = int_le (negsuc 719161) day && int_le day (pos 2932896)
 abbrev pub literal_text : Cell → List ℕ
 literal_text (cell.Text text) = quoted_text 39 text
 literal_text (cell.Day day) = if is_dated day then codes "DATE '" ++ day_text day ++ codes "'" else cell_text (cell.Day day)
+literal_text cell.Nil = codes "NULL"
 literal_text other = cell_text other
+
+-- the default of a column, where it is another than Nil
+abbrev pub default_text : Cell → List ℕ
+default_text cell.Nil = []
+default_text other = codes " DEFAULT " ++ literal_text other
+
+-- a column of CREATE or ALTER
+abbrev pub column_text : Column → List ℕ
+column_text column =
+    name_text column.name
+    ++ codes " "
+    ++ type_text column.kind column.width
+    ++ (if column.not_null then codes " NOT NULL" else [])
+    ++ default_text column.default
 
 -- a row of VALUES
 abbrev pub row_text : List Cell → List ℕ
@@ -130,10 +140,14 @@ compared_text op left right = operand_text left ++ compare_text op ++ operand_te
 abbrev pub within_text : ExprTree → ExprTree → ExprTree → List ℕ
 within_text of low high = operand_text of ++ codes " BETWEEN " ++ operand_text low ++ codes " AND " ++ operand_text high
 
+abbrev pub null_test_text : ExprTree → List ℕ
+null_test_text of = operand_text of ++ codes " IS NULL"
+
 abbrev mutual
   pub cond_text : CondTree → List ℕ
   cond_text (Compare op left right) = compared_text op left right
   cond_text (Within of low high) = within_text of low high
+  cond_text (IsNull of) = null_test_text of
   cond_text (Negation cond) = codes "NOT " ++ part_text cond
   cond_text (Both left right) = part_text left ++ codes " AND " ++ part_text right
   cond_text (Either left right) = enclosed (cond_text left) ++ codes " OR " ++ enclosed (cond_text right)
@@ -142,6 +156,7 @@ abbrev mutual
   pub part_text : CondTree → List ℕ
   part_text (Compare op left right) = compared_text op left right
   part_text (Within of low high) = within_text of low high
+  part_text (IsNull of) = null_test_text of
   part_text (Negation cond) = enclosed (codes "NOT " ++ part_text cond)
   part_text (Both left right) = enclosed (part_text left ++ codes " AND " ++ part_text right)
   part_text (Either left right) = enclosed (enclosed (cond_text left) ++ codes " OR " ++ enclosed (cond_text right))
@@ -202,6 +217,7 @@ set_text set = name_text set.0 ++ codes " = " ++ expr_text set.1
 abbrev pub canonical : StmtTree → List ℕ
 canonical (CreateTable table columns) = codes "CREATE TABLE " ++ name_text table ++ codes " " ++ enclosed (listed (map column_text columns))
 canonical (DropTable table) = codes "DROP TABLE " ++ name_text table
+canonical (AlterTable table column) = codes "ALTER TABLE " ++ name_text table ++ codes " ADD COLUMN " ++ column_text column
 canonical (InsertInto table columns rows) = codes "INSERT INTO " ++ name_text table ++ column_list_text columns ++ codes " VALUES " ++ listed (map row_text rows)
 canonical (DeleteFrom table cond) = codes "DELETE FROM " ++ name_text table ++ cond_behind (codes " WHERE ") cond
 canonical (UpdateTable table sets cond) = codes "UPDATE " ++ name_text table ++ codes " SET " ++ listed (map set_text sets) ++ cond_behind (codes " WHERE ") cond

@@ -52,6 +52,10 @@ abbrev pub says_something : Inside → List ℕ → Bool
 says_something place [] = false
 says_something place (b ∷ bs) = is_told place b bs || says_something (next_inside place b bs) bs
 
+-- the most statements of a script
+abbrev pub most_statements : ℕ
+most_statements = 256
+
 -- the pieces of a script: its runs, but for those of blanks and comments alone
 abbrev pub pieces_of : List ℕ → List (List ℕ)
 pieces_of script = filter (says_something Outside) (runs_of Outside script)

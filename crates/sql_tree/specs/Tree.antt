@@ -31,6 +31,7 @@ pub data ExprTree : Type 0 where
 pub data CondTree : Type 0 where
   Compare : CmpOp → ExprTree → ExprTree → CondTree
   Within : ExprTree → ExprTree → ExprTree → CondTree
+  IsNull : ExprTree → CondTree
   Negation : CondTree → CondTree
   Both : CondTree → CondTree → CondTree
   Either : CondTree → CondTree → CondTree
@@ -55,6 +56,7 @@ pub record QueryTree : Type 0 where
 pub data StmtTree : Type 0 where
   CreateTable : List ℕ → List Column → StmtTree
   DropTable : List ℕ → StmtTree
+  AlterTable : List ℕ → Column → StmtTree
   InsertInto : List ℕ → List (List ℕ) → List (List Cell) → StmtTree
   DeleteFrom : List ℕ → Option CondTree → StmtTree
   UpdateTable : List ℕ → List (List ℕ × ExprTree) → Option CondTree → StmtTree
@@ -77,6 +79,7 @@ abbrev mutual
 abbrev pub cond_tree : Cond → CondTree
 cond_tree (cond.Cmp op left right) = Compare op (expr_tree left) (expr_tree right)
 cond_tree (cond.Between of low high) = Within (expr_tree of) (expr_tree low) (expr_tree high)
+cond_tree (cond.IsNull of) = IsNull (expr_tree of)
 cond_tree (cond.Not' p c) = Negation (cond_tree c)
 cond_tree (cond.And' p left q right) = Both (cond_tree left) (cond_tree right)
 cond_tree (cond.Or' p left q right) = Either (cond_tree left) (cond_tree right)
@@ -102,6 +105,7 @@ set_tree set = (set.0, expr_tree set.1)
 abbrev pub stmt_tree : Stmt → StmtTree
 stmt_tree (stmt.Create table columns) = CreateTable table columns
 stmt_tree (stmt.Drop table) = DropTable table
+stmt_tree (stmt.Alter table column) = AlterTable table column
 stmt_tree (stmt.Insert table columns rows) = InsertInto table columns rows
 stmt_tree (stmt.Delete table cond) = DeleteFrom table (option_map cond_tree cond)
 stmt_tree (stmt.Update table sets cond) = UpdateTable table (map set_tree sets) (option_map cond_tree cond)

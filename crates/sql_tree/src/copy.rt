@@ -19,6 +19,10 @@ impl Stmt {
             Stmt::Drop { table } => Stmt::Drop {
                 table: table.share()?,
             },
+            Stmt::Alter { table, column } => Stmt::Alter {
+                table: table.share()?,
+                column: column.share()?,
+            },
             Stmt::Insert {
                 table,
                 columns,
@@ -83,6 +87,7 @@ impl Cond {
                 low: low.copy(alloc)?,
                 high: high.copy(alloc)?,
             },
+            Cond::IsNull(of) => Cond::IsNull(of.copy(alloc)?),
             Cond::Not(cond) => Cond::Not(Box::new(alloc, cond.copy(alloc)?)?),
             Cond::And(left, right) => Cond::And(
                 Box::new(alloc, left.copy(alloc)?)?,

@@ -15,8 +15,6 @@ mod names;
 mod print;
 mod print_expr;
 mod print_parts;
-#[cfg(test)]
-mod tests;
 mod token;
 mod tree;
 mod words;

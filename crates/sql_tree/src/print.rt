@@ -7,7 +7,8 @@ ghost use Rattle.sql_tree.specs.Tree.{cond_tree, expr_tree, item_tree, query_tre
 use crate::names::write_name;
 use crate::print_expr::{write_cond, write_expr, write_literal, write_reference};
 use crate::print_parts::{
-    Listed, write_bytes, write_enclosed, write_listed, write_listed_behind, write_number,
+    Listed, write_bytes, write_column, write_enclosed, write_listed, write_listed_behind,
+    write_number,
 };
 use crate::tree::{Cond, Expr, FromItem, Item, Place, Query, SortKey, Stmt};
 use cell_core::{Cell, Column, Memory, Sequence, Word};
@@ -32,6 +33,7 @@ fn write_stmt(stmt: &Stmt, out: &mut Vec<u8>) -> Result<(), Memory>
             write_bytes(b"DROP TABLE ", out)?;
             write_name(table, out)
         }
+        Stmt::Alter { table, column } => write_alter(table, column, out),
         Stmt::Insert {
             table,
             columns,
@@ -59,6 +61,15 @@ fn write_create(table: &Word, columns: &[Column], out: &mut Vec<u8>) -> Result<(
     write_name(table, out)?;
     write_bytes(b" ", out)?;
     write_enclosed(columns, out)
+}
+
+fn write_alter(table: &Word, column: &Column, out: &mut Vec<u8>) -> Result<(), Memory>
+    ensures { OnOk result (out.new.items ≡ out.old.items ++ (codes "ALTER TABLE " ++ name_text table.now ++ codes " ADD COLUMN " ++ canon.column_text column.now)) }
+{
+    write_bytes(b"ALTER TABLE ", out)?;
+    write_name(table, out)?;
+    write_bytes(b" ADD COLUMN ", out)?;
+    write_column(column, out)
 }
 
 fn write_insert(

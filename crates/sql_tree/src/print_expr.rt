@@ -15,6 +15,7 @@ pub(crate) fn write_cond(cond: &Cond, out: &mut Vec<u8>) -> Result<(), Memory>
     match cond {
         Cond::Cmp { op, left, right } => write_compared(*op, left, right, out),
         Cond::Between { of, low, high } => write_within(of, low, high, out),
+        Cond::IsNull(of) => write_null_test(of, out),
         Cond::Not(cond) => {
             write_bytes(b"NOT ", out)?;
             write_part(cond, out)
@@ -42,6 +43,7 @@ fn write_part(cond: &Cond, out: &mut Vec<u8>) -> Result<(), Memory>
     match cond {
         Cond::Cmp { op, left, right } => write_compared(*op, left, right, out),
         Cond::Between { of, low, high } => write_within(of, low, high, out),
+        Cond::IsNull(of) => write_null_test(of, out),
         _ => {
             write_bytes(b"(", out)?;
             write_cond(cond, out)?;
@@ -66,6 +68,13 @@ fn write_within(of: &Expr, low: &Expr, high: &Expr, out: &mut Vec<u8>) -> Result
     write_operand(low, out)?;
     write_bytes(b" AND ", out)?;
     write_operand(high, out)
+}
+
+fn write_null_test(of: &Expr, out: &mut Vec<u8>) -> Result<(), Memory>
+    ensures { OnOk result (out.new.items ≡ out.old.items ++ canon.null_test_text (expr_tree of.now)) }
+{
+    write_operand(of, out)?;
+    write_bytes(b" IS NULL", out)
 }
 
 /// Appends an expression.
@@ -133,6 +142,7 @@ pub(crate) fn write_literal(literal: &Cell, out: &mut Vec<u8>) -> Result<(), Mem
             write_cell(literal, out)?;
             write_bytes(b"'", out)
         }
+        Cell::Nil => write_bytes(b"NULL", out),
         _ => write_cell(literal, out),
     }
 }

@@ -1,11 +1,11 @@
-ghost use Rattle.std.specs.Prelude.{◌≡◌, ℕ, List, ◌++◌, map, codes, decimal, OnOk};
+ghost use Rattle.std.specs.Prelude.{◌≡◌, ℕ, List, [], ◌++◌, map, codes, decimal, if◌then◌else◌, OnOk};
 ghost use Rattle.sql_tree.specs.Canon as canon;
 ghost use Rattle.sql_tree.specs.Names.{name_text};
 
 use crate::names::write_name;
-use crate::print_expr::write_reference;
+use crate::print_expr::{write_literal, write_reference};
 use crate::tree::ColRef;
-use cell_core::{Column, Kind, Memory, Word};
+use cell_core::{Cell, Column, Kind, Memory, Word};
 use itoa::Buffer;
 
 /// Appends bytes as they are.
@@ -92,13 +92,39 @@ impl Listed for Column {
     ghost printed = { canon.column_text };
 
     fn write(&self, out: &mut Vec<u8>) -> Result<(), Memory> {
-        write_name(&self.name, out)?;
-        write_bytes(b" ", out)?;
-        write_type(self.kind, self.width, out)?;
-        if self.not_null {
-            return write_bytes(b" NOT NULL", out);
+        write_column(self, out)
+    }
+}
+
+/// Appends a column of CREATE or ALTER.
+pub(crate) fn write_column(column: &Column, out: &mut Vec<u8>) -> Result<(), Memory>
+    ensures { OnOk result (out.new.items ≡ out.old.items ++ canon.column_text column.now) }
+{
+    write_name(&column.name, out)?;
+    write_bytes(b" ", out)?;
+    write_type(column.kind, column.width, out)?;
+    write_not_null(column.not_null, out)?;
+    write_default(&column.default, out)
+}
+
+fn write_not_null(not_null: bool, out: &mut Vec<u8>) -> Result<(), Memory>
+    ensures { OnOk result (out.new.items ≡ out.old.items ++ (if not_null then codes " NOT NULL" else [])) }
+{
+    if not_null {
+        return write_bytes(b" NOT NULL", out);
+    }
+    Ok(())
+}
+
+fn write_default(default: &Cell, out: &mut Vec<u8>) -> Result<(), Memory>
+    ensures { OnOk result (out.new.items ≡ out.old.items ++ canon.default_text default.now) }
+{
+    match default {
+        Cell::Nil => Ok(()),
+        _ => {
+            write_bytes(b" DEFAULT ", out)?;
+            write_literal(default, out)
         }
-        Ok(())
     }
 }
 

@@ -33,6 +33,10 @@ pub struct Placed {
 /// A reserved word that the profile reads.
 #[derive(Clone, Copy, Debug, PartialEq, Eq)]
 pub enum Keyword {
+    /// `ADD`
+    Add,
+    /// `ALTER`
+    Alter,
     /// `AND`
     And,
     /// `AS`
@@ -45,12 +49,16 @@ pub enum Keyword {
     Bigint,
     /// `BY`
     By,
+    /// `COLUMN`
+    Column,
     /// `COUNT`
     Count,
     /// `CREATE`
     Create,
     /// `DATE`
     Date,
+    /// `DEFAULT`
+    Default,
     /// `DELETE`
     Delete,
     /// `DESC`
@@ -79,6 +87,8 @@ pub enum Keyword {
     Integer,
     /// `INTO`
     Into,
+    /// `IS`
+    Is,
     /// `JOIN`
     Join,
     /// `LIMIT`
@@ -89,6 +99,8 @@ pub enum Keyword {
     Min,
     /// `NOT`
     Not,
+    /// `NULL`
+    Null,
     /// `ON`
     On,
     /// `OR`

@@ -15,6 +15,13 @@ pub enum Stmt {
         /// The table's name.
         table: Word,
     },
+    /// `ALTER TABLE .. ADD COLUMN`
+    Alter {
+        /// The table's name.
+        table: Word,
+        /// The column that is added at its end.
+        column: Column,
+    },
     /// `INSERT INTO`
     Insert {
         /// The table's name.
@@ -133,6 +140,8 @@ pub enum Cond {
         /// The high bound, which is included.
         high: Expr,
     },
+    /// `of IS NULL`
+    IsNull(Expr),
     /// `NOT`
     Not(Box<Cond>),
     /// `AND`

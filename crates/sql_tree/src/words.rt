@@ -1,20 +1,24 @@
-ghost use Rattle.std.specs.Prelude.{◌≡◌, bytes_eq};
+ghost use Rattle.std.specs.Prelude.{◌≡◌, map, bytes_eq};
 ghost use Rattle.std.specs.List.{list_any};
 ghost use Rattle.sql_tree.specs.Words.{first_keyword, keyword_of, is_unsupported_word};
 
 use crate::token::Keyword;
 
 /// The reserved words that the profile reads, in lower case.
-pub const KEYWORDS: [(&str, Keyword); 40] = [
+pub const KEYWORDS: [(&str, Keyword); 46] = [
+    ("add", Keyword::Add),
+    ("alter", Keyword::Alter),
     ("and", Keyword::And),
     ("as", Keyword::As),
     ("asc", Keyword::Asc),
     ("between", Keyword::Between),
     ("bigint", Keyword::Bigint),
     ("by", Keyword::By),
+    ("column", Keyword::Column),
     ("count", Keyword::Count),
     ("create", Keyword::Create),
     ("date", Keyword::Date),
+    ("default", Keyword::Default),
     ("delete", Keyword::Delete),
     ("desc", Keyword::Desc),
     ("distinct", Keyword::Distinct),
@@ -29,11 +33,13 @@ pub const KEYWORDS: [(&str, Keyword); 40] = [
     ("int", Keyword::Int),
     ("integer", Keyword::Integer),
     ("into", Keyword::Into),
+    ("is", Keyword::Is),
     ("join", Keyword::Join),
     ("limit", Keyword::Limit),
     ("max", Keyword::Max),
     ("min", Keyword::Min),
     ("not", Keyword::Not),
+    ("null", Keyword::Null),
     ("on", Keyword::On),
     ("or", Keyword::Or),
     ("order", Keyword::Order),
@@ -50,9 +56,8 @@ pub const KEYWORDS: [(&str, Keyword); 40] = [
 
 /// The reserved words that the profile leaves out, in lower case. Like those that it reads, they serve
 /// as names only in quotes.
-pub const UNSUPPORTED: [&str; 74] = [
+pub const UNSUPPORTED: [&str; 70] = [
     "all",
-    "alter",
     "analyze",
     "any",
     "avg",
@@ -73,7 +78,6 @@ pub const UNSUPPORTED: [&str; 74] = [
     "cross",
     "decimal",
     "declare",
-    "default",
     "double",
     "except",
     "exists",
@@ -89,12 +93,10 @@ pub const UNSUPPORTED: [&str; 74] = [
     "index",
     "intersect",
     "interval",
-    "is",
     "left",
     "like",
     "merge",
     "natural",
-    "null",
     "numeric",
     "offset",
     "outer",
@@ -128,7 +130,7 @@ pub const UNSUPPORTED: [&str; 74] = [
 ];
 
 /// The keyword that a word in lower case is.
-#[tactic(auto, unfolding(crate::specs::Words::keyword_of))]
+#[tactic(auto, using(crate::proofs::WordLists::keywords_are))]
 pub fn keyword(word: &str) -> Option<Keyword>
     ensures { result ≡ keyword_of word.now }
 {
@@ -136,7 +138,7 @@ pub fn keyword(word: &str) -> Option<Keyword>
 }
 
 fn find_keyword(keywords: &[(&str, Keyword)], word: &str) -> Option<Keyword>
-    ensures { result ≡ first_keyword (λ entry. entry.0.now) (λ entry. entry.1) word.now keywords.now }
+    ensures { result ≡ first_keyword word.now (map (λ entry. (entry.0.now, entry.1)) keywords.now) }
 {
     let mut rest = keywords;
     'keywords: while let [entry, more @ ..] = rest {
@@ -149,7 +151,6 @@ fn find_keyword(keywords: &[(&str, Keyword)], word: &str) -> Option<Keyword>
 }
 
 /// Whether a word in lower case is one that the profile leaves out.
-#[tactic(auto, unfolding(crate::specs::Words::is_unsupported_word))]
 pub fn is_unsupported(word: &str) -> bool
     ensures { result ≡ is_unsupported_word word.now }
 {

@@ -7,8 +7,8 @@ use Rattle.cell_core.specs.declared.cut.Span.{Span}
 use Rattle.cell_core.specs.Cuts.{cut_cmp, is_cut_below, is_cut_up_to, lies_in}
 
 -- a lies in b
-abbrev pub is_within : Span → Span → Bool
-is_within a b = is_cut_up_to b.low a.low && is_cut_up_to a.high b.high
+abbrev pub is_contained : Span → Span → Bool
+is_contained a b = is_cut_up_to b.low a.low && is_cut_up_to a.high b.high
 
 -- an id and a span
 abbrev pub Entry : Type 0

@@ -4,7 +4,7 @@ ghost use Rattle.std.specs.List.Sorted.{IsSortedBy, IsPermutation};
 ghost use Rattle.std.specs.Option.{option_copied, option_and_then, option_map_or};
 ghost use Rattle.cell_core.specs.declared.cut.Span.{Span};
 ghost use Rattle.cell_core.specs.Cuts.{covers, is_cut_below, is_cut_up_to};
-ghost use Rattle.subsume.specs.Cutting.{is_within, is_better, piece_of, least_cut, is_lower, Entry, IsCutting, IsPartition};
+ghost use Rattle.subsume.specs.Cutting.{is_contained, is_better, piece_of, least_cut, is_lower, Entry, IsCutting, IsPartition};
 
 use cell_core::{Cut, Memory, Span, compare_cuts};
 use std::alloc::Global;
@@ -12,7 +12,7 @@ use std::alloc::Global;
 /// Whether the first span lies in the second: its low isn't below the other's, and its high isn't
 /// above.
 pub fn within(a: &Span, b: &Span) -> bool
-    ensures { result ≡ is_within a.now b.now }
+    ensures { result ≡ is_contained a.now b.now }
 {
     is_up_to(&b.low, &a.low) && is_up_to(&a.high, &b.high)
 }

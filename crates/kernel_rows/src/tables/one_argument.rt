@@ -1,13 +1,13 @@
 //! Operators of one argument.
 use crate::tables::{
-    BITS, FALSE, INTS, Lit, NIL_INTS, NIL_OIDS, NO_BIT, NO_BITS, NO_INTS, NO_OIDS, OIDS, ONE_BIT,
-    ONE_OID, OneRow, THREE, TRUE, Val,
+    BITS, FALSE, INTS, Lit, NIL_INTS, NIL_OIDS, NO_BIT, NO_BITS, NO_INT, NO_INTS, NO_OID, NO_OIDS,
+    OIDS, ONE_BIT, ONE_OID, OneRow, THREE, TRUE, TWO, Val,
 };
 use Lit::{Bit, Huge, Int, Nil, Oid};
 use Val::{Bat, One};
 use cell_core::Op;
 
-pub(crate) static ONE_ARGUMENT: [OneRow; 38] = [
+pub(crate) static ONE_ARGUMENT: [OneRow; 49] = [
     (Op::Reverse, NO_INTS, Bat(&[])),
     (Op::Reverse, THREE, Bat(&[(Int(3), Oid(0))])),
     (Op::Reverse, NIL_INTS, Bat(&[(Nil, Oid(0)), (Int(3), Nil)])),
@@ -74,4 +74,39 @@ pub(crate) static ONE_ARGUMENT: [OneRow; 38] = [
     (Op::Not, TRUE, One(Bit(false))),
     (Op::Not, FALSE, One(Bit(true))),
     (Op::Not, NO_BIT, One(Nil)),
+    (Op::IsNil, NO_INTS, Bat(&[])),
+    (Op::IsNil, THREE, Bat(&[(Oid(0), Bit(false))])),
+    (
+        Op::IsNil,
+        NIL_INTS,
+        Bat(&[(Oid(0), Bit(true)), (Nil, Bit(false))]),
+    ),
+    (
+        Op::IsNil,
+        INTS,
+        Bat(&[
+            (Oid(0), Bit(false)),
+            (Oid(1), Bit(false)),
+            (Oid(2), Bit(false)),
+        ]),
+    ),
+    (
+        Op::IsNil,
+        NIL_OIDS,
+        Bat(&[(Oid(5), Bit(false)), (Nil, Bit(true))]),
+    ),
+    (
+        Op::IsNil,
+        BITS,
+        Bat(&[
+            (Oid(0), Bit(true)),
+            (Oid(1), Bit(false)),
+            (Oid(2), Bit(false)),
+        ]),
+    ),
+    (Op::IsNil, TWO, One(Bit(false))),
+    (Op::IsNil, NO_INT, One(Bit(true))),
+    (Op::IsNil, FALSE, One(Bit(false))),
+    (Op::IsNil, NO_BIT, One(Bit(true))),
+    (Op::IsNil, NO_OID, One(Bit(true))),
 ];

@@ -5,11 +5,10 @@ use Rattle.cell_core.specs.declared.cell.Cell.TheVariants.{Nil}
 use Rattle.cell_core.specs.Same.{same_cell, same_equivalence}
 use Rattle.cell_core.specs.Groups.{distinct}
 use Rattle.bat_group.specs.Numbers.{AreNumbered}
-use Rattle.cell_calc.specs.Aggregates.{aggregate_of, IsWithin}
-use Rattle.bat_group.specs.Members.{members_of, AreWithin}
+use Rattle.cell_calc.specs.Aggregates.{aggregate_of}
+use Rattle.bat_group.specs.Members.{members_of}
 use Rattle.bat_group.proofs.NumberLemmas.{distinct_next, read_is}
-use Rattle.bat_group.proofs.MemberLemmas.{within_more}
-use Rattle.bat_group.proofs.TotalLemmas.{before, firsts_now, begun, number_inside, finished, total_at, all_at, all_set, all_more}
+use Rattle.bat_group.proofs.TotalLemmas.{before, firsts_now, begun, number_inside, finished, total_at}
 use Rattle.bat_group.proofs.subtotals.group_totals.Goals as goal
 
 pub index_mut-requires : goal.index_mut-requires
@@ -24,28 +23,8 @@ index_mut-requires c =
     let n = c.in_ok-number.number in
     let number : n ≡ position_or_len (λ y. same_cell y key) (distinct same_cell (take i groups)) = c.in_ok-number.ensures.place _ c.loop-i.invariant.known in
     let value : c.begin_total.new.totals.items ≡ map (before A cells groups i key inside is) (firsts_now A cells groups i key inside is) =
-    begun A cells groups i key inside is n c.loop-i.totals.items c.begin_total.new.totals.items number c.loop-i.invariant.value c.in_ok-begin_total.ensures.value in
+    begun A cells groups i key inside is n c.loop-i.totals.items c.begin_total.new.totals.items number c.loop-i.invariant.value c.in_ok-begin_total.ensures in
     omega (arith, number_inside A cells groups i key inside is n number, ap length value, length-map (firsts_now A cells groups i key inside is) (before A cells groups i key inside is))
-
-pub add_beside-requires-clause-room : goal.add_beside-requires-clause-room
-add_beside-requires-clause-room c =
-    let A = aggregate_of c.args.aggregate in
-    let cells = c.args.cells.now in
-    let groups = c.args.groups.now in
-    let i = c.loop-i.i in
-    let key = c.in_ok-share.field-0 in
-    let inside : i < length groups = omega arith in
-    let is : key ≡ get_or groups i key = read_is groups i key c.get.result.now c.in_ok-share.ensures c.get.ensures in
-    let n = c.in_ok-number.number in
-    let number : n ≡ position_or_len (λ y. same_cell y key) (distinct same_cell (take i groups)) = c.in_ok-number.ensures.place _ c.loop-i.invariant.known in
-    let value : c.begin_total.new.totals.items ≡ map (before A cells groups i key inside is) (firsts_now A cells groups i key inside is) =
-    begun A cells groups i key inside is n c.loop-i.totals.items c.begin_total.new.totals.items number c.loop-i.invariant.value c.in_ok-begin_total.ensures.value in
-    let fits : n < length c.begin_total.new.totals.items =
-    omega (arith, number_inside A cells groups i key inside is n number, ap length value, length-map (firsts_now A cells groups i key inside is) (before A cells groups i key inside is)) in
-    let all : AreWithin c.args.aggregate i c.begin_total.new.totals.items = c.in_ok-begin_total.ensures.within i c.loop-i.invariant.within in
-    let here : IsWithin c.args.aggregate i c.index_mut.result.now =
-    subst (IsWithin c.args.aggregate i) (sym c.index_mut.ensures.value) (all_at (IsWithin c.args.aggregate i) c.begin_total.new.totals.items n c.index_mut.result.now all fits) in
-    within_more c.args.aggregate i (2 ^ 60) c.index_mut.result.now (omega arith) here
 
 pub loop-i-preserved : goal.loop-i-preserved
 loop-i-preserved c =
@@ -59,19 +38,11 @@ loop-i-preserved c =
     let n = c.in_ok-number.number in
     let number : n ≡ position_or_len (λ y. same_cell y key) (distinct same_cell (take i groups)) = c.in_ok-number.ensures.place _ c.loop-i.invariant.known in
     let value : c.begin_total.new.totals.items ≡ map (before A cells groups i key inside is) (firsts_now A cells groups i key inside is) =
-    begun A cells groups i key inside is n c.loop-i.totals.items c.begin_total.new.totals.items number c.loop-i.invariant.value c.in_ok-begin_total.ensures.value in
-    let fits : n < length c.begin_total.new.totals.items =
-    omega (arith, number_inside A cells groups i key inside is n number, ap length value, length-map (firsts_now A cells groups i key inside is) (before A cells groups i key inside is)) in
-    let all : AreWithin c.args.aggregate i c.begin_total.new.totals.items = c.in_ok-begin_total.ensures.within i c.loop-i.invariant.within in
-    let here : IsWithin c.args.aggregate i c.index_mut.result.now =
-    subst (IsWithin c.args.aggregate i) (sym c.index_mut.ensures.value) (all_at (IsWithin c.args.aggregate i) c.begin_total.new.totals.items n c.index_mut.result.now all fits) in
+    begun A cells groups i key inside is n c.loop-i.totals.items c.begin_total.new.totals.items number c.loop-i.invariant.value c.in_ok-begin_total.ensures in
     record {
       known = subst (AreNumbered same_cell _ _) (sym (distinct_next same_cell same_equivalence groups i key inside is)) (c.in_ok-number.ensures.numbered _ c.loop-i.invariant.known);
       few = omega (arith, c.in_ok-number.ensures.few);
       value = finished A cells groups i key inside is n c.begin_total.new.totals.items c.add_beside.new.total number value
-          (c.in_ok-add_beside.ensures.value (members_of cells (take i groups) (get_or (firsts_now A cells groups i key inside is) n Nil))
+          (c.in_ok-add_beside.ensures (members_of cells (take i groups) (get_or (firsts_now A cells groups i key inside is) n Nil))
           (total_at A cells groups i key inside is n c.begin_total.new.totals.items c.index_mut.result.now (number_inside A cells groups i key inside is n number) value c.index_mut.ensures.value));
-      within = all_set (IsWithin c.args.aggregate (i + 1)) c.begin_total.new.totals.items n c.add_beside.new.total
-          (all_more (IsWithin c.args.aggregate i) (IsWithin c.args.aggregate (i + 1)) (λ cell h. within_more c.args.aggregate i (i + 1) cell (omega arith) h) c.begin_total.new.totals.items all)
-          (c.in_ok-add_beside.ensures.within i here);
     }

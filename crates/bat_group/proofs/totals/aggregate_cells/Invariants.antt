@@ -1,10 +1,7 @@
 use Rattle.std.proofs.Common.{◌≡◌, take}
-use Rattle.cell_calc.specs.Aggregates.{aggregate_of, IsWithin}
+use Rattle.cell_calc.specs.Aggregates.{aggregate_of}
 use Rattle.bat_group.proofs.totals.aggregate_cells.Given as goal
 
 -- the aggregate of the cells so far
 abbrev pub invariant-loop-i : goal.invariant-loop-i
-invariant-loop-i l = record {
-  value : l.so_far ≡ aggregate_of l.aggregate (take l.i l.cells);
-  within : IsWithin l.aggregate l.i l.so_far;
-}
+invariant-loop-i l = l.so_far ≡ aggregate_of l.aggregate (take l.i l.cells)

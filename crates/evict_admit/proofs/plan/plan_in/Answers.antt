@@ -12,7 +12,7 @@ rounds-init c =
     let all : length (still [] rows) ≡ length rows = ap length (still_none rows) in record {
       lefts = λ p low. c.requires.fresh p low ∙ ap (λ out. left_of out rows (row_at rows p)) none;
       seated = c.requires.seated;
-      planned = λ kind now scored. subst (λ out. IsPlanned kind now rows c.args.wanted.bytes c.args.wanted.places out c.args.wanted.bytes c.args.wanted.places) none (begins kind now rows c.args.wanted.bytes c.args.wanted.places);
+      planned = λ score scored. subst (λ out. IsPlanned score rows c.args.wanted.bytes c.args.wanted.places out c.args.wanted.bytes c.args.wanted.places) none (begins score rows c.args.wanted.bytes c.args.wanted.places);
       left = subst (λ out. length (still out rows) + length out ≤ length rows) none (omega (arith, all));
       rounds = ap length c.requires.empty;
       room = c.requires.room;
@@ -20,12 +20,12 @@ rounds-init c =
 
 pub returns-then-is_enough : goal.returns-then-is_enough
 returns-then-is_enough c =
-    λ kind now scored. ends kind now c.args.known.now.rows.now c.args.wanted.bytes c.args.wanted.places c.rounds.out.items c.rounds.bytes c.rounds.places (c.rounds.invariant.planned kind now scored) true c.if-is_enough.ensures (λ e. cc)
+    λ score scored. ends score c.args.known.now.rows.now c.args.wanted.bytes c.args.wanted.places c.rounds.out.items c.rounds.bytes c.rounds.places (c.rounds.invariant.planned score scored) true c.if-is_enough.ensures (λ e. cc)
 
 pub returns-in-None : goal.returns-in-None
 returns-in-None c =
-    λ kind now scored. ends kind now c.args.known.now.rows.now c.args.wanted.bytes c.args.wanted.places c.rounds.out.items c.rounds.bytes c.rounds.places (c.rounds.invariant.planned kind now scored) false c.if-is_enough.ensures
-    (λ e. none_next c.args.known.now c.requires.known c.rounds.out.items c.rounds.lefts c.rounds.winners c.rounds.invariant.seated c.rounds.invariant.lefts c.in-None.is kind now)
+    λ score scored. ends score c.args.known.now.rows.now c.args.wanted.bytes c.args.wanted.places c.rounds.out.items c.rounds.bytes c.rounds.places (c.rounds.invariant.planned score scored) false c.if-is_enough.ensures
+    (λ e. none_next c.args.known.now c.requires.known c.rounds.out.items c.rounds.lefts c.rounds.winners c.rounds.invariant.seated c.rounds.invariant.lefts c.in-None.is score)
 
 pub rounds-preserved : goal.rounds-preserved
 rounds-preserved c =
@@ -42,12 +42,12 @@ rounds-preserved c =
     subst (λ (rs : List Row). length rs + 1 ≤ length (still out rows)) (sym (ap (λ o. still o rows) grown ∙ still_more out row.id rows)) (shorter (still out rows) row here) in record {
       lefts = λ p low. c.give_up.ensures.each p low ∙ ap (once_gone row (row_at rows p)) (c.rounds.invariant.lefts p low) ∙ once_is out rows row (row_at rows p) apart here ∙ ap (λ o. left_of o rows (row_at rows p)) (sym grown);
       seated = c.give_up.ensures.seated;
-      planned = λ kind now scored.
-          let next : next_of kind now (still out rows) ≡ Some row = chosen_next known c.requires.known out c.rounds.lefts c.rounds.winners c.rounds.invariant.seated c.rounds.invariant.lefts c.in-Some.place more c.in-Some.is kind now scored in
-          let wanted : IsPlanned kind now rows c.args.wanted.bytes c.args.wanted.places c.put.new.out.items (c.rounds.bytes - row.bytes) (c.rounds.places - 1) =
-          grows kind now rows c.args.wanted.bytes c.args.wanted.places out c.rounds.bytes c.rounds.places (c.rounds.invariant.planned kind now scored) row c.put.new.out.items (sym c.if-is_enough.ensures) next grown in
-          subst (λ b. IsPlanned kind now rows c.args.wanted.bytes c.args.wanted.places c.put.new.out.items b c.saturating_sub-places.result) (sym (c.saturating_sub-bytes.ensures ∙ ap (λ n. c.rounds.bytes - n) c.from.ensures))
-          (subst (λ p. IsPlanned kind now rows c.args.wanted.bytes c.args.wanted.places c.put.new.out.items (c.rounds.bytes - row.bytes) p) (sym c.saturating_sub-places.ensures) wanted);
+      planned = λ score scored.
+          let next : next_of score (still out rows) ≡ Some row = chosen_next known c.requires.known out c.rounds.lefts c.rounds.winners c.rounds.invariant.seated c.rounds.invariant.lefts c.in-Some.place more c.in-Some.is score scored in
+          let wanted : IsPlanned score rows c.args.wanted.bytes c.args.wanted.places c.put.new.out.items (c.rounds.bytes - row.bytes) (c.rounds.places - 1) =
+          grows score rows c.args.wanted.bytes c.args.wanted.places out c.rounds.bytes c.rounds.places (c.rounds.invariant.planned score scored) row c.put.new.out.items (sym c.if-is_enough.ensures) next grown in
+          subst (λ b. IsPlanned score rows c.args.wanted.bytes c.args.wanted.places c.put.new.out.items b c.saturating_sub-places.result) (sym (c.saturating_sub-bytes.ensures ∙ ap (λ n. c.rounds.bytes - n) c.from.ensures))
+          (subst (λ p. IsPlanned score rows c.args.wanted.bytes c.args.wanted.places c.put.new.out.items (c.rounds.bytes - row.bytes) p) (sym c.saturating_sub-places.ensures) wanted);
       left = omega (arith, fewer, long, c.rounds.invariant.left);
       rounds = long ∙ ap (λ n. n + 1) c.rounds.invariant.rounds;
       room = omega (arith, c.rounds.invariant.room, c.put.ensures.room);
@@ -57,5 +57,5 @@ pub returns : goal.returns
 returns c =
     let rows = c.args.known.now.rows.now in
     let none : length (still c.rounds.out.items rows) ≤ 0 = omega (arith, c.rounds.invariant.left, c.rounds.invariant.rounds) in
-    λ kind now scored. ends kind now rows c.args.wanted.bytes c.args.wanted.places c.rounds.out.items c.rounds.bytes c.rounds.places (c.rounds.invariant.planned kind now scored) c.is_enough-2.result c.is_enough-2.ensures
-    (λ e. none_left kind now (still c.rounds.out.items rows) none)
+    λ score scored. ends score rows c.args.wanted.bytes c.args.wanted.places c.rounds.out.items c.rounds.bytes c.rounds.places (c.rounds.invariant.planned score scored) c.is_enough-2.result c.is_enough-2.ensures
+    (λ e. none_left score (still c.rounds.out.items rows) none)

@@ -2,14 +2,14 @@ use Rattle.std.proofs.Common.{◌≡◌, ℕ, ◌+◌, List, ◌++◌, take, ref
 use Rattle.answer_text.specs.Layout.{session_line}
 use Rattle.sql_shell.specs.Scripts.{names_of, pieces_in}
 use Rattle.sql_shell.specs.Session.{ServesPieces}
-use Rattle.sql_shell.proofs.KindLemmas.{served_kinds}
+use Rattle.sql_shell.proofs.KindLemmas.{served_valid}
 use Rattle.sql_shell.proofs.ServedLemmas.{scripts_more}
 use Rattle.sql_shell.proofs.session.run_scripts.Goals as goal
 
-pub serve_pieces-requires-clause-kinds : goal.serve_pieces-requires-clause-kinds
-serve_pieces-requires-clause-kinds g c =
+pub serve_pieces-requires-clause-valid : goal.serve_pieces-requires-clause-valid
+serve_pieces-requires-clause-valid g c =
     let done = take c.scripts.i c.args.scripts.now in
-    served_kinds c.statements_keep_kinds.ensures.kept (names_of done) (pieces_in done) c.scripts.run c.statements_keep_kinds.ensures.empty c.scripts.invariant.0
+    served_valid c.statements_keep_valid.ensures.kept (names_of done) (pieces_in done) c.scripts.run c.statements_keep_valid.ensures.empty c.scripts.invariant.0
 
 pub scripts-preserved : goal.scripts-preserved
 scripts-preserved g c =

@@ -41,3 +41,10 @@ returns-in-Err-Refused-clause-shown g c =
     let refusal = c.in-Err-Refused.refusal in
     let found : refusal_over c.args.db.now (Select query) ≡ Some refusal = refusal_found (stmt_tree c.args.stmt.now) (Select query) c.in_ok-schema.schema c.args.db.now (Some refusal) c.in_ok-schema.ensures c.requires.select (c.check.ensures.refused refusal (cc (c.in-Err-Refused.is, c.in-Err-Refused.field-0-is))) in
     rw c.in-Err-Refused.field-0-is (ap (λ found. shown_query found (answer query c.args.db.now)) (sym found))
+
+pub returns-in-Err-Refused-clause-work : goal.returns-in-Err-Refused-clause-work
+returns-in-Err-Refused-clause-work g c =
+    let query = query_tree c.args.query.now in
+    let refusal = c.in-Err-Refused.refusal in
+    let found : refusal_over c.args.db.now (Select query) ≡ Some refusal = refusal_found (stmt_tree c.args.stmt.now) (Select query) c.in_ok-schema.schema c.args.db.now (Some refusal) c.in_ok-schema.ensures c.requires.select (c.check.ensures.refused refusal (cc (c.in-Err-Refused.is, c.in-Err-Refused.field-0-is))) in
+    ap (λ found. load_unless found (planned query (sources_over c.args.db.now (Select query))) c.args.db.now) (sym found)

@@ -3,25 +3,23 @@ use Rattle.std.proofs.lemmas.Result.{err_from_is_err_and}
 use Rattle.sql_grammar.specs.Reads.{tokens_in}
 use Rattle.sql_tree.specs.Tree.{stmt_tree}
 use Rattle.sql_reader.specs.Bounded.{bounded}
-use Rattle.sql_reader.proofs.ChainLemmas.{same_err, all_found, left_over, nothing_found}
-use Rattle.sql_statements.specs.Derived.{count_64, length_32}
+use Rattle.sql_reader.proofs.ChainLemmas.{same_err, left_over, nothing_found}
+use Rattle.sql_statements.specs.Derived.{IsReadStmt, count_64, length_32}
 use Rattle.sql_statements.specs.Reader as reader
-use Rattle.sql_statements.proofs.StmtLaws.{stmt_read, read_told}
+use Rattle.sql_statements.proofs.StmtLaws.{if_alone, stmt_read, read_told}
 use Rattle.sql_statements.proofs.stmt.read_stmt.Goals as goal
 
-pub returns-in_err-end-clause-none : goal.returns-in_err-end-clause-none
-returns-in_err-end-clause-none c =
-    let p = err_from_is_err_and c.from_residual-in_err-end.result c.from_residual-in_err-end.ensures.1 in
-    rw (p.1, p.2) (λ h s is. left_over _ (stmt_tree c.in_ok-read.read) (tokens_in c.stmt.new.tokens.rest.now)
+pub returns-clause-none : goal.returns-clause-none
+returns-clause-none c = λ h s is.
+    left_over _ (stmt_tree c.in_ok-read.read) (tokens_in c.stmt.new.tokens.rest.now)
     (ap (λ ts. reader.stmt bounded count_64 length_32 (tokens_in ts)) (sym c.new-rest.ensures) ∙ c.in_ok-read.ensures.found)
-    (c.in_err-end.ensures.none (same_err _ _ h)) _ (read_told (tokens_in c.args.tokens.now) s is))
+    (c.alone.ensures.none h) _ (read_told (tokens_in c.args.tokens.now) s is)
 
 pub returns-clause-statement : goal.returns-clause-statement
 returns-clause-statement c =
-    stmt_read (tokens_in c.args.tokens.now) (stmt_tree c.in_ok-read.read)
-    (all_found _ (stmt_tree c.in_ok-read.read) (tokens_in c.stmt.new.tokens.rest.now)
+    if_alone _ (stmt_tree c.in_ok-read.read) (tokens_in c.stmt.new.tokens.rest.now)
     (ap (λ ts. reader.stmt bounded count_64 length_32 (tokens_in ts)) (sym c.new-rest.ensures) ∙ c.in_ok-read.ensures.found)
-    c.in_ok-end.ensures.found)
+    (IsReadStmt (tokens_in c.args.tokens.now)) (stmt_read (tokens_in c.args.tokens.now)) c.alone.result c.alone.ensures.same c.alone.ensures.found
 
 pub returns-in_err-read-clause-none : goal.returns-in_err-read-clause-none
 returns-in_err-read-clause-none c =

@@ -1,7 +1,7 @@
 use Rattle.std.proofs.Common.{◌≡◌, ℕ, ◌+◌, List, [], ◌∷◌, ◌++◌, length, take, ap, sym, ◌∙◌, subst, arith}
 use Rattle.std.proofs.lemmas.List.{take_more, length-take-le}
 use Rattle.sql_shell.specs.Session.{ServesPieces}
-use Rattle.sql_shell.proofs.KindLemmas.{pieces_kinds}
+use Rattle.sql_shell.proofs.KindLemmas.{pieces_valid}
 use Rattle.sql_shell.proofs.ServedLemmas.{serves_none, serves_more}
 use Rattle.sql_shell.proofs.session.Run.serve_pieces.Goals as goal
 
@@ -9,7 +9,7 @@ pub pieces-init : goal.pieces-init
 pieces-init g c = (serves_none c.args.self.now c.args.s, omega arith)
 
 pub serve-requires : goal.serve-requires
-serve-requires g c = pieces_kinds c.statements_keep_kinds.ensures.kept c.args.self.now c.pieces.self c.args.s (take c.pieces.i c.args.pieces.now) c.requires.kinds c.pieces.invariant.0
+serve-requires g c = pieces_valid c.statements_keep_valid.ensures.kept c.args.self.now c.pieces.self c.args.s (take c.pieces.i c.args.pieces.now) c.requires.valid c.pieces.invariant.0
 
 pub pieces-preserved : goal.pieces-preserved
 pieces-preserved g c =

@@ -1,4 +1,0 @@
-use Rattle.bat_calc.proofs.tests.call.Given as goal
-
-abbrev pub ghosts-called : goal.ghosts-called
-ghosts-called a = record { name = a.blank.name; parts = a.blank.parts }

@@ -1,4 +1,0 @@
-use Rattle.bat_kernel.proofs.value.value.Given as goal
-
-abbrev pub ghosts-counted_value : goal.ghosts-counted_value
-ghosts-counted_value a = record { name = a.blank.name; parts = a.blank.parts }

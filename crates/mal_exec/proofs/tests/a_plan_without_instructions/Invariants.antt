@@ -1,4 +1,0 @@
-use Rattle.mal_exec.proofs.tests.a_plan_without_instructions.Given as goal
-
-abbrev pub ghosts-ran : goal.ghosts-ran
-ghosts-ran g a = record { name = a.blank.name; parts = a.blank.parts }

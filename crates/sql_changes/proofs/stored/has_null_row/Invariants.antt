@@ -1,0 +1,12 @@
+use Rattle.std.proofs.Common.{◌≡◌, length}
+use Rattle.std.specs.List.{list_any}
+use Rattle.sql_semantics.specs.Effect.{is_null_row}
+use Rattle.sql_changes.proofs.stored.has_null_row.Given as goal
+
+-- the rest decides as all do
+abbrev pub invariant-rows : goal.invariant-rows
+invariant-rows l =
+    list_any (is_null_row l.columns) l.rest ≡ list_any (is_null_row l.columns) l.rows
+
+abbrev pub decreases-rows : goal.decreases-rows
+decreases-rows l = length l.rest

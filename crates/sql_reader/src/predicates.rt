@@ -1,0 +1,319 @@
+ghost use Rattle.std.specs.Prelude.{◌≡◌, Some, None, true, false, option_copied, IfOk, IsErrOf};
+ghost use Rattle.sql_grammar.specs.Reads.{tokens_in};
+ghost use Rattle.sql_grammar.specs.Refused.{has_column_arithmetic};
+ghost use Rattle.sql_tree.specs.Tree.{cond_tree, expr_tree};
+ghost use Rattle.sql_tree.specs.Tree.CondTree.{Compare, Either};
+ghost use Rattle.sql_tree.specs.declared.tree.CmpOp.TheVariants as compare;
+ghost use Rattle.sql_reader.specs.Chain.{first_token, after_first};
+ghost use Rattle.sql_reader.specs.Bounded.{bounded, bounded_join, cond_has_unread};
+ghost use Rattle.sql_reader.specs.CondReader as reader;
+
+use crate::conditions::{either, negation};
+use crate::cursor::{Cursor, aggregate_word, comma, comparison, is_all, is_key};
+use crate::expressions::expr;
+use crate::reading::ReadError;
+use crate::signs::{with_arithmetic, with_unread_test};
+use cell_core::Memory;
+use sql_refusals::{has_unread, is_column_arithmetic, is_large_cond};
+use sql_tree::{AggOp, CmpOp, Cond, Expr, Keyword, Symbol, Token};
+use std::alloc::Global;
+
+/// An expression, with as many levels as there are tokens.
+#[tactic(auto, unfolding(crate::specs::CondReader::whole_expr))]
+pub fn whole_expr(alloc: Global, tokens: &mut Cursor<'_>) -> Result<Expr, ReadError>
+    ensures found { IfOk result (λ e. reader.whole_expr bounded
+        (tokens_in tokens.old.rest.now) ≡ Some (expr_tree e, tokens_in tokens.new.rest.now)) }
+    ensures none { IsErrOf result ReadError.Syntax →
+        reader.whole_expr bounded (tokens_in tokens.old.rest.now) ≡ None }
+{
+    let levels = tokens.len();
+    expr(alloc, tokens, levels)
+}
+
+/// An expression or an aggregate.
+#[tactic(auto, unfolding(crate::specs::CondReader::value))]
+pub fn value(alloc: Global, tokens: &mut Cursor<'_>) -> Result<Expr, ReadError>
+    ensures found { IfOk result (λ e. reader.value bounded
+        (tokens_in tokens.old.rest.now) ≡ Some (expr_tree e, tokens_in tokens.new.rest.now)) }
+    ensures none { IsErrOf result ReadError.Syntax →
+        reader.value bounded (tokens_in tokens.old.rest.now) ≡ None }
+{
+    let Some(f) = aggregate_word(tokens.peek()) else {
+        return whole_expr(alloc, tokens);
+    };
+    tokens.advance();
+    tokens.symbol(Symbol::Open)?;
+    argument(alloc, tokens, f)
+}
+
+/// The argument of an aggregate, up to its `)`.
+#[tactic(auto, unfolding(crate::specs::CondReader::argument))]
+fn argument(alloc: Global, tokens: &mut Cursor<'_>, f: AggOp) -> Result<Expr, ReadError>
+    ensures found { IfOk result (λ e. reader.argument bounded f
+        (tokens_in tokens.old.rest.now) ≡ Some (expr_tree e, tokens_in tokens.new.rest.now)) }
+    ensures none { IsErrOf result ReadError.Syntax →
+        reader.argument bounded f (tokens_in tokens.old.rest.now) ≡ None }
+{
+    if is_all(f, tokens.peek()) {
+        tokens.advance();
+        tokens.close()?;
+        return Ok(Expr::Agg { f, of: None });
+    }
+    let of = whole_expr(alloc, tokens)?;
+    tokens.close()?;
+    Ok(Expr::Agg {
+        f,
+        of: Some(Box::new(alloc, of)?),
+    })
+}
+
+/// An operand of a test: an expression, or an aggregate too.
+fn operand(alloc: Global, tokens: &mut Cursor<'_>, aggregates: bool) -> Result<Expr, ReadError>
+    ensures found { IfOk result (λ e. reader.operand bounded aggregates
+        (tokens_in tokens.old.rest.now) ≡ Some (expr_tree e, tokens_in tokens.new.rest.now)) }
+    ensures none { IsErrOf result ReadError.Syntax →
+        reader.operand bounded aggregates (tokens_in tokens.old.rest.now) ≡ None }
+{
+    if aggregates {
+        value(alloc, tokens)
+    } else {
+        whole_expr(alloc, tokens)
+    }
+}
+
+/// A test: a comparison, [NOT] BETWEEN, [NOT] IN or IS [NOT] NULL.
+#[tactic(auto, unfolding(crate::specs::CondReader::any_test))]
+pub(crate) fn test(
+    alloc: Global,
+    tokens: &mut Cursor<'_>,
+    aggregates: bool,
+) -> Result<Cond, ReadError>
+    ensures found { IfOk result (λ c. reader.any_test bounded (reader.operand bounded aggregates)
+        (tokens_in tokens.old.rest.now) ≡ Some (cond_tree c, tokens_in tokens.new.rest.now)) }
+    ensures none { IsErrOf result ReadError.Syntax →
+        reader.any_test bounded (reader.operand bounded aggregates) (tokens_in tokens.old.rest.now) ≡ None }
+{
+    let of = operand(alloc, tokens, aggregates)?;
+    test_behind(alloc, tokens, aggregates, of)
+}
+
+/// A test behind its first operand.
+#[tactic(auto, unfolding(crate::specs::CondReader::test_behind))]
+pub(crate) fn test_behind(
+    alloc: Global,
+    tokens: &mut Cursor<'_>,
+    aggregates: bool,
+    of: Expr,
+) -> Result<Cond, ReadError>
+    ensures found { IfOk result (λ c.
+        reader.test_behind bounded (reader.operand bounded aggregates) (expr_tree of)
+        (tokens_in tokens.old.rest.now) ≡ Some (cond_tree c, tokens_in tokens.new.rest.now)) }
+    ensures none { IsErrOf result ReadError.Syntax →
+        reader.test_behind bounded (reader.operand bounded aggregates) (expr_tree of)
+        (tokens_in tokens.old.rest.now) ≡ None }
+{
+    let Some(op) = comparison(tokens.peek()) else {
+        return word_test(alloc, tokens, aggregates, of);
+    };
+    tokens.advance();
+    let right = operand(alloc, tokens, aggregates)?;
+    Ok(Cond::Cmp {
+        op,
+        left: of,
+        right,
+    })
+}
+
+/// A test that begins with a word, behind the operand.
+#[tactic(auto, unfolding(crate::specs::CondReader::word_test))]
+fn word_test(
+    alloc: Global,
+    tokens: &mut Cursor<'_>,
+    aggregates: bool,
+    of: Expr,
+) -> Result<Cond, ReadError>
+    ensures found { IfOk result (λ c.
+        reader.word_test bounded (reader.operand bounded aggregates) (expr_tree of)
+        (tokens_in tokens.old.rest.now) ≡ Some (cond_tree c, tokens_in tokens.new.rest.now)) }
+    ensures none { IsErrOf result ReadError.Syntax →
+        reader.word_test bounded (reader.operand bounded aggregates) (expr_tree of)
+        (tokens_in tokens.old.rest.now) ≡ None }
+{
+    if is_key(tokens.peek(), Keyword::Is) {
+        tokens.advance();
+        return null_test(alloc, tokens, of);
+    }
+    range(alloc, tokens, aggregates, of)
+}
+
+/// [NOT] NULL, behind the operand and IS.
+#[tactic(auto, unfolding(crate::specs::CondReader::null_test))]
+fn null_test(alloc: Global, tokens: &mut Cursor<'_>, of: Expr) -> Result<Cond, ReadError>
+    ensures found { IfOk result (λ c. reader.null_test (expr_tree of)
+        (tokens_in tokens.old.rest.now) ≡ Some (cond_tree c, tokens_in tokens.new.rest.now)) }
+    ensures none { IsErrOf result ReadError.Syntax →
+        reader.null_test (expr_tree of) (tokens_in tokens.old.rest.now) ≡ None }
+{
+    if is_key(tokens.peek(), Keyword::Not) {
+        tokens.advance();
+        tokens.key(Keyword::Null)?;
+        return Ok(negation(alloc, Cond::IsNull(of))?);
+    }
+    tokens.key(Keyword::Null)?;
+    Ok(Cond::IsNull(of))
+}
+
+/// [NOT] BETWEEN or [NOT] IN, behind the operand.
+#[tactic(auto, unfolding(crate::specs::CondReader::range))]
+fn range(
+    alloc: Global,
+    tokens: &mut Cursor<'_>,
+    aggregates: bool,
+    of: Expr,
+) -> Result<Cond, ReadError>
+    ensures found { IfOk result (λ c.
+        reader.range bounded (reader.operand bounded aggregates) (expr_tree of)
+        (tokens_in tokens.old.rest.now) ≡ Some (cond_tree c, tokens_in tokens.new.rest.now)) }
+    ensures none { IsErrOf result ReadError.Syntax →
+        reader.range bounded (reader.operand bounded aggregates) (expr_tree of)
+        (tokens_in tokens.old.rest.now) ≡ None }
+{
+    if is_key(tokens.peek(), Keyword::Not) {
+        tokens.advance();
+        let range = plain_range(alloc, tokens, aggregates, of)?;
+        return Ok(negation(alloc, range)?);
+    }
+    plain_range(alloc, tokens, aggregates, of)
+}
+
+/// BETWEEN or IN, behind the operand.
+fn plain_range(
+    alloc: Global,
+    tokens: &mut Cursor<'_>,
+    aggregates: bool,
+    of: Expr,
+) -> Result<Cond, ReadError>
+    ensures found { IfOk result (λ c.
+        reader.range_at bounded (reader.operand bounded aggregates) (expr_tree of)
+        (first_token (tokens_in tokens.old.rest.now)) (after_first (tokens_in tokens.old.rest.now))
+        ≡ Some (cond_tree c, tokens_in tokens.new.rest.now)) }
+    ensures none { IsErrOf result ReadError.Syntax →
+        reader.range_at bounded (reader.operand bounded aggregates) (expr_tree of)
+        (first_token (tokens_in tokens.old.rest.now)) (after_first (tokens_in tokens.old.rest.now))
+        ≡ None }
+{
+    match tokens.next() {
+        Some(Token::Key(Keyword::Between)) => within(alloc, tokens, aggregates, of),
+        Some(Token::Key(Keyword::In)) => listed(alloc, tokens, aggregates, of),
+        _ => Err(ReadError::Syntax),
+    }
+}
+
+/// The two bounds behind BETWEEN.
+#[tactic(auto, unfolding(crate::specs::CondReader::within))]
+fn within(
+    alloc: Global,
+    tokens: &mut Cursor<'_>,
+    aggregates: bool,
+    of: Expr,
+) -> Result<Cond, ReadError>
+    ensures found { IfOk result (λ c.
+        reader.within bounded (reader.operand bounded aggregates) (expr_tree of)
+        (tokens_in tokens.old.rest.now) ≡ Some (cond_tree c, tokens_in tokens.new.rest.now)) }
+    ensures none { IsErrOf result ReadError.Syntax →
+        reader.within bounded (reader.operand bounded aggregates) (expr_tree of)
+        (tokens_in tokens.old.rest.now) ≡ None }
+{
+    let low = operand(alloc, tokens, aggregates)?;
+    tokens.key(Keyword::And)?;
+    let high = operand(alloc, tokens, aggregates)?;
+    Ok(Cond::Between { of, low, high })
+}
+
+/// The list behind IN.
+#[tactic(auto, unfolding(crate::specs::CondReader::listed))]
+fn listed(
+    alloc: Global,
+    tokens: &mut Cursor<'_>,
+    aggregates: bool,
+    of: Expr,
+) -> Result<Cond, ReadError>
+    ensures found { IfOk result (λ c.
+        reader.listed bounded (reader.operand bounded aggregates) (expr_tree of)
+        (tokens_in tokens.old.rest.now) ≡ Some (cond_tree c, tokens_in tokens.new.rest.now)) }
+    ensures none { IsErrOf result ReadError.Syntax →
+        reader.listed bounded (reader.operand bounded aggregates) (expr_tree of)
+        (tokens_in tokens.old.rest.now) ≡ None }
+{
+    tokens.symbol(Symbol::Open)?;
+    let members = members(alloc, tokens, aggregates, &of)?;
+    tokens.close()?;
+    Ok(members)
+}
+
+/// The members of a list behind IN: the operand is one of them.
+#[tactic(auto, unfolding(crate::specs::CondReader::members))]
+fn members(
+    alloc: Global,
+    tokens: &mut Cursor<'_>,
+    aggregates: bool,
+    of: &Expr,
+) -> Result<Cond, ReadError>
+    ensures found { IfOk result (λ c.
+        reader.members bounded (reader.operand bounded aggregates) (expr_tree of.now)
+        (tokens_in tokens.old.rest.now) ≡ Some (cond_tree c, tokens_in tokens.new.rest.now)) }
+    ensures none { IsErrOf result ReadError.Syntax →
+        reader.members bounded (reader.operand bounded aggregates) (expr_tree of.now)
+        (tokens_in tokens.old.rest.now) ≡ None }
+{
+    let first = operand(alloc, tokens, aggregates)?;
+    let mut left = equality(alloc, of, first)?;
+    'members: for turn in 0..tokens.len() {
+        let Some(_) = comma(tokens.peek()) else {
+            return Ok(left);
+        };
+        tokens.advance();
+        let member = operand(alloc, tokens, aggregates)?;
+        left = or_member(alloc, of, left, member)?;
+    }
+    Ok(left)
+}
+
+/// The operand is a member of those so far, or it is the next. Where those so far are past the limit of a
+/// condition, the operand isn't copied.
+fn or_member(alloc: Global, of: &Expr, so_far: Cond, member: Expr) -> Result<Cond, Memory>
+    ensures { IfOk result (λ c. cond_tree c ≡ bounded_join Either (cond_tree so_far)
+        (Compare compare.Eq (expr_tree of.now) (expr_tree member))) }
+{
+    if is_large_cond(&so_far) {
+        let so_far = with_arithmetic(alloc, has_arithmetic(of, &member), so_far)?;
+        return with_unread_test(alloc, are_unread(of, &member), so_far);
+    }
+    let next = equality(alloc, of, member)?;
+    either(alloc, so_far, next)
+}
+
+/// Whether that the operand is the member would have arithmetic over columns.
+fn has_arithmetic(of: &Expr, member: &Expr) -> bool
+    ensures { result ≡ has_column_arithmetic (Compare compare.Eq (expr_tree of.now) (expr_tree member.now)) }
+{
+    is_column_arithmetic(of) || is_column_arithmetic(member)
+}
+
+/// Whether it would have a literal that could not be read.
+fn are_unread(of: &Expr, member: &Expr) -> bool
+    ensures { result ≡ cond_has_unread (Compare compare.Eq (expr_tree of.now) (expr_tree member.now)) }
+{
+    has_unread(of) || has_unread(member)
+}
+
+/// The operand is the member.
+fn equality(alloc: Global, of: &Expr, member: Expr) -> Result<Cond, Memory>
+    ensures { IfOk result (λ c. cond_tree c ≡ Compare compare.Eq (expr_tree of.now) (expr_tree member)) }
+{
+    Ok(Cond::Cmp {
+        op: CmpOp::Eq,
+        left: of.copy(alloc)?,
+        right: member,
+    })
+}

@@ -1,0 +1,12 @@
+use Rattle.std.proofs.Common.{◌≡◌, length}
+use Rattle.std.specs.List.{list_any}
+use Rattle.cell_core.specs.declared.table.Column.{Column}
+use Rattle.sql_refusals.specs.Unread.{is_unread_cell}
+use Rattle.sql_refusals.proofs.numbers.any_unread_default.Given as goal
+
+-- what is left tells as all do
+abbrev pub invariant-columns : goal.invariant-columns
+invariant-columns l = list_any (λ (column : Column). is_unread_cell column.default) l.rest ≡ list_any (λ (column : Column). is_unread_cell column.default) l.columns
+
+abbrev pub decreases-columns : goal.decreases-columns
+decreases-columns l = length l.rest
