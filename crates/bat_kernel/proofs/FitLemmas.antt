@@ -12,42 +12,12 @@ use Rattle.cell_core.specs.declared.operator.Op.TheVariants as op
 use Rattle.cell_core.specs.declared.operator.Value.{Value}
 use Rattle.cell_core.specs.declared.operator.Value.TheVariants.{Bat, One}
 use Rattle.cell_core.specs.Pairs.{Pairs, tails_of}
+use Rattle.cell_core.proofs.TypedLemmas.{no_values, first_value, first_bat, first_one}
 use Rattle.cell_core.specs.Kinds.{ValueType, OneOf, BatOf, agrees, is_of_kind, is_of_type, are_of_types, from_bat, from_bats, from_bat_and_cell, from_range, from_two, from_one, from_any, both_are, are_comparable, result_type, Fits}
 use Rattle.cell_core.specs.declared.form.Form.TheVariants as form
 use Rattle.cell_core.specs.Forms.{form_of}
 use Rattle.bat_kernel.specs.Shapes.{is_bat, is_two_bats, is_bat_and_cell, is_range, is_two, is_one}
 use Rattle.std.specs.Cmp.{first_so, second_so}
-
--- ## Values of types
-
-no_values : (vs : List Value) → are_of_types vs [] ≡ true → vs ≡ []
-no_values [] e = refl
-no_values (v ∷ vs) e = cc
-
-first_value : (vs : List Value) (t : ValueType) (ts : List ValueType) → are_of_types vs (t ∷ ts) ≡ true → (v : Value) × (ws : List Value) × (vs ≡ v ∷ ws) × (is_of_type v t ≡ true) × (are_of_types ws ts ≡ true)
-first_value [] t ts e = cc
-first_value (v ∷ ws) t ts e = (v, ws, refl, first_so (is_of_type v t) (are_of_types ws ts) e, second_so (is_of_type v t) (are_of_types ws ts) e)
-
-bat_value : (v : Value) (h t : Option Kind) → is_of_type v (BatOf h t) ≡ true → (b : Pairs) × (v ≡ Bat b)
-bat_value (Bat b) h t e = (b, refl)
-bat_value (One c) h t e = cc
-
-one_value : (v : Value) (k : Option Kind) → is_of_type v (OneOf k) ≡ true → (c : Cell) × (v ≡ One c)
-one_value (Bat b) k e = cc
-one_value (One c) k e = (c, refl)
-
--- a BAT in front, and a scalar in front
-first_bat : (vs : List Value) (h t : Option Kind) (ts : List ValueType) → are_of_types vs (BatOf h t ∷ ts) ≡ true → (b : Pairs) × (ws : List Value) × (vs ≡ Bat b ∷ ws) × (are_of_types ws ts ≡ true)
-first_bat vs h t ts e =
-    let first = first_value vs (BatOf h t) ts e in
-    let bat = bat_value first.0 h t first.3 in
-    (bat.0, first.1, first.2 ∙ ap (λ v. v ∷ first.1) bat.1, first.4)
-
-first_one : (vs : List Value) (k : Option Kind) (ts : List ValueType) → are_of_types vs (OneOf k ∷ ts) ≡ true → (c : Cell) × (ws : List Value) × (vs ≡ One c ∷ ws) × (are_of_types ws ts ≡ true)
-first_one vs k ts e =
-    let first = first_value vs (OneOf k) ts e in
-    let one = one_value first.0 k first.3 in
-    (one.0, first.1, first.2 ∙ ap (λ v. v ∷ first.1) one.1, first.4)
 
 -- ## Forms
 

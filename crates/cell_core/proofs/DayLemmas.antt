@@ -1,10 +1,10 @@
 -- A day is read as it was printed.
-use Rattle.std.proofs.Common.{◌≡◌, inl, inr, ℕ, zero, suc, ◌+◌, ◌-◌, ◌<◌, ◌≤◌, true, false, List, refl, sym, ap, ◌∙◌, subst, arith, rules, ℤ, pos, negsuc, ◌+ℤ◌, ◌-ℤ◌, ◌≤ℤ◌, unsigned_abs}
+use Rattle.std.proofs.Common.{◌≡◌, inl, inr, ℕ, zero, suc, ◌+◌, ◌-◌, ◌<◌, ◌≤◌, true, false, List, refl, sym, ap, ◌∙◌, subst, arith, rules, ℤ, pos, negsuc, ◌+ℤ◌, ◌-ℤ◌, ◌≤ℤ◌, unsigned_abs, ◌*ℤ◌, int_div, FitsSigned, w64, to_z, of_z, to_z-of_z}
 use Rattle.std.proofs.lemmas.Int.{by_lt_z}
 use Rattle.std.proofs.lemmas.Bool.{cases_lt, lt-ltb, le-ltb}
 use Rattle.jiff_core.specs.declared.civil.date.Date.{Date}
-use Rattle.jiff_core.specs.Calendar.{days_in_year, days_in_month, day_count, days_from_civil, IsCivilDate}
-use Rattle.jiff_core.specs.Date.{epoch_day}
+use Rattle.jiff_core.specs.Calendar.{days_in_year, days_in_month, day_count, days_from_civil, IsCivilDate, IsEpochDay}
+use Rattle.jiff_core.specs.Date.{epoch_day, IsYmd}
 use Rattle.jiff_core.proofs.SignedLemmas.{signed_arith}
 use Rattle.jiff_core.proofs.CalendarLemmas.{day_count-end, day_count-next_year, day_count-later_year, day_count-next_month, day_count-day, day_count-day_of_year, days_of_months_all, days_in_month_bounds, day_count_bounds, day_count-lt_year, days_from_civil-day_count}
 use Rattle.jiff_core.proofs.MarchLemmas.{day_count-early}
@@ -21,6 +21,47 @@ day_count-first = day_count-early (pos 1) 10000 1 1 refl (omega arith) (omega ar
 
 pub days_from_civil-first : days_from_civil (pos 1) 1 1 ≡ negsuc 719_161
 days_from_civil-first = omega (arith, signed_arith, days_from_civil-day_count, day_count-first)
+
+-- jiff has each day of the years 0001 to 9999
+pub is_epoch_day : (n : ℤ) → IsPrintedDay n → IsEpochDay n
+is_epoch_day n h =
+    let range = rw (days_from_civil-first, days_from_civil-max) at h in
+    omega (arith, signed_arith, range)
+
+-- and a span can have that many days
+pub fits_span : (n : ℤ) → IsEpochDay n → unsigned_abs n ≤ 7_304_484
+fits_span (pos n) h = omega (arith, signed_arith, h)
+fits_span (negsuc n) h = omega (arith, signed_arith, h)
+
+-- ## Days by the clock
+
+days_from_civil-epoch : days_from_civil (pos 1970) 1 1 ≡ pos 0
+days_from_civil-epoch = omega (arith, signed_arith, days_from_civil-day_count, day_count-early (pos 1970) 11969 1 1 refl (omega arith) (omega arith) (omega arith))
+
+-- 1970-01-01 is day 0
+pub epoch_is_zero : (date : Date) → IsYmd (pos 1970) (pos 1) (pos 1) date → epoch_day date ≡ pos 0
+epoch_is_zero date h =
+    let month : date.month ≡ 1 = cc in
+    let day : date.day ≡ 1 = cc in
+    rw (h.0, month, day) days_from_civil-epoch
+
+-- so many whole days have so many times 24 hours
+pub hours_of_days : (n : ℤ) → int_div (n *ℤ pos 86_400_000_000_000) (pos 3_600_000_000_000) ≡ n *ℤ pos 24
+hours_of_days (pos n) = omega (arith, signed_arith)
+hours_of_days (negsuc n) = omega (arith, signed_arith)
+
+pub days_of_hours : (n : ℤ) → int_div (n *ℤ pos 24) (pos 24) ≡ n
+days_of_hours (pos n) = omega (arith, signed_arith)
+days_of_hours (negsuc n) = omega (arith, signed_arith)
+
+-- the same in words of 64 bits, where the days are those of the calendar
+pub days_back : (n : ℤ) → IsEpochDay n → to_z w64 (of_z w64 (int_div (to_z w64 (of_z w64 (n *ℤ pos 24))) (pos 24))) ≡ n
+days_back n h =
+    let hours : FitsSigned w64 (n *ℤ pos 24) = omega (arith, signed_arith, h) in
+    let days : FitsSigned w64 n = omega (arith, signed_arith, h) in
+    ap (λ m. to_z w64 (of_z w64 (int_div m (pos 24)))) (to_z-of_z hours)
+    ∙ ap (λ m. to_z w64 (of_z w64 m)) (days_of_hours n)
+    ∙ to_z-of_z days
 
 -- ## Counting off
 

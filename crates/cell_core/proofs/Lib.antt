@@ -6,3 +6,4 @@ pub mod OperatorExamples
 pub mod SortedLemmas
 pub mod TextExamples
 pub mod TextLemmas
+pub mod TypedLemmas

@@ -1,8 +1,10 @@
 ghost use Rattle.std.specs.Prelude.{◌≡◌, ◌↔◌, ℕ, ◌+◌, ◌-◌, ◌*◌, ◌<◌, ℤ, pos, ◌≤ℤ◌, unsigned_abs, List, length, IsTrue, OnSome, IfSome, IfNone};
+ghost use Rattle.jiff.specs.Words.{epoch_day};
 ghost use Rattle.jiff_core.specs.Calendar.{IsCivilDate, days_from_civil};
 ghost use Rattle.cell_core.specs.Day.{HasTwoDigits, number_at, IsDayText, day_in, IsPrintedDay, IsPrintedDate, day_text, date_text, two_digits};
 
-use jiff_core::civil::Date;
+use jiff::ToSpan;
+use jiff::civil::{Date, date};
 
 /// The day that a text such as `1994-03-16` names, where 1970-01-01 is 0.
 ///
@@ -53,9 +55,23 @@ fn civil_day(year: u16, month: u8, day: u8) -> Option<i32>
     ensures none { IfNone result (¬ IsCivilDate (pos year) month day) }
 {
     match Date::new(year as i16, month as i8, day as i8) {
-        Ok(date) => Some(date.to_unix_epoch_day()),
+        Ok(date) => Some(day_of(date)),
         Err(_) => None,
     }
+}
+
+/// The days from 1970-01-01 to a date.
+fn day_of(date: Date) -> i32
+    ensures { result ≡ epoch_day date }
+{
+    (date.duration_since(epoch()).as_hours() / 24) as i32
+}
+
+/// Day 0.
+fn epoch() -> Date
+    ensures { epoch_day result ≡ pos 0 }
+{
+    date(1970, 1, 1)
 }
 
 /// The first day of the years that a text of a date can name, 0001-01-01.
@@ -76,8 +92,16 @@ pub(crate) fn day_bytes(day: i32) -> [u8; 10]
     requires { IsPrintedDay day }
     ensures { result ≡ day_text day }
 {
-    match Date::from_unix_epoch_day(day as i64) {
-        Ok(date) => date_bytes(date),
+    date_bytes(date_of(day))
+}
+
+/// The date of a day.
+fn date_of(day: i32) -> Date
+    requires { IsPrintedDay day }
+    ensures { epoch_day result ≡ day }
+{
+    match epoch().checked_add((day as i64).days()) {
+        Ok(date) => date,
         Err(_) => unreachable!(),
     }
 }
@@ -86,10 +110,10 @@ fn date_bytes(date: Date) -> [u8; 10]
     requires { pos 0 ≤ℤ date.year }
     ensures { result ≡ date_text (unsigned_abs date.year) date.month date.day }
 {
-    let century = digits((date.year / 100) as u8);
-    let year = digits((date.year % 100) as u8);
-    let month = digits(date.month);
-    let day = digits(date.day);
+    let century = digits((date.year() / 100) as u8);
+    let year = digits((date.year() % 100) as u8);
+    let month = digits(date.month() as u8);
+    let day = digits(date.day() as u8);
     [
         century[0], century[1], year[0], year[1], b'-', month[0], month[1], b'-', day[0], day[1],
     ]

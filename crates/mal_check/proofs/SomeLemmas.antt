@@ -16,40 +16,11 @@ use Rattle.cell_core.specs.Pairs.{Pairs, bats_in, shortest, row_at, cell_at}
 use Rattle.std.specs.Ordering.{is_eq, is_ne, is_lt, is_le, is_gt, is_ge}
 use Rattle.cell_core.specs.Calc.{comparison, conjunction, disjunction, negation, nil_test, over_two, over_one, all_or_none, first_heads, calculated_at, calculated}
 use Rattle.cell_core.specs.Operators.{of_bat, of_bats, of_bat_and_cell, of_range, operate}
+use Rattle.cell_core.proofs.TypedLemmas.{no_values, first_value, first_bat, first_one}
 use Rattle.cell_core.specs.Kinds.{ValueType, OneOf, BatOf, is_of_type, are_of_types, from_bat, from_bats, from_bat_and_cell, from_range, from_two, from_one, from_any, both_are, are_comparable, result_type, Fits}
 use Rattle.mal_meaning.specs.Meaning.{value_over}
 use Rattle.mal_meaning.specs.Runs.{FitsHere}
 use Rattle.mal_check.specs.Pointwise.{may_overflow}
-
--- ## Values of types
-
-no_values : (vs : List Value) → are_of_types vs [] ≡ true → vs ≡ []
-no_values [] e = refl
-no_values (v ∷ vs) e = cc
-
-first_value : (vs : List Value) (t : ValueType) (ts : List ValueType) → are_of_types vs (t ∷ ts) ≡ true → (v : Value) × (ws : List Value) × (vs ≡ v ∷ ws) × (is_of_type v t ≡ true) × (are_of_types ws ts ≡ true)
-first_value [] t ts e = absurd (cc)
-first_value (v ∷ ws) t ts e = (v, ws, refl, first_so (is_of_type v t) (are_of_types ws ts) e, second_so (is_of_type v t) (are_of_types ws ts) e)
-
-bat_value : (v : Value) (h t : Option Kind) → is_of_type v (BatOf h t) ≡ true → (b : Pairs) × (v ≡ Bat b)
-bat_value (Bat b) h t e = (b, refl)
-bat_value (One c) h t e = absurd (cc)
-
-one_value : (v : Value) (k : Option Kind) → is_of_type v (OneOf k) ≡ true → (c : Cell) × (v ≡ One c)
-one_value (Bat b) k e = absurd (cc)
-one_value (One c) k e = (c, refl)
-
-first_bat : (vs : List Value) (h t : Option Kind) (ts : List ValueType) → are_of_types vs (BatOf h t ∷ ts) ≡ true → (b : Pairs) × (ws : List Value) × (vs ≡ Bat b ∷ ws) × (are_of_types ws ts ≡ true)
-first_bat vs h t ts e =
-    let first = first_value vs (BatOf h t) ts e in
-    let bat = bat_value first.0 h t first.3 in
-    (bat.0, first.1, first.2 ∙ ap (λ v. v ∷ first.1) bat.1, first.4)
-
-first_one : (vs : List Value) (k : Option Kind) (ts : List ValueType) → are_of_types vs (OneOf k ∷ ts) ≡ true → (c : Cell) × (ws : List Value) × (vs ≡ One c ∷ ws) × (are_of_types ws ts ≡ true)
-first_one vs k ts e =
-    let first = first_value vs (OneOf k) ts e in
-    let one = one_value first.0 k first.3 in
-    (one.0, first.1, first.2 ∙ ap (λ v. v ∷ first.1) one.1, first.4)
 
 -- what has a value at equal arguments
 has_value : (f : List Value → Option Value) (args others : List Value) → args ≡ others → IsSome (f others) → IsSome (f args)

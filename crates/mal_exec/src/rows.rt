@@ -11,7 +11,7 @@ use mal_meaning::{Out, arrange};
 use std::alloc::Global;
 
 /// The value of an argument, where all instructions have values.
-fn value_at(values: &[Obj], arg: &Arg) -> Result<Obj, Memory>
+fn arg_value(values: &[Obj], arg: &Arg) -> Result<Obj, Memory>
     ensures { IfOk result (λ obj. value_of obj ≡ value_in (values_of values.now) arg.now) }
 {
     match arg {
@@ -30,7 +30,7 @@ fn columns_at(alloc: Global, values: &[Obj], cols: &[Arg]) -> Result<Vec<Obj>, M
     let mut columns = Vec::new(alloc);
     let mut rest = cols;
     'cols: while let [arg, more @ ..] = rest {
-        columns.push(value_at(values, arg)?)?;
+        columns.push(arg_value(values, arg)?)?;
         rest = more;
     }
     Ok(columns)
@@ -43,7 +43,7 @@ fn shows_rows(values: &[Obj], keep: &Option<Arg>) -> Result<bool, Memory>
     let Some(arg) = keep else {
         return Ok(true);
     };
-    Ok(match value_at(values, arg)? {
+    Ok(match arg_value(values, arg)? {
         Obj::One(Cell::Bit(bit)) => bit,
         _ => false,
     })

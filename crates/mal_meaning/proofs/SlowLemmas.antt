@@ -19,7 +19,7 @@ use Rattle.cell_core.specs.Groups.{distinct, group_number, grouped, derived, pai
 use Rattle.mal_meaning.specs.declared.groups.Sameness.TheVariants as sameness
 use Rattle.cell_calc.specs.declared.aggregate.Aggregate.{Aggregate}
 use Rattle.cell_calc.specs.Aggregates.{aggregate_of}
-use Rattle.mal_meaning.specs.Slow.{are_same, number_among, head_numbered, pair_numbered, group_folded, shorter_of, is_function, function_of}
+use Rattle.mal_meaning.specs.Slow.{are_same, number_among, head_numbered, pair_numbered, group_folded, shorter_of, is_function, row_function}
 
 -- tails kept by a test of tails
 tails_kept : (test : Cell → Bool) (b : Pairs) → tails_of (filter (λ q. test q.1) b) ≡ filter test (tails_of b)
@@ -87,7 +87,7 @@ pub rows_more : (values : List Value) (count : ℕ) → rows_of values (count + 
 rows_more values count = map-range_with_len_more (row_at values) 0 count count (grind arith)
 
 -- the functions of cells are what the table says
-pub function_is : (operator : Op) (args : List Value) → IsTrue (is_function operator) → calculated (function_of operator) args ≡ operate operator args
+pub function_is : (operator : Op) (args : List Value) → IsTrue (is_function operator) → calculated (row_function operator) args ≡ operate operator args
 function_is op.Plus args h = refl
 function_is op.Minus args h = refl
 function_is op.Times args h = refl

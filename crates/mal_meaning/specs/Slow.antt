@@ -44,21 +44,21 @@ abbrev pub group_folded : Aggregate → Pairs → Cell → Cell
 group_folded which paired tail = aggregate_of which (heads_of (filter (λ p. same_cell p.1 tail) paired))
 
 -- a function of cells over a row of arguments
-abbrev pub function_of : Op → List Cell → Option Cell
-function_of op.Plus = over_two (arithmetic (λ x y. x +ℤ y))
-function_of op.Minus = over_two (arithmetic (λ x y. x -ℤ y))
-function_of op.Times = over_two (arithmetic (λ x y. x *ℤ y))
-function_of op.Eq = over_two (λ x y. Some (comparison is_eq x y))
-function_of op.Ne = over_two (λ x y. Some (comparison is_ne x y))
-function_of op.Lt = over_two (λ x y. Some (comparison is_lt x y))
-function_of op.Le = over_two (λ x y. Some (comparison is_le x y))
-function_of op.Gt = over_two (λ x y. Some (comparison is_gt x y))
-function_of op.Ge = over_two (λ x y. Some (comparison is_ge x y))
-function_of op.And = over_two (λ x y. Some (conjunction x y))
-function_of op.Or = over_two (λ x y. Some (disjunction x y))
-function_of op.Not = over_one (λ x. Some (negation x))
-function_of op.IsNil = over_one (λ x. Some (nil_test x))
-function_of _ = λ row. None
+abbrev pub row_function : Op → List Cell → Option Cell
+row_function op.Plus = over_two (arithmetic (λ x y. x +ℤ y))
+row_function op.Minus = over_two (arithmetic (λ x y. x -ℤ y))
+row_function op.Times = over_two (arithmetic (λ x y. x *ℤ y))
+row_function op.Eq = over_two (λ x y. Some (comparison is_eq x y))
+row_function op.Ne = over_two (λ x y. Some (comparison is_ne x y))
+row_function op.Lt = over_two (λ x y. Some (comparison is_lt x y))
+row_function op.Le = over_two (λ x y. Some (comparison is_le x y))
+row_function op.Gt = over_two (λ x y. Some (comparison is_gt x y))
+row_function op.Ge = over_two (λ x y. Some (comparison is_ge x y))
+row_function op.And = over_two (λ x y. Some (conjunction x y))
+row_function op.Or = over_two (λ x y. Some (disjunction x y))
+row_function op.Not = over_one (λ x. Some (negation x))
+row_function op.IsNil = over_one (λ x. Some (nil_test x))
+row_function _ = λ row. None
 
 -- the shorter of two lengths, of which the first may be missing
 abbrev pub min_of : Option ℕ → ℕ → ℕ

@@ -2,7 +2,7 @@
 ghost use Rattle.std.specs.Prelude.{◌≡◌, ◌∷◌, [], map, IfOk};
 ghost use Rattle.cell_core.specs.Pairs.{bats_in, shortest, cell_at, row_at, rows_of};
 ghost use Rattle.cell_core.specs.Calc.{all_or_none, first_heads, calculated};
-ghost use Rattle.mal_meaning.specs.Slow.{function_of, shorter_of};
+ghost use Rattle.mal_meaning.specs.Slow.{row_function, shorter_of};
 
 use crate::columns::{heads, pair_up};
 use cell_calc::{
@@ -14,7 +14,7 @@ use std::alloc::Global;
 
 /// A function of two cells.
 fn apply_two(op: Op, x: &Cell, y: &Cell) -> Option<Cell>
-    ensures { result ≡ function_of op (x.now ∷ y.now ∷ []) }
+    ensures { result ≡ row_function op (x.now ∷ y.now ∷ []) }
 {
     match op {
         Op::Plus => sum(x, y),
@@ -34,7 +34,7 @@ fn apply_two(op: Op, x: &Cell, y: &Cell) -> Option<Cell>
 
 /// A function of one cell.
 fn apply_one(op: Op, x: &Cell) -> Option<Cell>
-    ensures { result ≡ function_of op (x.now ∷ []) }
+    ensures { result ≡ row_function op (x.now ∷ []) }
 {
     match op {
         Op::Not => Some(opposite(x)),
@@ -45,7 +45,7 @@ fn apply_one(op: Op, x: &Cell) -> Option<Cell>
 
 /// A function of cells over a row of arguments.
 fn apply_function(op: Op, row: &[Cell]) -> Option<Cell>
-    ensures { result ≡ function_of op row.now }
+    ensures { result ≡ row_function op row.now }
 {
     match row {
         [x] => apply_one(op, x),
@@ -106,7 +106,7 @@ fn apply_to_rows(
     op: Op,
     rows: &[Sequence<Cell>],
 ) -> Result<Option<Sequence<Cell>>, Memory>
-    ensures { IfOk result (λ cells. cells ≡ all_or_none (map (function_of op) rows.now)) }
+    ensures { IfOk result (λ cells. cells ≡ all_or_none (map (row_function op) rows.now)) }
 {
     let mut cells = Sequence::new(alloc);
     let mut rest = rows;
@@ -161,7 +161,7 @@ fn heads_of_first(alloc: Global, values: &[Value]) -> Result<Sequence<Cell>, Mem
 
 /// A function over scalars, or by position up to the shortest BAT.
 pub(crate) fn calculate(alloc: Global, op: Op, args: &[Value]) -> Result<Option<Value>, Memory>
-    ensures { IfOk result (λ value. value ≡ calculated (function_of op) args.now) }
+    ensures { IfOk result (λ value. value ≡ calculated (row_function op) args.now) }
 {
     let Some(count) = shortest_bat(args) else {
         let row = row_of(alloc, args, 0)?;

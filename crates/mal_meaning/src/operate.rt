@@ -107,6 +107,39 @@ fn run_function(alloc: Global, op: Op, args: &[Value]) -> Result<Option<Value>, 
     calculate(alloc, op, args)
 }
 
+/// An operator of one BAT, over arguments that may be others.
+fn on_bat(alloc: Global, op: Op, args: &[Value]) -> Result<Option<Value>, Memory>
+    requires { IsTrue (takes_bat op) }
+    ensures { IfOk result (λ out. out ≡ operate op args.now) }
+{
+    let [Value::Bat(b)] = args else {
+        return Ok(None);
+    };
+    Ok(Some(run_on_bat(alloc, op, b.as_slice())?))
+}
+
+/// An operator of two BATs, over arguments that may be others.
+fn on_bats(alloc: Global, op: Op, args: &[Value]) -> Result<Option<Value>, Memory>
+    requires { IsTrue (takes_bats op) }
+    ensures { IfOk result (λ out. out ≡ operate op args.now) }
+{
+    let [Value::Bat(l), Value::Bat(r)] = args else {
+        return Ok(None);
+    };
+    Ok(Some(run_on_bats(alloc, op, l.as_slice(), r.as_slice())?))
+}
+
+/// An operator of a BAT and a cell, over arguments that may be others.
+fn on_cell(alloc: Global, op: Op, args: &[Value]) -> Result<Option<Value>, Memory>
+    requires { IsTrue (takes_cell op) }
+    ensures { IfOk result (λ out. out ≡ operate op args.now) }
+{
+    let [Value::Bat(b), Value::One(cell)] = args else {
+        return Ok(None);
+    };
+    Ok(Some(run_on_cell(alloc, op, b.as_slice(), cell)?))
+}
+
 /// The value of an operator other than bind, or nothing where it overflows or its arguments don't
 /// fit.
 pub(crate) fn run(alloc: Global, op: Op, args: &[Value]) -> Result<Option<Value>, Memory>
@@ -122,18 +155,8 @@ pub(crate) fn run(alloc: Global, op: Op, args: &[Value]) -> Result<Option<Value>
         | Op::Count
         | Op::Sum
         | Op::Min
-        | Op::Max => {
-            let [Value::Bat(b)] = args else {
-                return Ok(None);
-            };
-            Ok(Some(run_on_bat(alloc, op, b.as_slice())?))
-        }
-        Op::MarkT | Op::Project => {
-            let [Value::Bat(b), Value::One(cell)] = args else {
-                return Ok(None);
-            };
-            Ok(Some(run_on_cell(alloc, op, b.as_slice(), cell)?))
-        }
+        | Op::Max => on_bat(alloc, op, args),
+        Op::MarkT | Op::Project => on_cell(alloc, op, args),
         Op::Semijoin
         | Op::Kdifference
         | Op::Kunion
@@ -143,12 +166,7 @@ pub(crate) fn run(alloc: Global, op: Op, args: &[Value]) -> Result<Option<Value>
         | Op::Subcount
         | Op::Subsum
         | Op::Submin
-        | Op::Submax => {
-            let [Value::Bat(l), Value::Bat(r)] = args else {
-                return Ok(None);
-            };
-            Ok(Some(run_on_bats(alloc, op, l.as_slice(), r.as_slice())?))
-        }
+        | Op::Submax => on_bats(alloc, op, args),
         Op::Plus
         | Op::Minus
         | Op::Times

@@ -14,12 +14,12 @@ use Rattle.sql_semantics.specs.Check.{check_refusal}
 use Rattle.sql_semantics.specs.Effect.{Change, changed, changed_by, accepted, effect, effect_unless}
 use Rattle.sql_semantics.proofs.RefusedLemmas.{accepted_leaves}
 use Rattle.sql_changes.specs.declared.plan.Work.{Work}
-use Rattle.sql_changes.specs.declared.plan.Plan.{Plan}
-use Rattle.sql_changes.specs.declared.plan.Plan.TheVariants.{Refused, Accepted}
+use Rattle.sql_changes.specs.declared.plan.PlannedChange.{PlannedChange}
+use Rattle.sql_changes.specs.declared.plan.PlannedChange.TheVariants.{Refused, Accepted}
 use Rattle.sql_changes.specs.Plans.{change_of, reworked, touched_by}
 
 -- a plan as a change of a table
-abbrev pub planned : Plan → Table → Change
+abbrev pub planned : PlannedChange → Table → Change
 planned plan table = change_of plan table.rows
 
 abbrev done_with : ℕ → List Table → Db × Reply
@@ -38,7 +38,7 @@ accepted_done name work (Some table) db after n is e f =
     ap (done_with n) e ∙ ap (λ k. done_with k (reworked name work (Some table) db.tables)) f
 
 -- the same change of the table that is found
-pub same_change : (name : List ℕ) (plan : Plan) (change : Table → Change) (found : Option Table) (table : Table) (db : Db) (outcome : Db × Reply)
+pub same_change : (name : List ℕ) (plan : PlannedChange) (change : Table → Change) (found : Option Table) (table : Table) (db : Db) (outcome : Db × Reply)
     → Some table ≡ found → change_of plan table.rows ≡ change table
     → outcome ≡ changed name (planned plan) found db → outcome ≡ changed name change found db
 same_change name plan change found table db outcome is e o =

@@ -15,7 +15,7 @@ use Rattle.sql_semantics.specs.Effect.{Change, unless_refused, is_hit, deleted, 
 use Rattle.sql_changes.specs.declared.fate.Fate.{Fate}
 use Rattle.sql_changes.specs.declared.fate.Fate.TheVariants.{Stays, Goes, Becomes}
 use Rattle.sql_changes.specs.declared.plan.Work.TheVariants.{Adds, Settles}
-use Rattle.sql_changes.specs.declared.plan.Plan.TheVariants.{Refused, Accepted}
+use Rattle.sql_changes.specs.declared.plan.PlannedChange.TheVariants.{Refused, Accepted}
 use Rattle.sql_changes.specs.Plans.{change_of}
 use Rattle.sql_changes.specs.Faults.{in_turn}
 use Rattle.sql_changes.specs.Parts.{is_true_of, deleted_fate, updated_fate, constants_overflow, update_refusal, insert_refusal}

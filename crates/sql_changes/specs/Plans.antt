@@ -8,8 +8,8 @@ use Rattle.cell_core.specs.declared.table.Table.{Table}
 use Rattle.sql_semantics.specs.Effect.{Change, with_new_rows}
 use Rattle.sql_changes.specs.declared.plan.Work.{Work}
 use Rattle.sql_changes.specs.declared.plan.Work.TheVariants.{Adds, Settles}
-use Rattle.sql_changes.specs.declared.plan.Plan.{Plan}
-use Rattle.sql_changes.specs.declared.plan.Plan.TheVariants.{Refused, Accepted}
+use Rattle.sql_changes.specs.declared.plan.PlannedChange.{PlannedChange}
+use Rattle.sql_changes.specs.declared.plan.PlannedChange.TheVariants.{Refused, Accepted}
 use Rattle.sql_changes.specs.Fates.{is_touched, settled}
 
 -- the rows that the work leaves of these
@@ -23,7 +23,7 @@ touched_by (Adds more) = length more
 touched_by (Settles fates) = count_by is_touched fates
 
 -- a plan as a change of these rows
-abbrev pub change_of : Plan → List (List Cell) → Change
+abbrev pub change_of : PlannedChange → List (List Cell) → Change
 change_of (Refused refusal) rows = Err refusal
 change_of (Accepted work) rows = Ok (rows_after work rows, touched_by work)
 

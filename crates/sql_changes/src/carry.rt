@@ -7,7 +7,7 @@ ghost use Rattle.sql_semantics.specs.Effect.{changed};
 ghost use Rattle.sql_changes.specs.Plans.{change_of, is_named, place_once, reworked, rows_after};
 
 use crate::copy::{copies_with, copy_table};
-use crate::plan::{Plan, Work, rework};
+use crate::plan::{PlannedChange, Work, rework};
 use cell_core::{Db, Memory, Sequence, Table, Word};
 use sql_semantics::Reply;
 use std::alloc::Global;
@@ -88,7 +88,7 @@ fn rework_named(alloc: Global, name: &Word, work: Work, db: &mut Db) -> Result<(
 pub(crate) fn carry_out(
     alloc: Global,
     name: &Word,
-    plan: Plan,
+    plan: PlannedChange,
     db: &mut Db,
 ) -> Result<Reply, Memory>
     requires { IsSome (named_table name.now db.old) }
@@ -96,8 +96,8 @@ pub(crate) fn carry_out(
     ensures kept { OnErr result (db.new ≡ db.old) }
 {
     match plan {
-        Plan::Refused(refusal) => Ok(Reply::Refused(refusal)),
-        Plan::Accepted(work) => {
+        PlannedChange::Refused(refusal) => Ok(Reply::Refused(refusal)),
+        PlannedChange::Accepted(work) => {
             let count = work.touched();
             rework_named(alloc, name, work, db)?;
             Ok(Reply::Rows(count as u64))

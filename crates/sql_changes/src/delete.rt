@@ -8,9 +8,9 @@ ghost use Rattle.sql_changes.specs.Parts.{deleted_fate};
 
 use crate::fate::Fate;
 use crate::hits::is_true_of;
-use crate::plan::{Plan, Work};
+use crate::plan::{PlannedChange, Work};
 use cell_core::{Memory, Sequence, Table};
-use sql_meaning::{Row, cond_overflows};
+use sql_meaning::{LentRow, cond_overflows};
 use sql_semantics::Refusal;
 use sql_tree::Cond;
 use std::alloc::Global;
@@ -26,7 +26,7 @@ fn fates_of_rows(
     let mut fates = Sequence::new(alloc);
     let mut rest = table.rows.as_slice();
     'rows: while let [row, more @ ..] = rest {
-        let goes = is_true_of(alloc, table, cond, &Row::new(row))?;
+        let goes = is_true_of(alloc, table, cond, &LentRow::new(row))?;
         fates.push(if goes { Fate::Goes } else { Fate::Stays })?;
         rest = more;
     }
@@ -34,12 +34,16 @@ fn fates_of_rows(
 }
 
 /// What a DELETE is to do to a table.
-pub(crate) fn delete_plan(alloc: Global, cond: &Option<Cond>, table: &Table) -> Result<Plan, Memory>
+pub(crate) fn delete_plan(
+    alloc: Global,
+    cond: &Option<Cond>,
+    table: &Table,
+) -> Result<PlannedChange, Memory>
     ensures { IfOk result (λ plan. change_of plan table.now.rows ≡ deleted (option_map cond_tree cond.now) table.now) }
 {
     if cond_overflows(cond)? {
-        return Ok(Plan::Refused(Refusal::Overflow));
+        return Ok(PlannedChange::Refused(Refusal::Overflow));
     }
     let fates = fates_of_rows(alloc, cond, table)?;
-    Ok(Plan::Accepted(Work::Settles(fates)))
+    Ok(PlannedChange::Accepted(Work::Settles(fates)))
 }

@@ -10,7 +10,7 @@ ghost use Rattle.sql_changes.specs.Faults.{has_fault as has_fault_of, is_refused
 use crate::hits::{cell_of, overflows_for, value_of};
 use crate::stored::{is_null_refused, is_too_long};
 use cell_core::{Cell, Column, Memory, Table, Word};
-use sql_meaning::Row;
+use sql_meaning::LentRow;
 use sql_tree::Expr;
 
 /// What may be wrong with a value for a row.
@@ -39,7 +39,7 @@ fn is_too_long_for(columns: &[Column], name: &Word, cell: &Cell) -> bool
 }
 
 /// Whether a value is too long for the column that is set to it.
-fn is_too_long_set(table: &Table, row: &Row<'_>, set: &(Word, Expr)) -> Result<bool, Memory>
+fn is_too_long_set(table: &Table, row: &LentRow<'_>, set: &(Word, Expr)) -> Result<bool, Memory>
     ensures { IfOk result (λ long. long ≡ is_too_long_set_of table.now row.now (set_tree set.now)) }
 {
     let cell = cell_of(table, row, &set.1)?;
@@ -71,7 +71,7 @@ fn is_refused_for(columns: &[Column], name: &Word, value: &Option<Cell>) -> bool
 }
 
 /// Whether the column that is set refuses its value.
-fn is_null_set(table: &Table, row: &Row<'_>, set: &(Word, Expr)) -> Result<bool, Memory>
+fn is_null_set(table: &Table, row: &LentRow<'_>, set: &(Word, Expr)) -> Result<bool, Memory>
     ensures { IfOk result (λ null. null ≡ is_null_set_of table.now row.now (set_tree set.now)) }
 {
     let value = value_of(table, row, &set.1)?;
@@ -79,7 +79,12 @@ fn is_null_set(table: &Table, row: &Row<'_>, set: &(Word, Expr)) -> Result<bool,
 }
 
 /// Whether the value for a row has this fault.
-fn has_fault(fault: Fault, table: &Table, row: &Row<'_>, set: &(Word, Expr)) -> Result<bool, Memory>
+fn has_fault(
+    fault: Fault,
+    table: &Table,
+    row: &LentRow<'_>,
+    set: &(Word, Expr),
+) -> Result<bool, Memory>
     ensures { IfOk result (λ has. has ≡ has_fault_of fault table.now row.now (set_tree set.now)) }
 {
     match fault {
@@ -93,7 +98,7 @@ fn has_fault(fault: Fault, table: &Table, row: &Row<'_>, set: &(Word, Expr)) -> 
 fn has_row_fault(
     fault: Fault,
     table: &Table,
-    row: &Row<'_>,
+    row: &LentRow<'_>,
     sets: &[(Word, Expr)],
 ) -> Result<bool, Memory>
     ensures { IfOk result (λ has. has ≡ list_any (has_fault_of fault table.now row.now) (map set_tree sets.now)) }
@@ -113,7 +118,7 @@ pub(crate) fn has_any_fault(
     fault: Fault,
     table: &Table,
     sets: &[(Word, Expr)],
-    rows: &[Row<'_>],
+    rows: &[LentRow<'_>],
 ) -> Result<bool, Memory>
     ensures { IfOk result (λ has. has ≡ is_any_set (has_fault_of fault table.now) (map set_tree sets.now) rows.now) }
 {

@@ -7,7 +7,7 @@ ghost use Rattle.sql_semantics.specs.Kept.{is_kept as is_kept_of};
 ghost use Rattle.sql_semantics.specs.Effect.{own_table, is_hit};
 
 use cell_core::{Cell, Memory, Table};
-use sql_meaning::{Row, cell_over, cond_overflows, is_kept, overflows_over, value_over};
+use sql_meaning::{LentRow, cell_over, cond_overflows, is_kept, overflows_over, value_over};
 use sql_semantics::Called;
 use sql_tree::{Cond, Expr};
 use std::alloc::Global;
@@ -24,7 +24,7 @@ pub(crate) fn is_true_of(
     alloc: Global,
     table: &Table,
     cond: &Option<Cond>,
-    row: &Row<'_>,
+    row: &LentRow<'_>,
 ) -> Result<bool, Memory>
     ensures { IfOk result (λ is_true. is_true ≡ is_kept_of (own_table table.now) (option_map cond_tree cond.now) (row.now ∷ [])) }
 {
@@ -32,21 +32,25 @@ pub(crate) fn is_true_of(
 }
 
 /// The cell of an expression over a row.
-pub(crate) fn cell_of(table: &Table, row: &Row<'_>, expr: &Expr) -> Result<Cell, Memory>
+pub(crate) fn cell_of(table: &Table, row: &LentRow<'_>, expr: &Expr) -> Result<Cell, Memory>
     ensures { IfOk result (λ cell. cell ≡ cell_over_of (own_table table.now) (row.now ∷ []) (expr_tree expr.now)) }
 {
     cell_over(&[own_called(table)], &[row.again()], expr)
 }
 
 /// The value of an expression over a row, or none where it leaves the range.
-pub(crate) fn value_of(table: &Table, row: &Row<'_>, expr: &Expr) -> Result<Option<Cell>, Memory>
+pub(crate) fn value_of(
+    table: &Table,
+    row: &LentRow<'_>,
+    expr: &Expr,
+) -> Result<Option<Cell>, Memory>
     ensures { IfOk result (λ value. value ≡ value_in (own_table table.now) (row.now ∷ []) (expr_tree expr.now)) }
 {
     value_over(&[own_called(table)], &[row.again()], expr)
 }
 
 /// Whether an expression leaves the range for a row.
-pub(crate) fn overflows_for(table: &Table, row: &Row<'_>, expr: &Expr) -> Result<bool, Memory>
+pub(crate) fn overflows_for(table: &Table, row: &LentRow<'_>, expr: &Expr) -> Result<bool, Memory>
     ensures { IfOk result (λ overflows. overflows ≡ is_none (value_in (own_table table.now) (row.now ∷ []) (expr_tree expr.now))) }
 {
     overflows_over(&[own_called(table)], &[row.again()], expr)
@@ -57,7 +61,7 @@ pub(crate) fn hits<'a>(
     alloc: Global,
     table: &'a Table,
     cond: &Option<Cond>,
-) -> Result<Vec<Row<'a>>, Memory>
+) -> Result<Vec<LentRow<'a>>, Memory>
     ensures { IfOk result (λ hits. hits.items ≡ filter (is_hit (option_map cond_tree cond.now) table.now) table.now.rows) }
 {
     let mut hits = Vec::new(alloc);
@@ -66,7 +70,7 @@ pub(crate) fn hits<'a>(
     }
     let mut rest = table.rows.as_slice();
     'rows: while let [row, more @ ..] = rest {
-        let row = Row::new(row);
+        let row = LentRow::new(row);
         if is_true_of(alloc, table, cond, &row)? {
             hits.push(row)?;
         }

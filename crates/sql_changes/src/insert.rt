@@ -6,7 +6,7 @@ ghost use Rattle.sql_semantics.specs.Effect.{inserted, placed, row_limit};
 ghost use Rattle.sql_changes.specs.Plans.{change_of};
 ghost use Rattle.sql_changes.specs.Parts.{insert_refusal};
 
-use crate::plan::{Plan, Work};
+use crate::plan::{PlannedChange, Work};
 use crate::stored::{are_rows_too_long, has_null_row};
 use cell_core::{Cell, Column, Memory, Sequence, Table, Word, copy_cells, word_of};
 use sql_semantics::{Refusal, targets};
@@ -126,14 +126,14 @@ pub(crate) fn insert_plan(
     listed: &[Word],
     rows: &[Sequence<Cell>],
     table: &Table,
-) -> Result<Plan, Memory>
+) -> Result<PlannedChange, Memory>
     ensures { IfOk result (λ plan. change_of plan table.now.rows ≡ inserted listed.now rows.now table.now) }
 {
     let columns = table.columns.as_slice();
     let targets = targets(alloc, columns, listed)?;
     let placed = placed_rows(alloc, columns, listed, rows)?;
     match refusal_for(alloc, targets.as_slice(), rows, placed.as_slice(), table)? {
-        Some(refusal) => Ok(Plan::Refused(refusal)),
-        None => Ok(Plan::Accepted(Work::Adds(placed))),
+        Some(refusal) => Ok(PlannedChange::Refused(refusal)),
+        None => Ok(PlannedChange::Accepted(Work::Adds(placed))),
     }
 }

@@ -19,7 +19,7 @@ pub(crate) enum Work {
 
 /// What a change is to do, or why it is refused.
 #[derive(Drop)]
-pub(crate) enum Plan {
+pub(crate) enum PlannedChange {
     /// It is refused.
     Refused(Refusal),
     /// It does this.

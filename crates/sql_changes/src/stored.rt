@@ -6,7 +6,7 @@ ghost use Rattle.sql_semantics.specs.Effect.{is_long_default, is_null_refused as
 use cell_core::{Cell, Column, Sequence};
 
 /// How many characters a text has.
-fn count_of(text: &str) -> usize
+fn character_count(text: &str) -> usize
     ensures { result ≡ length (chars text.now) }
 {
     text.chars().count()
@@ -17,7 +17,9 @@ pub(crate) fn is_too_long(column: &Column, cell: &Cell) -> bool
     ensures { result ≡ is_too_long_of column.now cell.now }
 {
     match cell {
-        Cell::Text(word) => { column.width != 0 && (column.width as usize) < count_of(word.text()) }
+        Cell::Text(word) => {
+            column.width != 0 && (column.width as usize) < character_count(word.text())
+        }
         _ => false,
     }
 }

@@ -11,9 +11,9 @@ ghost use Rattle.sql_changes.specs.Parts.{constants_overflow as constants_overfl
 use crate::fate::Fate;
 use crate::fault::{Fault, has_any_fault};
 use crate::hits::{cell_of, hits, is_true_of};
-use crate::plan::{Plan, Work};
+use crate::plan::{PlannedChange, Work};
 use cell_core::{Cell, Column, Memory, Sequence, Table, Word};
-use sql_meaning::{Row, cond_overflows, constant_overflows};
+use sql_meaning::{LentRow, cond_overflows, constant_overflows};
 use sql_semantics::Refusal;
 use sql_tree::{Cond, Expr};
 use std::alloc::Global;
@@ -44,7 +44,7 @@ fn refusal_for(
     table: &Table,
     sets: &[(Word, Expr)],
     cond: &Option<Cond>,
-    rows: &[Row<'_>],
+    rows: &[LentRow<'_>],
 ) -> Result<Option<Refusal>, Memory>
     ensures { IfOk result (λ found. found ≡ update_refusal (map set_tree sets.now) (option_map cond_tree cond.now) table.now rows.now) }
 {
@@ -78,7 +78,7 @@ fn find_set<'a>(sets: &'a [(Word, Expr)], name: &Word) -> Option<&'a (Word, Expr
 #[tactic(auto, unfolding(crate::specs::Parts::set_at))]
 fn set_cell(
     table: &Table,
-    row: &Row<'_>,
+    row: &LentRow<'_>,
     sets: &[(Word, Expr)],
     column: &Column,
     cell: &Cell,
@@ -96,7 +96,7 @@ fn set_cells(
     alloc: Global,
     table: &Table,
     sets: &[(Word, Expr)],
-    row: &Row<'_>,
+    row: &LentRow<'_>,
     columns: &[Column],
     cells: &[Cell],
 ) -> Result<Sequence<Cell>, Memory>
@@ -121,7 +121,7 @@ fn updated_row(
     alloc: Global,
     table: &Table,
     sets: &[(Word, Expr)],
-    row: &Row<'_>,
+    row: &LentRow<'_>,
 ) -> Result<Sequence<Cell>, Memory>
     ensures { IfOk result (λ new. new ≡ updated_row_of (map set_tree sets.now) table.now row.now) }
 {
@@ -135,7 +135,7 @@ fn fate_of(
     table: &Table,
     sets: &[(Word, Expr)],
     cond: &Option<Cond>,
-    row: &Row<'_>,
+    row: &LentRow<'_>,
 ) -> Result<Fate, Memory>
     ensures { IfOk result (λ fate. fate ≡ updated_fate (map set_tree sets.now) (option_map cond_tree cond.now) table.now row.now) }
 {
@@ -158,7 +158,7 @@ fn fates_of_rows(
     let mut fates = Sequence::new(alloc);
     let mut rest = table.rows.as_slice();
     'rows: while let [row, more @ ..] = rest {
-        fates.push(fate_of(alloc, table, sets, cond, &Row::new(row))?)?;
+        fates.push(fate_of(alloc, table, sets, cond, &LentRow::new(row))?)?;
         rest = more;
     }
     Ok(fates)
@@ -170,15 +170,15 @@ pub(crate) fn update_plan(
     sets: &[(Word, Expr)],
     cond: &Option<Cond>,
     table: &Table,
-) -> Result<Plan, Memory>
+) -> Result<PlannedChange, Memory>
     ensures { IfOk result (λ plan. change_of plan table.now.rows ≡ updated (map set_tree sets.now) (option_map cond_tree cond.now) table.now) }
 {
     let rows = hits(alloc, table, cond)?;
     match refusal_for(table, sets, cond, &rows)? {
-        Some(refusal) => Ok(Plan::Refused(refusal)),
+        Some(refusal) => Ok(PlannedChange::Refused(refusal)),
         None => {
             let fates = fates_of_rows(alloc, table, sets, cond)?;
-            Ok(Plan::Accepted(Work::Settles(fates)))
+            Ok(PlannedChange::Accepted(Work::Settles(fates)))
         }
     }
 }

@@ -7,10 +7,9 @@ use Rattle.cell_core.specs.declared.cell.Kind.{Kind}
 use Rattle.cell_core.specs.declared.table.Column.{Column}
 use Rattle.sql_semantics.specs.Kinds.{column_at}
 use Rattle.sql_tree.specs.Names.{name_text}
-use Rattle.sql_tree.specs.Tree.{ExprTree, CondTree, ItemTree, item_tree, set_tree}
+use Rattle.sql_tree.specs.Tree.{ExprTree, CondTree, ItemTree, set_tree}
 use Rattle.sql_tree.specs.declared.tree.ColRef.{ColRef}
 use Rattle.sql_tree.specs.declared.tree.Expr.{Expr}
-use Rattle.sql_tree.specs.declared.tree.Item.{Item}
 use Rattle.sql_tree.specs.declared.tree.SortKey.{SortKey}
 use Rattle.sql_semantics.specs.declared.called.Found.{Found}
 use Rattle.sql_semantics.specs.declared.called.Found.TheVariants.{Nowhere, At, Twice}
@@ -30,10 +29,7 @@ misplaced_found ref Nowhere = Some (NoColumn (name_text ref.column))
 misplaced_found ref (At table column) = None
 misplaced_found ref Twice = Some (Ambiguous (name_text ref.column))
 
--- the expressions of items, and those of SET
-abbrev pub exprs_of : List Item → List ExprTree
-exprs_of items = map (λ (item : ItemTree). item.expr) (map item_tree items)
-
+-- the expressions of SET
 abbrev pub set_exprs : List (List ℕ × Expr) → List ExprTree
 set_exprs sets = map (λ (set : List ℕ × ExprTree). set.1) (map set_tree sets)
 

@@ -5,7 +5,8 @@ ghost use Rattle.sql_tree.specs.Tree.{cond_tree, expr_tree};
 ghost use Rattle.sql_semantics.specs.Sources.{same_place as same_place_of};
 ghost use Rattle.sql_tree.specs.Exprs.{cond_exprs, exprs_of_cond};
 ghost use Rattle.sql_semantics.specs.Check.{is_group_column as is_group_column_of};
-ghost use Rattle.sql_check.specs.First.{first, first_by, ungrouped, ungrouped_expr, exprs_of};
+ghost use Rattle.sql_check.specs.First.{first, first_by, ungrouped, ungrouped_expr};
+ghost use Rattle.sql_semantics.specs.Exprs.{exprs_of};
 
 use crate::references::place;
 use cell_core::Memory;

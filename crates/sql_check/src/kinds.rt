@@ -6,7 +6,8 @@ ghost use Rattle.cell_core.specs.Kinds as kinds;
 ghost use Rattle.sql_tree.specs.Tree.{cond_tree, expr_tree};
 ghost use Rattle.sql_semantics.specs.Kinds as sql;
 ghost use Rattle.sql_semantics.specs.Check.{is_misfit_cond};
-ghost use Rattle.sql_check.specs.First.{exprs_of, kind_at_place};
+ghost use Rattle.sql_check.specs.First.{kind_at_place};
+ghost use Rattle.sql_semantics.specs.Exprs.{exprs_of};
 
 use crate::references::place;
 use cell_calc::{agrees, are_comparable, kind_of};

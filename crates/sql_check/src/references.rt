@@ -5,7 +5,8 @@ ghost use Rattle.sql_tree.specs.Tree.{cond_tree, expr_tree};
 ghost use Rattle.sql_semantics.specs.Sources.{place_of, places};
 ghost use Rattle.sql_tree.specs.Exprs.{cond_exprs, exprs_of_cond};
 ghost use Rattle.sql_semantics.specs.Check.{misplaced, bad_references as bad_references_of};
-ghost use Rattle.sql_check.specs.First.{first, first_by, bad_expr, misplaced_found, exprs_of, set_exprs};
+ghost use Rattle.sql_check.specs.First.{first, first_by, bad_expr, misplaced_found, set_exprs};
+ghost use Rattle.sql_semantics.specs.Exprs.{exprs_of};
 
 use cell_core::{Memory, Word};
 use sql_semantics::{Called, Found, Refusal, column_place, find_column};

@@ -11,7 +11,7 @@ ghost use Rattle.sql_semantics.specs.Answer.{key_place as key_place_of, limited,
 use crate::groups::{distinct, groups_of};
 use crate::kept::kept_choices;
 use crate::overflow::{constants_overflow, shown_overflow};
-use crate::row::Row;
+use crate::row::LentRow;
 use crate::rows::{choice_rows, group_rows};
 use crate::tables::{Named, called_all, from_tables};
 use cell_core::{Cell, Db, Memory, RunError, Sequence, sort_rows_by};
@@ -93,7 +93,7 @@ fn rows_of_query(
     sources: &[Called<'_>],
     items: &[Item],
     query: &Query,
-    choices: Vec<Sequence<Row<'_>>>,
+    choices: Vec<Sequence<LentRow<'_>>>,
 ) -> Result<Vec<Sequence<Cell>>, Memory>
     requires { map item_tree items.now ≡ items_of sources.now (query_tree query.now) }
     ensures { IfOk result (λ rows. rows.items ≡ rows_from sources.now (query_tree query.now) choices.entry.items) }

@@ -5,7 +5,7 @@ ghost use Rattle.sql_semantics.specs.Rows.{same_cells as same_cells_of, group_ke
 ghost use Rattle.sql_meaning.specs.Members.{members_by};
 
 use crate::kept::again;
-use crate::row::Row;
+use crate::row::LentRow;
 use crate::value::column_cell;
 use cell_core::{Cell, Memory, Sequence, copy_cells};
 use sql_semantics::Called;
@@ -58,7 +58,7 @@ fn group_key(
     alloc: Global,
     sources: &[Called<'_>],
     refs: &[ColRef],
-    choice: &[Row<'_>],
+    choice: &[LentRow<'_>],
 ) -> Result<Sequence<Cell>, Memory>
     ensures { IfOk result (λ key. key ≡ group_key_of sources.now refs.now choice.now) }
 {
@@ -76,7 +76,7 @@ fn group_keys(
     alloc: Global,
     sources: &[Called<'_>],
     refs: &[ColRef],
-    choices: &[Sequence<Row<'_>>],
+    choices: &[Sequence<LentRow<'_>>],
 ) -> Result<Vec<Sequence<Cell>>, Memory>
     ensures { IfOk result (λ keys. keys.items ≡ map (group_key_of sources.now refs.now) choices.now) }
 {
@@ -93,9 +93,9 @@ fn group_keys(
 fn members<'a>(
     alloc: Global,
     keys: &[Sequence<Cell>],
-    choices: &[Sequence<Row<'a>>],
+    choices: &[Sequence<LentRow<'a>>],
     cells: &[Cell],
-) -> Result<Sequence<Sequence<Row<'a>>>, Memory>
+) -> Result<Sequence<Sequence<LentRow<'a>>>, Memory>
     ensures { IfOk result (λ group. group ≡ members_by keys.now choices.now cells.now) }
 {
     let mut group = Sequence::new(alloc);
@@ -117,9 +117,9 @@ fn members<'a>(
 fn groups_of_keys<'a>(
     alloc: Global,
     keys: &[Sequence<Cell>],
-    choices: &[Sequence<Row<'a>>],
+    choices: &[Sequence<LentRow<'a>>],
     names: &[Sequence<Cell>],
-) -> Result<Vec<Sequence<Sequence<Row<'a>>>>, Memory>
+) -> Result<Vec<Sequence<Sequence<LentRow<'a>>>>, Memory>
     ensures { IfOk result (λ groups. groups.items ≡ map (members_by keys.now choices.now) names.now) }
 {
     let mut groups = Vec::new(alloc);
@@ -137,8 +137,8 @@ pub(crate) fn groups_of<'a>(
     alloc: Global,
     sources: &[Called<'_>],
     refs: &[ColRef],
-    choices: Vec<Sequence<Row<'a>>>,
-) -> Result<Vec<Sequence<Sequence<Row<'a>>>>, Memory>
+    choices: Vec<Sequence<LentRow<'a>>>,
+) -> Result<Vec<Sequence<Sequence<LentRow<'a>>>>, Memory>
     ensures { IfOk result (λ groups. groups.items ≡ groups_of_choices sources.now refs.now choices.entry.items) }
 {
     if refs.is_empty() {

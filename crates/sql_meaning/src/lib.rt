@@ -20,5 +20,5 @@ mod value;
 
 pub use answer::slow_answer;
 pub use kept::{cond_overflows, is_kept};
-pub use row::Row;
+pub use row::LentRow;
 pub use value::{cell_over, constant_overflows, overflows_over, value_over};

@@ -6,10 +6,10 @@ ghost use Rattle.sql_tree.specs.Tree.{cond_tree, expr_tree};
 ghost use Rattle.sql_tree.specs.Exprs.{cond_exprs, exprs_of_cond};
 ghost use Rattle.sql_semantics.specs.Values.{constant_overflows as constant_overflows_of, over_choices};
 ghost use Rattle.sql_semantics.specs.Rows.{overflows_for};
-ghost use Rattle.sql_meaning.specs.Exprs.{exprs_of};
+ghost use Rattle.sql_semantics.specs.Exprs.{exprs_of};
 
 use crate::kept::cond_overflows;
-use crate::row::Row;
+use crate::row::LentRow;
 use crate::value::{constant_overflows, value_over};
 use cell_core::{Memory, Sequence};
 use sql_semantics::Called;
@@ -44,7 +44,7 @@ pub(crate) fn constants_overflow(
 /// Whether an expression leaves the range for some choice.
 fn overflows(
     sources: &[Called<'_>],
-    choices: &[Sequence<Row<'_>>],
+    choices: &[Sequence<LentRow<'_>>],
     expr: &Expr,
 ) -> Result<bool, Memory>
     ensures { IfOk result (λ overflows. overflows ≡ overflows_for sources.now choices.now (expr_tree expr.now)) }
@@ -62,7 +62,7 @@ fn overflows(
 /// The same of what an item or a side of a test takes over single choices.
 fn part_overflows(
     sources: &[Called<'_>],
-    choices: &[Sequence<Row<'_>>],
+    choices: &[Sequence<LentRow<'_>>],
     expr: &Expr,
 ) -> Result<bool, Memory>
     ensures { IfOk result (λ overflows. overflows ≡ list_any (overflows_for sources.now choices.now) (over_choices (expr_tree expr.now))) }
@@ -80,7 +80,7 @@ fn part_overflows(
 #[tactic(auto, using(crate::proofs::ListLemmas::any_in_both))]
 fn items_overflow_over(
     sources: &[Called<'_>],
-    choices: &[Sequence<Row<'_>>],
+    choices: &[Sequence<LentRow<'_>>],
     items: &[Item],
 ) -> Result<bool, Memory>
     ensures { IfOk result (λ overflows. overflows ≡ list_any (overflows_for sources.now choices.now) (flat_map over_choices (exprs_of items.now))) }
@@ -99,7 +99,7 @@ fn items_overflow_over(
 #[tactic(auto, using(crate::proofs::ListLemmas::any_in_both, crate::proofs::ListLemmas::flat_in_both))]
 fn tree_overflows_over(
     sources: &[Called<'_>],
-    choices: &[Sequence<Row<'_>>],
+    choices: &[Sequence<LentRow<'_>>],
     cond: &Cond,
 ) -> Result<bool, Memory>
     ensures { IfOk result (λ overflows. overflows ≡ list_any (overflows_for sources.now choices.now) (flat_map over_choices (cond_exprs (cond_tree cond.now)))) }
@@ -129,7 +129,7 @@ fn tree_overflows_over(
 /// The same of HAVING, which may not be there.
 fn having_overflows_over(
     sources: &[Called<'_>],
-    choices: &[Sequence<Row<'_>>],
+    choices: &[Sequence<LentRow<'_>>],
     having: &Option<Cond>,
 ) -> Result<bool, Memory>
     ensures { IfOk result (λ overflows. overflows ≡ list_any (overflows_for sources.now choices.now) (flat_map over_choices (exprs_of_cond (option_map cond_tree having.now)))) }
@@ -144,7 +144,7 @@ fn having_overflows_over(
 #[tactic(auto, using(crate::proofs::ListLemmas::any_in_both, crate::proofs::ListLemmas::flat_in_both))]
 pub(crate) fn shown_overflow(
     sources: &[Called<'_>],
-    choices: &[Sequence<Row<'_>>],
+    choices: &[Sequence<LentRow<'_>>],
     items: &[Item],
     having: &Option<Cond>,
 ) -> Result<bool, Memory>

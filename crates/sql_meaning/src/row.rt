@@ -5,11 +5,11 @@ use std::marker::Model;
 
 /// A row of a table, lent. Contracts see its cells.
 #[derive(Drop)]
-pub struct Row<'a> {
+pub struct LentRow<'a> {
     cells: &'a Sequence<Cell>,
 }
 
-impl<'a> Model for Row<'a> {
+impl<'a> Model for LentRow<'a> {
     ghost use Rattle.std.specs.Prelude.{List};
     ghost use Rattle.cell_core.specs.declared.cell.Cell.{Cell};
 
@@ -18,12 +18,12 @@ impl<'a> Model for Row<'a> {
     ghost view = { λ row. row.cells.now };
 }
 
-impl<'a> Row<'a> {
+impl<'a> LentRow<'a> {
     /// A row with these cells.
-    pub fn new(cells: &'a Sequence<Cell>) -> Row<'a>
+    pub fn new(cells: &'a Sequence<Cell>) -> LentRow<'a>
         ensures { result ≡ cells.now }
     {
-        Row { cells }
+        LentRow { cells }
     }
 
     /// Its cells.
@@ -34,9 +34,9 @@ impl<'a> Row<'a> {
     }
 
     /// The same row, lent once more.
-    pub fn again(&self) -> Row<'a>
+    pub fn again(&self) -> LentRow<'a>
         ensures { result ≡ self.now }
     {
-        Row { cells: self.cells }
+        LentRow { cells: self.cells }
     }
 }

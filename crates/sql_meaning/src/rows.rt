@@ -4,9 +4,9 @@ ghost use Rattle.std.specs.Option.{option_map};
 ghost use Rattle.sql_tree.specs.Tree.{cond_tree};
 ghost use Rattle.sql_semantics.specs.Rows.{choice_row as choice_row_of};
 ghost use Rattle.sql_meaning.specs.Shown.{row_of_group, is_group_shown, rows_of_shown};
-ghost use Rattle.sql_meaning.specs.Exprs.{exprs_of};
+ghost use Rattle.sql_semantics.specs.Exprs.{exprs_of};
 
-use crate::row::Row;
+use crate::row::LentRow;
 use crate::scope::{Scope, group_cell, holds};
 use crate::value::cell_over;
 use cell_core::{Cell, Memory, Sequence};
@@ -19,7 +19,7 @@ fn choice_row(
     alloc: Global,
     sources: &[Called<'_>],
     items: &[Item],
-    choice: &[Row<'_>],
+    choice: &[LentRow<'_>],
 ) -> Result<Sequence<Cell>, Memory>
     ensures { IfOk result (λ row. row ≡ choice_row_of sources.now (exprs_of items.now) choice.now) }
 {
@@ -37,7 +37,7 @@ pub(crate) fn choice_rows(
     alloc: Global,
     sources: &[Called<'_>],
     items: &[Item],
-    choices: &[Sequence<Row<'_>>],
+    choices: &[Sequence<LentRow<'_>>],
 ) -> Result<Vec<Sequence<Cell>>, Memory>
     ensures { IfOk result (λ rows. rows.items ≡ map (choice_row_of sources.now (exprs_of items.now)) choices.now) }
 {
@@ -56,7 +56,7 @@ fn group_row(
     alloc: Global,
     sources: &[Called<'_>],
     items: &[Item],
-    group: &[Sequence<Row<'_>>],
+    group: &[Sequence<LentRow<'_>>],
 ) -> Result<Sequence<Cell>, Memory>
     ensures { IfOk result (λ row. row ≡ row_of_group sources.now (exprs_of items.now) group.now) }
 {
@@ -75,7 +75,7 @@ fn is_shown(
     alloc: Global,
     sources: &[Called<'_>],
     having: &Option<Cond>,
-    group: &[Sequence<Row<'_>>],
+    group: &[Sequence<LentRow<'_>>],
 ) -> Result<bool, Memory>
     ensures { IfOk result (λ shown. shown ≡ is_group_shown sources.now (option_map cond_tree having.now) group.now) }
 {
@@ -87,8 +87,8 @@ fn shown_groups<'a>(
     alloc: Global,
     sources: &[Called<'_>],
     having: &Option<Cond>,
-    groups: Vec<Sequence<Sequence<Row<'a>>>>,
-) -> Result<Vec<Sequence<Sequence<Row<'a>>>>, Memory>
+    groups: Vec<Sequence<Sequence<LentRow<'a>>>>,
+) -> Result<Vec<Sequence<Sequence<LentRow<'a>>>>, Memory>
     ensures { IfOk result (λ shown. shown.items ≡ filter (is_group_shown sources.now (option_map cond_tree having.now)) groups.entry.items) }
 {
     let mut shown = Vec::new(alloc);
@@ -105,7 +105,7 @@ fn rows_of_groups(
     alloc: Global,
     sources: &[Called<'_>],
     items: &[Item],
-    groups: &[Sequence<Sequence<Row<'_>>>],
+    groups: &[Sequence<Sequence<LentRow<'_>>>],
 ) -> Result<Vec<Sequence<Cell>>, Memory>
     ensures { IfOk result (λ rows. rows.items ≡ map (row_of_group sources.now (exprs_of items.now)) groups.now) }
 {
@@ -124,7 +124,7 @@ pub(crate) fn group_rows(
     sources: &[Called<'_>],
     items: &[Item],
     having: &Option<Cond>,
-    groups: Vec<Sequence<Sequence<Row<'_>>>>,
+    groups: Vec<Sequence<Sequence<LentRow<'_>>>>,
 ) -> Result<Vec<Sequence<Cell>>, Memory>
     ensures { IfOk result (λ rows. rows.items ≡ rows_of_shown sources.now (exprs_of items.now) (option_map cond_tree having.now) groups.entry.items) }
 {

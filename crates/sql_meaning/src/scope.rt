@@ -7,7 +7,7 @@ ghost use Rattle.sql_semantics.specs.Truth.{truth as truth_of, holds as holds_of
 ghost use Rattle.sql_meaning.specs.Scopes.{cell_in as cell_in_of};
 
 use crate::calc::{aggregate, compare_by, count};
-use crate::row::Row;
+use crate::row::LentRow;
 use crate::value::cell_over;
 use cell_calc::{both, either, opposite};
 use cell_core::{Cell, Memory, Sequence};
@@ -19,16 +19,16 @@ use std::alloc::Global;
 #[derive(Drop)]
 pub(crate) enum Scope<'a> {
     /// A choice of one row for each table.
-    Choice(&'a [Row<'a>]),
+    Choice(&'a [LentRow<'a>]),
     /// A group of choices.
-    Group(&'a [Sequence<Row<'a>>]),
+    Group(&'a [Sequence<LentRow<'a>>]),
 }
 
 /// The cells of an expression over the choices of a group.
 fn cells_over(
     alloc: Global,
     sources: &[Called<'_>],
-    group: &[Sequence<Row<'_>>],
+    group: &[Sequence<LentRow<'_>>],
     expr: &Expr,
 ) -> Result<Sequence<Cell>, Memory>
     ensures { IfOk result (λ cells. cells ≡ map (λ choice. cell_over_of sources.now choice (expr_tree expr.now)) group.now) }
@@ -43,7 +43,7 @@ fn cells_over(
 }
 
 /// The first choice of a group, or no rows.
-fn first_choice<'a, 'b>(group: &'b [Sequence<Row<'a>>]) -> &'b [Row<'a>]
+fn first_choice<'a, 'b>(group: &'b [Sequence<LentRow<'a>>]) -> &'b [LentRow<'a>]
     ensures { result.now ≡ first_choice_of group.now }
 {
     match group {
@@ -56,7 +56,7 @@ fn first_choice<'a, 'b>(group: &'b [Sequence<Row<'a>>]) -> &'b [Row<'a>]
 pub(crate) fn group_cell(
     alloc: Global,
     sources: &[Called<'_>],
-    group: &[Sequence<Row<'_>>],
+    group: &[Sequence<LentRow<'_>>],
     expr: &Expr,
 ) -> Result<Cell, Memory>
     ensures { IfOk result (λ cell. cell ≡ group_cell_of sources.now group.now (expr_tree expr.now)) }

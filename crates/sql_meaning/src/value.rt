@@ -6,7 +6,7 @@ ghost use Rattle.sql_semantics.specs.References.{is_constant as is_constant_of};
 ghost use Rattle.sql_semantics.specs.Values.{cell_at as cell_at_of, column_cell as column_cell_of, value as value_of, cell_over as cell_over_of, constant_overflows as constant_overflows_of};
 
 use crate::calc::calculate;
-use crate::row::Row;
+use crate::row::LentRow;
 use cell_core::{Cell, Memory};
 use sql_semantics::{Called, column_place};
 use sql_tree::{ColRef, Expr};
@@ -14,7 +14,7 @@ use sql_tree::{ColRef, Expr};
 /// The cell of the column that a reference means.
 pub(crate) fn column_cell(
     sources: &[Called<'_>],
-    choice: &[Row<'_>],
+    choice: &[LentRow<'_>],
     reference: &ColRef,
 ) -> Result<Cell, Memory>
     ensures { IfOk result (λ cell. cell ≡ column_cell_of sources.now choice.now reference.now) }
@@ -31,7 +31,7 @@ pub(crate) fn column_cell(
 }
 
 /// The cell at a place of a choice.
-fn cell_at<'a>(choice: &[Row<'a>], place: (usize, usize)) -> Option<&'a Cell>
+fn cell_at<'a>(choice: &[LentRow<'a>], place: (usize, usize)) -> Option<&'a Cell>
     ensures { option_copied result ≡ cell_at_of choice.now place }
 {
     match choice.get(place.0) {
@@ -43,7 +43,7 @@ fn cell_at<'a>(choice: &[Row<'a>], place: (usize, usize)) -> Option<&'a Cell>
 /// The value of an expression over a choice, or none where an operator in it leaves the range.
 pub fn value_over(
     sources: &[Called<'_>],
-    choice: &[Row<'_>],
+    choice: &[LentRow<'_>],
     expr: &Expr,
 ) -> Result<Option<Cell>, Memory>
     ensures { IfOk result (λ cell. cell ≡ value_of sources.now choice.now (expr_tree expr.now)) }
@@ -66,7 +66,11 @@ pub fn value_over(
 }
 
 /// The cell of an expression over a choice, which is Nil where it has no value.
-pub fn cell_over(sources: &[Called<'_>], choice: &[Row<'_>], expr: &Expr) -> Result<Cell, Memory>
+pub fn cell_over(
+    sources: &[Called<'_>],
+    choice: &[LentRow<'_>],
+    expr: &Expr,
+) -> Result<Cell, Memory>
     ensures { IfOk result (λ cell. cell ≡ cell_over_of sources.now choice.now (expr_tree expr.now)) }
 {
     match value_over(sources, choice, expr)? {
@@ -78,7 +82,7 @@ pub fn cell_over(sources: &[Called<'_>], choice: &[Row<'_>], expr: &Expr) -> Res
 /// Whether an operator in an expression leaves the range over a choice.
 pub fn overflows_over(
     sources: &[Called<'_>],
-    choice: &[Row<'_>],
+    choice: &[LentRow<'_>],
     expr: &Expr,
 ) -> Result<bool, Memory>
     ensures { IfOk result (λ overflows. overflows ≡ is_none (value_of sources.now choice.now (expr_tree expr.now))) }

@@ -11,7 +11,7 @@ use Rattle.sql_parse.proofs.BoundedExprs.{arithmetic_kept, unread_kept, expr_who
 use Rattle.sql_parse.proofs.Lists.{both, or_left, or_right, or_swapped, or_false, added, unchanged, of_choice, is_past, is_within, same_past}
 use Rattle.sql_reader.specs.Bounded.{some_column, has_unread, cond_has_unread, with_arithmetic, with_unread_test, with_cond_signs, bounded_join, bounded}
 use Rattle.sql_reader.specs.Derived.{expr_with, cond_with}
-use Rattle.sql_refusals.specs.Unread.{unread_cell, read_cond}
+use Rattle.sql_refusals.specs.Unread.{unread_cell, cond_as_read}
 use Rattle.sql_tree.specs.Tree.{ExprTree, CondTree}
 use Rattle.sql_tree.specs.Tree.ExprTree.{Literal, Operator}
 use Rattle.sql_tree.specs.Tree.CondTree.{Compare, Within, IsNull, Negation, Both, Either}
@@ -104,15 +104,15 @@ cond_arithmetic_kept (Negation cond) = cond_arithmetic_kept cond
 cond_arithmetic_kept (Both left right) = arithmetic_of_join Both (λ c d. refl) (cond_with bounded left) (cond_with bounded right) ∙ both _ _ _ _ (cond_arithmetic_kept left) (cond_arithmetic_kept right)
 cond_arithmetic_kept (Either left right) = arithmetic_of_join Either (λ c d. refl) (cond_with bounded left) (cond_with bounded right) ∙ both _ _ _ _ (cond_arithmetic_kept left) (cond_arithmetic_kept right)
 
-pub cond_unread_kept : (c : CondTree) → cond_has_unread (cond_with bounded c) ≡ cond_has_unread (read_cond c)
+pub cond_unread_kept : (c : CondTree) → cond_has_unread (cond_with bounded c) ≡ cond_has_unread (cond_as_read c)
 cond_unread_kept (Compare op left right) = both _ _ _ _ (unread_kept left) (ap (λ b. b || false) (unread_kept right))
 cond_unread_kept (Within of low high) = both _ _ _ _ (unread_kept of) (both _ _ _ _ (unread_kept low) (ap (λ b. b || false) (unread_kept high)))
 cond_unread_kept (IsNull of) = ap (λ b. b || false) (unread_kept of)
 cond_unread_kept (Negation cond) = cond_unread_kept cond
 cond_unread_kept (Both left right) =
-    unread_of_join Both unread_of_both (cond_with bounded left) (cond_with bounded right) ∙ both _ _ _ _ (cond_unread_kept left) (cond_unread_kept right) ∙ sym (unread_of_both (read_cond left) (read_cond right))
+    unread_of_join Both unread_of_both (cond_with bounded left) (cond_with bounded right) ∙ both _ _ _ _ (cond_unread_kept left) (cond_unread_kept right) ∙ sym (unread_of_both (cond_as_read left) (cond_as_read right))
 cond_unread_kept (Either left right) =
-    unread_of_join Either unread_of_both (cond_with bounded left) (cond_with bounded right) ∙ both _ _ _ _ (cond_unread_kept left) (cond_unread_kept right) ∙ sym (unread_of_both (read_cond left) (read_cond right))
+    unread_of_join Either unread_of_both (cond_with bounded left) (cond_with bounded right) ∙ both _ _ _ _ (cond_unread_kept left) (cond_unread_kept right) ∙ sym (unread_of_both (cond_as_read left) (cond_as_read right))
 
 joined_nodes : (all a b m n : ℕ) → min 129 all ≡ min 129 (a + b + 1) → min 129 a ≡ min 129 m → min 129 b ≡ min 129 n → min 129 all ≡ min 129 (m + n + 1)
 joined_nodes all a b m n e f g = omega arith

@@ -8,7 +8,7 @@ use Rattle.sql_grammar.specs.Refused.{expr_nodes, has_column, is_column_arithmet
 use Rattle.sql_parse.proofs.Lists.{both, or_left, or_right, or_swapped, added, unchanged, of_choice, is_past, is_within, same_past}
 use Rattle.sql_reader.specs.Bounded.{number_cell, some_column, has_unread, with_column, with_unread, with_signs, bounded_operator, bounded}
 use Rattle.sql_reader.specs.Derived.{cell_with, expr_with}
-use Rattle.sql_refusals.specs.Unread.{has_literal, unread_cell, is_unread_cell, read_cell, read_expr}
+use Rattle.sql_refusals.specs.Unread.{has_literal, unread_cell, is_unread_cell, cell_as_read, expr_as_read}
 use Rattle.sql_tree.specs.Tree.{ExprTree}
 use Rattle.sql_tree.specs.Tree.ExprTree.{Literal, ColumnOf, Operator, AggregateAll, Aggregate}
 use Rattle.sql_tree.specs.declared.tree.ArithOp.{ArithOp}
@@ -120,7 +120,7 @@ nodes_kept (Aggregate f of) = nodes_kept of
 pub large_kept : (e : ExprTree) → nat_lt 64 (expr_nodes (expr_with bounded e)) ≡ nat_lt 64 (expr_nodes e)
 large_kept e = same_past 64 _ _ (nodes_kept e)
 
-pub cell_kept : (c : Cell) → cell_with number_cell c ≡ read_cell c
+pub cell_kept : (c : Cell) → cell_with number_cell c ≡ cell_as_read c
 cell_kept cell.Nil = refl
 cell_kept (cell.Int n) = refl
 cell_kept (cell.Huge n) = refl
@@ -129,7 +129,7 @@ cell_kept (cell.Day day) = refl
 cell_kept (cell.Bit b) = refl
 cell_kept (cell.Oid n) = refl
 
-pub unread_kept : (e : ExprTree) → has_literal is_unread_cell (expr_with bounded e) ≡ has_literal is_unread_cell (read_expr e)
+pub unread_kept : (e : ExprTree) → has_literal is_unread_cell (expr_with bounded e) ≡ has_literal is_unread_cell (expr_as_read e)
 unread_kept (Literal literal) = ap is_unread_cell (cell_kept literal)
 unread_kept (ColumnOf column) = refl
 unread_kept (Operator op left right) = unread_of_operator op (expr_with bounded left) (expr_with bounded right) ∙ both _ _ _ _ (unread_kept left) (unread_kept right)

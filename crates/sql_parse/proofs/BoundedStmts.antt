@@ -16,7 +16,7 @@ use Rattle.sql_parse.proofs.Lists.{both, or_left, or_right, any_same, any_alike}
 use Rattle.sql_reader.specs.Bounded.{bounded, number_cell}
 use Rattle.sql_reader.specs.Derived.{cell_with, expr_with, cond_with}
 use Rattle.sql_refusals.specs.Laws.{KeepsLimits, LimitsAsRead}
-use Rattle.sql_refusals.specs.Unread.{Kept, has_literal, is_unread_cell, stmt_has_wide_number, passes_literal_as_read, read_limits, read_cell, read_cond, read_place, read_key, read_column, read_item, read_set, read_query, read_stmt}
+use Rattle.sql_refusals.specs.Unread.{Kept, has_literal, is_unread_cell, stmt_has_wide_number, passes_literal_as_read, read_limits, cell_as_read, cond_as_read, place_as_read, key_as_read, column_as_read, item_as_read, set_as_read, query_as_read, stmt_as_read}
 use Rattle.sql_statements.specs.Derived.{column_with, place_with, key_with, item_with, set_with, query_with, stmt_with, at_most, count_64, length_32}
 use Rattle.sql_tree.specs.Tree.{ExprTree, CondTree, ItemTree, QueryTree, StmtTree}
 use Rattle.sql_tree.specs.Tree.StmtTree.{CreateTable, DropTable, AlterTable, InsertInto, DeleteFrom, UpdateTable, Select, ExplainSelect}
@@ -94,55 +94,55 @@ keeps_limits = record { number = count_past; width = length_past }
 abbrev any_unread : List ExprTree → Bool
 any_unread es = list_any (has_literal is_unread_cell) es
 
-of_cond_unread : (o : Option CondTree) → any_unread (exprs_of_cond (option_map (cond_with bounded) o)) ≡ any_unread (exprs_of_cond (option_map read_cond o))
+of_cond_unread : (o : Option CondTree) → any_unread (exprs_of_cond (option_map (cond_with bounded) o)) ≡ any_unread (exprs_of_cond (option_map cond_as_read o))
 of_cond_unread None = refl
 of_cond_unread (Some c) = cond_unread_kept c
 
 appended : (xs ys xs' ys' : List ExprTree) → any_unread xs ≡ any_unread xs' → any_unread ys ≡ any_unread ys' → any_unread (xs ++ ys) ≡ any_unread (xs' ++ ys')
 appended xs ys xs' ys' e f = list_any-append (has_literal is_unread_cell) xs ys ∙ both _ _ _ _ e f ∙ sym (list_any-append (has_literal is_unread_cell) xs' ys')
 
-items_unread : (items : List ItemTree) → any_unread (map (λ (item : ItemTree). item.expr) (map kept_item items)) ≡ any_unread (map (λ (item : ItemTree). item.expr) (map read_item items))
+items_unread : (items : List ItemTree) → any_unread (map (λ (item : ItemTree). item.expr) (map kept_item items)) ≡ any_unread (map (λ (item : ItemTree). item.expr) (map item_as_read items))
 items_unread [] = refl
 items_unread (item ∷ items) = both _ _ _ _ (unread_kept item.expr) (items_unread items)
 
-sets_unread : (sets : List (List ℕ × ExprTree)) → any_unread (map (λ (set : List ℕ × ExprTree). set.1) (map kept_set sets)) ≡ any_unread (map (λ (set : List ℕ × ExprTree). set.1) (map read_set sets))
+sets_unread : (sets : List (List ℕ × ExprTree)) → any_unread (map (λ (set : List ℕ × ExprTree). set.1) (map kept_set sets)) ≡ any_unread (map (λ (set : List ℕ × ExprTree). set.1) (map set_as_read sets))
 sets_unread [] = refl
 sets_unread (set ∷ sets) = both _ _ _ _ (unread_kept set.1) (sets_unread sets)
 
-query_unread : (query : QueryTree) → any_unread (stmt_exprs (Select (kept_query query))) ≡ any_unread (stmt_exprs (Select (read_query (record { number = count_64; width = length_32 }) query)))
+query_unread : (query : QueryTree) → any_unread (stmt_exprs (Select (kept_query query))) ≡ any_unread (stmt_exprs (Select (query_as_read (record { number = count_64; width = length_32 }) query)))
 query_unread query =
     appended (map (λ (item : ItemTree). item.expr) (map kept_item query.items) ++ exprs_of_cond (option_map (cond_with bounded) query.cond)) (exprs_of_cond (option_map (cond_with bounded) query.having))
-    (map (λ (item : ItemTree). item.expr) (map read_item query.items) ++ exprs_of_cond (option_map read_cond query.cond)) (exprs_of_cond (option_map read_cond query.having))
+    (map (λ (item : ItemTree). item.expr) (map item_as_read query.items) ++ exprs_of_cond (option_map cond_as_read query.cond)) (exprs_of_cond (option_map cond_as_read query.having))
     (appended (map (λ (item : ItemTree). item.expr) (map kept_item query.items)) (exprs_of_cond (option_map (cond_with bounded) query.cond))
-    (map (λ (item : ItemTree). item.expr) (map read_item query.items)) (exprs_of_cond (option_map read_cond query.cond)) (items_unread query.items) (of_cond_unread query.cond)) (of_cond_unread query.having)
+    (map (λ (item : ItemTree). item.expr) (map item_as_read query.items)) (exprs_of_cond (option_map cond_as_read query.cond)) (items_unread query.items) (of_cond_unread query.cond)) (of_cond_unread query.having)
 
-place_alike : (place : Place) → is_wide_place (place_with bounded count_64 length_32 place) ≡ is_wide_place (read_place (record { number = count_64; width = length_32 }) place)
+place_alike : (place : Place) → is_wide_place (place_with bounded count_64 length_32 place) ≡ is_wide_place (place_as_read (record { number = count_64; width = length_32 }) place)
 place_alike (Position n) = refl
 place_alike (Named column) = refl
 
-wide_alike : (query : QueryTree) → stmt_has_wide_number (Select (kept_query query)) ≡ stmt_has_wide_number (Select (read_query (record { number = count_64; width = length_32 }) query))
+wide_alike : (query : QueryTree) → stmt_has_wide_number (Select (kept_query query)) ≡ stmt_has_wide_number (Select (query_as_read (record { number = count_64; width = length_32 }) query))
 wide_alike query =
     ap (λ b. b || is_wide_limit (option_map count_64 query.limit))
-    (any_alike kept_key (read_key (record { number = count_64; width = length_32 })) (λ (key : SortKey). is_wide_place key.at) (λ (key : SortKey). is_wide_place key.at) (λ key. place_alike key.at) query.keys)
+    (any_alike kept_key (key_as_read (record { number = count_64; width = length_32 })) (λ (key : SortKey). is_wide_place key.at) (λ (key : SortKey). is_wide_place key.at) (λ key. place_alike key.at) query.keys)
 
-cells_unread : (row : List _) → list_any is_unread_cell (map (cell_with number_cell) row) ≡ list_any is_unread_cell (map read_cell row)
-cells_unread row = any_alike (cell_with number_cell) read_cell is_unread_cell is_unread_cell (λ c. ap is_unread_cell (cell_kept c)) row
+cells_unread : (row : List _) → list_any is_unread_cell (map (cell_with number_cell) row) ≡ list_any is_unread_cell (map cell_as_read row)
+cells_unread row = any_alike (cell_with number_cell) cell_as_read is_unread_cell is_unread_cell (λ c. ap is_unread_cell (cell_kept c)) row
 
-defaults_unread : (columns : List Column) → list_any (λ (column : Column). is_unread_cell column.default) (map kept_column columns) ≡ list_any (λ (column : Column). is_unread_cell column.default) (map (read_column (record { number = count_64; width = length_32 })) columns)
+defaults_unread : (columns : List Column) → list_any (λ (column : Column). is_unread_cell column.default) (map kept_column columns) ≡ list_any (λ (column : Column). is_unread_cell column.default) (map (column_as_read (record { number = count_64; width = length_32 })) columns)
 defaults_unread columns =
-    any_alike kept_column (read_column (record { number = count_64; width = length_32 })) (λ (column : Column). is_unread_cell column.default) (λ (column : Column). is_unread_cell column.default) (λ column. ap is_unread_cell (cell_kept column.default)) columns
+    any_alike kept_column (column_as_read (record { number = count_64; width = length_32 })) (λ (column : Column). is_unread_cell column.default) (λ (column : Column). is_unread_cell column.default) (λ column. ap is_unread_cell (cell_kept column.default)) columns
 
-literal_alike : (s : StmtTree) → passes_literal_as_read (kept_stmt s) ≡ passes_literal_as_read (read_stmt (record { number = count_64; width = length_32 }) s)
+literal_alike : (s : StmtTree) → passes_literal_as_read (kept_stmt s) ≡ passes_literal_as_read (stmt_as_read (record { number = count_64; width = length_32 }) s)
 literal_alike (CreateTable table columns) = ap (λ b. b || false) (defaults_unread columns)
 literal_alike (DropTable table) = refl
 literal_alike (AlterTable table column) = ap (λ b. b || false) (defaults_unread (column ∷ []))
 literal_alike (InsertInto table columns rows) =
-    ap (λ b. b || false) (any_alike (map (cell_with number_cell)) (map read_cell) (list_any is_unread_cell) (list_any is_unread_cell) cells_unread rows)
+    ap (λ b. b || false) (any_alike (map (cell_with number_cell)) (map cell_as_read) (list_any is_unread_cell) (list_any is_unread_cell) cells_unread rows)
 literal_alike (DeleteFrom table cond) = ap (λ b. b || false) (of_cond_unread cond)
 literal_alike (UpdateTable table sets cond) =
     ap (λ b. b || false)
     (appended (map (λ (set : List ℕ × ExprTree). set.1) (map kept_set sets)) (exprs_of_cond (option_map (cond_with bounded) cond))
-    (map (λ (set : List ℕ × ExprTree). set.1) (map read_set sets)) (exprs_of_cond (option_map read_cond cond)) (sets_unread sets) (of_cond_unread cond))
+    (map (λ (set : List ℕ × ExprTree). set.1) (map set_as_read sets)) (exprs_of_cond (option_map cond_as_read cond)) (sets_unread sets) (of_cond_unread cond))
 literal_alike (Select query) = both _ _ _ _ (query_unread query) (wide_alike query)
 literal_alike (ExplainSelect query) = both _ _ _ _ (query_unread query) (wide_alike query)
 

@@ -9,8 +9,8 @@ use Rattle.sql_parse.specs.Errors.{error_of_tokens, error_of_reading}
 use Rattle.sql_parse.specs.Steps.{AreAnswered}
 use Rattle.sql_parse.specs.declared.error.ParseError.{ParseError}
 use Rattle.sql_parse.specs.declared.error.ParseError.TheVariants.{Refused}
-use Rattle.sql_reader.specs.declared.reading.ReadError.{ReadError}
-use Rattle.sql_reader.specs.declared.reading.ReadError.TheVariants as reading
+use Rattle.sql_reader.specs.declared.reading.TreeError.{TreeError}
+use Rattle.sql_reader.specs.declared.reading.TreeError.TheVariants as reading
 use Rattle.sql_semantics.specs.declared.refusal.Refusal.{Refusal}
 use Rattle.sql_semantics.specs.declared.refusal.Refusal.TheVariants.{Syntax}
 use Rattle.sql_tokens.specs.Laws.{HasNoTokens}
@@ -25,7 +25,7 @@ error_made (Ok x) made came is e = cc
 error_made (Err y) made came is e = let same : y ≡ made = is in cc
 
 -- tokens that derive no statement are refused as no syntax
-pub refused_reading : {X : Type 0} (all : List Placed) → ArePlain (tokens_in all) → (e : ReadError) → (IsErrOf {T = X} (Err e) reading.Syntax → (s : StmtTree) → Derives (tokens_in all) s → ⊥)
+pub refused_reading : {X : Type 0} (all : List Placed) → ArePlain (tokens_in all) → (e : TreeError) → (IsErrOf {T = X} (Err e) reading.Syntax → (s : StmtTree) → Derives (tokens_in all) s → ⊥)
     → (refusal : Refusal) → error_of_reading e ≡ Refused refusal → AreAnswered all (Err refusal)
 refused_reading all plain reading.Syntax none refusal is = let same : Syntax ≡ refusal = cc in subst (λ (r : Refusal). AreAnswered all (Err r)) same (by_syntax all plain (none refl))
 refused_reading all plain reading.Memory none refusal is = cc

@@ -1,7 +1,7 @@
 ghost use Rattle.std.specs.Prelude.{◌≡◌};
 
 use cell_core::Memory;
-use sql_reader::ReadError;
+use sql_reader::TreeError;
 use sql_semantics::Refusal;
 use sql_tokens::TokensError;
 use thiserror::Error;
@@ -40,15 +40,15 @@ impl From<TokensError> for ParseError {
     }
 }
 
-impl From<ReadError> for ParseError {
+impl From<TreeError> for ParseError {
     ghost use Rattle.sql_parse.specs.Errors.{error_of_reading};
 
     ghost from_gives = { λ e made. made ≡ error_of_reading e };
 
-    fn from(e: ReadError) -> ParseError {
+    fn from(e: TreeError) -> ParseError {
         match e {
-            ReadError::Syntax => ParseError::Refused(Refusal::Syntax),
-            ReadError::Memory => ParseError::Memory,
+            TreeError::Syntax => ParseError::Refused(Refusal::Syntax),
+            TreeError::Memory => ParseError::Memory,
         }
     }
 }

@@ -1,6 +1,6 @@
 //! The readers of an expression and of a condition alone, which `parse` doesn't call.
 use cell_core::Cell;
-use sql_reader::{ReadError, one_cond, one_expr, read_cond, read_expr, read_having};
+use sql_reader::{TreeError, one_cond, one_expr, read_cond, read_expr, read_having};
 use sql_refusals::{has_column, is_large_cond, is_large_expr};
 use sql_tokens::tokens;
 use sql_tree::{CmpOp, Cond, Expr};
@@ -53,7 +53,7 @@ fn other_texts_are_no_conditions(rt: HostRuntime) -> Result<(), Fail> {
     ];
     for text in &texts {
         let read = read_cond(alloc, tokens(alloc, text)?.as_slice());
-        assert!(rt; matches!(read, Err(ReadError::Syntax)));
+        assert!(rt; matches!(read, Err(TreeError::Syntax)));
     }
     Ok(())
 }

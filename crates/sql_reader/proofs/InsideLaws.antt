@@ -8,7 +8,7 @@ use Rattle.sql_reader.specs.CondReader.{aggregate_in, whole_expr, value, operand
 use Rattle.sql_reader.specs.Parts.{is_key, is_symbol}
 use Rattle.sql_reader.specs.Reader.{sign_in, closed, term_behind, term, expr_behind, expr, factor}
 use Rattle.sql_reader.specs.declared.conditions.Inside.{Inside}
-use Rattle.sql_reader.specs.declared.reading.ReadError.{ReadError}
+use Rattle.sql_reader.specs.declared.reading.TreeError.{TreeError}
 use Rattle.sql_reader.specs.declared.conditions.Inside.TheVariants.{Operand, Condition}
 use Rattle.sql_reader.proofs.ChainLemmas.{then_found, then_told, then_none, given_none, branch_false, branch_true, or_none, or_first}
 use Rattle.sql_reader.proofs.CondLaws.{unit_inner, condition_goes_on, condition_none}
@@ -209,6 +209,6 @@ pub same_inside : (operand other : Found ExprTree) (condition another : Found Co
 same_inside operand other condition another (Operand of) rest e f h = e ∙ h
 same_inside operand other condition another (Condition c) rest e f h = (e ∙ h.0, f ∙ h.1)
 
-pub found_inside : (operand other : Found ExprTree) (condition another : Found CondTree) (r : Result Inside ReadError) (rest : List Token) → operand ≡ other → condition ≡ another → IfOk r (λ found. IsInside other another found rest) → IfOk r (λ found. IsInside operand condition found rest)
+pub found_inside : (operand other : Found ExprTree) (condition another : Found CondTree) (r : Result Inside TreeError) (rest : List Token) → operand ≡ other → condition ≡ another → IfOk r (λ found. IsInside other another found rest) → IfOk r (λ found. IsInside operand condition found rest)
 found_inside operand other condition another (Ok found) rest e f h = same_inside operand other condition another found rest e f h
 found_inside operand other condition another (Err error) rest e f h = tt

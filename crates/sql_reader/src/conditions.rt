@@ -8,7 +8,7 @@ ghost use Rattle.sql_reader.specs.CondReader as reader;
 use crate::cursor::{Cursor, and, is_key, is_symbol, or};
 use crate::expressions::expr_behind;
 use crate::predicates::{test, test_behind, whole_expr};
-use crate::reading::ReadError;
+use crate::reading::TreeError;
 use crate::signs::with_cond_signs;
 use cell_core::Memory;
 use sql_refusals::is_large_cond;
@@ -21,10 +21,10 @@ pub fn whole_cond(
     alloc: Global,
     tokens: &mut Cursor<'_>,
     aggregates: bool,
-) -> Result<Cond, ReadError>
+) -> Result<Cond, TreeError>
     ensures found { IfOk result (λ c. reader.whole_cond bounded (reader.operand bounded aggregates)
         (tokens_in tokens.old.rest.now) ≡ Some (cond_tree c, tokens_in tokens.new.rest.now)) }
-    ensures none { IsErrOf result ReadError.Syntax →
+    ensures none { IsErrOf result TreeError.Syntax →
         reader.whole_cond bounded (reader.operand bounded aggregates) (tokens_in tokens.old.rest.now)
         ≡ None }
 {
@@ -41,11 +41,11 @@ pub(crate) fn cond(
     tokens: &mut Cursor<'_>,
     aggregates: bool,
     depth: usize,
-) -> Result<Cond, ReadError>
+) -> Result<Cond, TreeError>
     ensures found { IfOk result (λ c.
         reader.condition bounded (reader.unit bounded (reader.operand bounded aggregates) depth)
         (tokens_in tokens.old.rest.now) ≡ Some (cond_tree c, tokens_in tokens.new.rest.now)) }
-    ensures none { IsErrOf result ReadError.Syntax →
+    ensures none { IsErrOf result TreeError.Syntax →
         reader.condition bounded (reader.unit bounded (reader.operand bounded aggregates) depth)
         (tokens_in tokens.old.rest.now) ≡ None }
 {
@@ -62,12 +62,12 @@ fn cond_behind(
     aggregates: bool,
     depth: usize,
     first: Cond,
-) -> Result<Cond, ReadError>
+) -> Result<Cond, TreeError>
     ensures found { IfOk result (λ c.
         reader.condition_behind bounded (reader.unit bounded (reader.operand bounded aggregates) depth)
         (cond_tree first) (tokens_in tokens.old.rest.now)
         ≡ Some (cond_tree c, tokens_in tokens.new.rest.now)) }
-    ensures none { IsErrOf result ReadError.Syntax →
+    ensures none { IsErrOf result TreeError.Syntax →
         reader.condition_behind bounded (reader.unit bounded (reader.operand bounded aggregates) depth)
         (cond_tree first) (tokens_in tokens.old.rest.now) ≡ None }
 {
@@ -91,11 +91,11 @@ fn conj(
     tokens: &mut Cursor<'_>,
     aggregates: bool,
     depth: usize,
-) -> Result<Cond, ReadError>
+) -> Result<Cond, TreeError>
     ensures found { IfOk result (λ c.
         reader.conjunction bounded (reader.unit bounded (reader.operand bounded aggregates) depth)
         (tokens_in tokens.old.rest.now) ≡ Some (cond_tree c, tokens_in tokens.new.rest.now)) }
-    ensures none { IsErrOf result ReadError.Syntax →
+    ensures none { IsErrOf result TreeError.Syntax →
         reader.conjunction bounded (reader.unit bounded (reader.operand bounded aggregates) depth)
         (tokens_in tokens.old.rest.now) ≡ None }
 {
@@ -111,12 +111,12 @@ fn conj_behind(
     aggregates: bool,
     depth: usize,
     first: Cond,
-) -> Result<Cond, ReadError>
+) -> Result<Cond, TreeError>
     ensures found { IfOk result (λ c.
         reader.conjunction_behind bounded (reader.unit bounded (reader.operand bounded aggregates) depth)
         (cond_tree first) (tokens_in tokens.old.rest.now)
         ≡ Some (cond_tree c, tokens_in tokens.new.rest.now)) }
-    ensures none { IsErrOf result ReadError.Syntax →
+    ensures none { IsErrOf result TreeError.Syntax →
         reader.conjunction_behind bounded (reader.unit bounded (reader.operand bounded aggregates) depth)
         (cond_tree first) (tokens_in tokens.old.rest.now) ≡ None }
 {
@@ -140,16 +140,16 @@ fn unit(
     tokens: &mut Cursor<'_>,
     aggregates: bool,
     depth: usize,
-) -> Result<Cond, ReadError>
+) -> Result<Cond, TreeError>
     ensures found { IfOk result (λ c.
         reader.unit bounded (reader.operand bounded aggregates) depth
         (tokens_in tokens.old.rest.now) ≡ Some (cond_tree c, tokens_in tokens.new.rest.now)) }
-    ensures none { IsErrOf result ReadError.Syntax →
+    ensures none { IsErrOf result TreeError.Syntax →
         reader.unit bounded (reader.operand bounded aggregates) depth
         (tokens_in tokens.old.rest.now) ≡ None }
 {
     if depth == 0 {
-        return Err(ReadError::Syntax);
+        return Err(TreeError::Syntax);
     }
     inner_unit(alloc, tokens, aggregates, depth - 1)
 }
@@ -163,12 +163,12 @@ fn inner_unit(
     tokens: &mut Cursor<'_>,
     aggregates: bool,
     depth: usize,
-) -> Result<Cond, ReadError>
+) -> Result<Cond, TreeError>
     ensures found { IfOk result (λ c.
         reader.unit_of bounded (reader.operand bounded aggregates)
         (reader.unit bounded (reader.operand bounded aggregates) depth)
         (tokens_in tokens.old.rest.now) ≡ Some (cond_tree c, tokens_in tokens.new.rest.now)) }
-    ensures none { IsErrOf result ReadError.Syntax →
+    ensures none { IsErrOf result TreeError.Syntax →
         reader.unit_of bounded (reader.operand bounded aggregates)
         (reader.unit bounded (reader.operand bounded aggregates) depth)
         (tokens_in tokens.old.rest.now) ≡ None }
@@ -206,14 +206,14 @@ fn enclosed(
     tokens: &mut Cursor<'_>,
     aggregates: bool,
     depth: usize,
-) -> Result<Inside, ReadError>
+) -> Result<Inside, TreeError>
     ensures found { IfOk result (λ inside. reader.IsInside
         (reader.operand_inside bounded (tokens_in tokens.old.rest.now))
         (reader.condition_inside bounded (reader.unit bounded (reader.operand bounded aggregates) depth)
         (tokens_in tokens.old.rest.now)) inside (tokens_in tokens.new.rest.now)) }
-    ensures no_operand { IsErrOf result ReadError.Syntax →
+    ensures no_operand { IsErrOf result TreeError.Syntax →
         reader.operand_inside bounded (tokens_in tokens.old.rest.now) ≡ None }
-    ensures no_condition { IsErrOf result ReadError.Syntax →
+    ensures no_condition { IsErrOf result TreeError.Syntax →
         reader.condition_inside bounded (reader.unit bounded (reader.operand bounded aggregates) depth)
         (tokens_in tokens.old.rest.now) ≡ None }
 {
@@ -241,22 +241,22 @@ fn first_inside(
     tokens: &mut Cursor<'_>,
     aggregates: bool,
     depth: usize,
-) -> Result<Inside, ReadError>
+) -> Result<Inside, TreeError>
     ensures found { IfOk result (λ inside. reader.IsInside
         (reader.operand_inside bounded (tokens_in tokens.old.rest.now))
         (reader.condition_inside bounded (reader.unit bounded (reader.operand bounded aggregates) depth)
         (tokens_in tokens.old.rest.now)) inside (tokens_in tokens.new.rest.now)) }
-    ensures no_operand { IsErrOf result ReadError.Syntax →
+    ensures no_operand { IsErrOf result TreeError.Syntax →
         reader.operand_inside bounded (tokens_in tokens.old.rest.now) ≡ None }
-    ensures no_condition { IsErrOf result ReadError.Syntax →
+    ensures no_condition { IsErrOf result TreeError.Syntax →
         reader.condition_inside bounded (reader.unit bounded (reader.operand bounded aggregates) depth)
         (tokens_in tokens.old.rest.now) ≡ None }
 {
     let start = tokens.rest;
     match closed_expr(alloc, tokens) {
         Ok(operand) => Ok(Inside::Operand(operand)),
-        Err(ReadError::Memory) => Err(ReadError::Memory),
-        Err(ReadError::Syntax) => {
+        Err(TreeError::Memory) => Err(TreeError::Memory),
+        Err(TreeError::Syntax) => {
             tokens.rest = start;
             let condition = cond(alloc, tokens, aggregates, depth)?;
             tokens.close()?;
@@ -274,15 +274,15 @@ fn inside_from(
     depth: usize,
     levels: usize,
     first: Expr,
-) -> Result<Inside, ReadError>
+) -> Result<Inside, TreeError>
     ensures found { IfOk result (λ inside. reader.IsInside
         (reader.operand_from bounded levels (expr_tree first) (tokens_in tokens.old.rest.now))
         (reader.condition_from bounded (reader.operand bounded aggregates)
         (reader.unit bounded (reader.operand bounded aggregates) depth) levels (expr_tree first)
         (tokens_in tokens.old.rest.now)) inside (tokens_in tokens.new.rest.now)) }
-    ensures no_operand { IsErrOf result ReadError.Syntax →
+    ensures no_operand { IsErrOf result TreeError.Syntax →
         reader.operand_from bounded levels (expr_tree first) (tokens_in tokens.old.rest.now) ≡ None }
-    ensures no_condition { IsErrOf result ReadError.Syntax →
+    ensures no_condition { IsErrOf result TreeError.Syntax →
         reader.condition_from bounded (reader.operand bounded aggregates)
         (reader.unit bounded (reader.operand bounded aggregates) depth) levels (expr_tree first)
         (tokens_in tokens.old.rest.now) ≡ None }
@@ -305,12 +305,12 @@ fn closed_cond(
     aggregates: bool,
     depth: usize,
     first: Cond,
-) -> Result<Cond, ReadError>
+) -> Result<Cond, TreeError>
     ensures found { IfOk result (λ c.
         reader.closed_condition bounded (reader.unit bounded (reader.operand bounded aggregates) depth)
         (cond_tree first) (tokens_in tokens.old.rest.now)
         ≡ Some (cond_tree c, tokens_in tokens.new.rest.now)) }
-    ensures none { IsErrOf result ReadError.Syntax →
+    ensures none { IsErrOf result TreeError.Syntax →
         reader.closed_condition bounded (reader.unit bounded (reader.operand bounded aggregates) depth)
         (cond_tree first) (tokens_in tokens.old.rest.now) ≡ None }
 {
@@ -320,10 +320,10 @@ fn closed_cond(
 }
 
 /// An expression, and the `)` behind it.
-fn closed_expr(alloc: Global, tokens: &mut Cursor<'_>) -> Result<Expr, ReadError>
+fn closed_expr(alloc: Global, tokens: &mut Cursor<'_>) -> Result<Expr, TreeError>
     ensures found { IfOk result (λ e. reader.operand_inside bounded
         (tokens_in tokens.old.rest.now) ≡ Some (expr_tree e, tokens_in tokens.new.rest.now)) }
-    ensures none { IsErrOf result ReadError.Syntax →
+    ensures none { IsErrOf result TreeError.Syntax →
         reader.operand_inside bounded (tokens_in tokens.old.rest.now) ≡ None }
 {
     let operand = whole_expr(alloc, tokens)?;
@@ -339,11 +339,11 @@ fn test_from(
     aggregates: bool,
     levels: usize,
     first: Expr,
-) -> Result<Cond, ReadError>
+) -> Result<Cond, TreeError>
     ensures found { IfOk result (λ c.
         reader.test_from bounded (reader.operand bounded aggregates) levels (expr_tree first)
         (tokens_in tokens.old.rest.now) ≡ Some (cond_tree c, tokens_in tokens.new.rest.now)) }
-    ensures none { IsErrOf result ReadError.Syntax →
+    ensures none { IsErrOf result TreeError.Syntax →
         reader.test_from bounded (reader.operand bounded aggregates) levels (expr_tree first)
         (tokens_in tokens.old.rest.now) ≡ None }
 {

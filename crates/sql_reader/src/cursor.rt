@@ -5,7 +5,7 @@ ghost use Rattle.sql_reader.specs.CondReader as conditions;
 ghost use Rattle.sql_reader.specs.Parts as parts;
 ghost use Rattle.sql_reader.specs.Reader as reader;
 
-use crate::reading::ReadError;
+use crate::reading::TreeError;
 use cell_core::Word;
 use sql_tree::{AggOp, ArithOp, CmpOp, Keyword, Placed, Symbol, Token};
 
@@ -61,54 +61,54 @@ impl<'a> Cursor<'a> {
     }
 
     /// Takes a keyword that has to stand here.
-    pub fn key(&mut self, word: Keyword) -> Result<(), ReadError>
+    pub fn key(&mut self, word: Keyword) -> Result<(), TreeError>
         ensures rest { tokens_in self.new.rest.now ≡ after_first (tokens_in self.old.rest.now) }
         ensures found { OnOk result (parts.is_key word (first_token (tokens_in self.old.rest.now)) ≡ true) }
-        ensures none { IsErrOf result ReadError.Syntax →
+        ensures none { IsErrOf result TreeError.Syntax →
             parts.is_key word (first_token (tokens_in self.old.rest.now)) ≡ false }
     {
         if is_key(self.next(), word) {
             Ok(())
         } else {
-            Err(ReadError::Syntax)
+            Err(TreeError::Syntax)
         }
     }
 
     /// Takes a symbol that has to stand here.
-    pub fn symbol(&mut self, symbol: Symbol) -> Result<(), ReadError>
+    pub fn symbol(&mut self, symbol: Symbol) -> Result<(), TreeError>
         ensures rest { tokens_in self.new.rest.now ≡ after_first (tokens_in self.old.rest.now) }
         ensures found { OnOk result (parts.is_symbol symbol (first_token (tokens_in self.old.rest.now)) ≡ true) }
-        ensures none { IsErrOf result ReadError.Syntax →
+        ensures none { IsErrOf result TreeError.Syntax →
             parts.is_symbol symbol (first_token (tokens_in self.old.rest.now)) ≡ false }
     {
         if is_symbol(self.next(), symbol) {
             Ok(())
         } else {
-            Err(ReadError::Syntax)
+            Err(TreeError::Syntax)
         }
     }
 
     /// Passes only where no token is left.
-    pub fn end(&self) -> Result<(), ReadError>
+    pub fn end(&self) -> Result<(), TreeError>
         ensures found { OnOk result (tokens_in self.now.rest.now ≡ []) }
-        ensures none { IsErrOf result ReadError.Syntax → 0 < length (tokens_in self.now.rest.now) }
+        ensures none { IsErrOf result TreeError.Syntax → 0 < length (tokens_in self.now.rest.now) }
     {
         match self.rest {
             [] => Ok(()),
-            _ => Err(ReadError::Syntax),
+            _ => Err(TreeError::Syntax),
         }
     }
 
     /// Takes a `)` that has to stand here.
-    pub fn close(&mut self) -> Result<(), ReadError>
+    pub fn close(&mut self) -> Result<(), TreeError>
         ensures rest { tokens_in self.new.rest.now ≡ after_first (tokens_in self.old.rest.now) }
         ensures found { OnOk result (reader.is_close (first_token (tokens_in self.old.rest.now)) ≡ true) }
-        ensures none { IsErrOf result ReadError.Syntax →
+        ensures none { IsErrOf result TreeError.Syntax →
             reader.is_close (first_token (tokens_in self.old.rest.now)) ≡ false }
     {
         match self.next() {
             Some(Token::Symbol(Symbol::Close)) => Ok(()),
-            _ => Err(ReadError::Syntax),
+            _ => Err(TreeError::Syntax),
         }
     }
 }

@@ -7,7 +7,7 @@ ghost use Rattle.sql_reader.specs.Reader as reader;
 
 use crate::cursor::{Cursor, digits, is_dot, name, sign, star, text};
 use crate::number::{negative_number, plain_number};
-use crate::reading::ReadError;
+use crate::reading::TreeError;
 use crate::signs::with_signs;
 use cell_core::{Cell, Memory, Word, read_day};
 use sql_refusals::is_large_expr;
@@ -17,10 +17,10 @@ use std::alloc::Global;
 /// An expression of at most so many levels: expr = term {("+" | "-") term}.
 #[cycle(expr)]
 #[tactic(auto, using(crate::proofs::ExprLaws::expr_goes_on, crate::proofs::ExprLaws::expr_none))]
-pub(crate) fn expr(alloc: Global, tokens: &mut Cursor<'_>, depth: usize) -> Result<Expr, ReadError>
+pub(crate) fn expr(alloc: Global, tokens: &mut Cursor<'_>, depth: usize) -> Result<Expr, TreeError>
     ensures found { IfOk result (λ e. reader.expr bounded (reader.factor bounded depth)
         (tokens_in tokens.old.rest.now) ≡ Some (expr_tree e, tokens_in tokens.new.rest.now)) }
-    ensures none { IsErrOf result ReadError.Syntax →
+    ensures none { IsErrOf result TreeError.Syntax →
         reader.expr bounded (reader.factor bounded depth) (tokens_in tokens.old.rest.now) ≡ None }
 {
     let first = factor(alloc, tokens, depth)?;
@@ -35,11 +35,11 @@ pub(crate) fn expr_behind(
     tokens: &mut Cursor<'_>,
     depth: usize,
     first: Expr,
-) -> Result<Expr, ReadError>
+) -> Result<Expr, TreeError>
     ensures found { IfOk result (λ e.
         reader.expr_behind bounded (reader.factor bounded depth) (expr_tree first)
         (tokens_in tokens.old.rest.now) ≡ Some (expr_tree e, tokens_in tokens.new.rest.now)) }
-    ensures none { IsErrOf result ReadError.Syntax →
+    ensures none { IsErrOf result TreeError.Syntax →
         reader.expr_behind bounded (reader.factor bounded depth) (expr_tree first)
         (tokens_in tokens.old.rest.now) ≡ None }
 {
@@ -58,10 +58,10 @@ pub(crate) fn expr_behind(
 /// term = factor {"*" factor}
 #[cycle(expr)]
 #[tactic(auto, unfolding(crate::specs::Reader::term))]
-fn term(alloc: Global, tokens: &mut Cursor<'_>, depth: usize) -> Result<Expr, ReadError>
+fn term(alloc: Global, tokens: &mut Cursor<'_>, depth: usize) -> Result<Expr, TreeError>
     ensures found { IfOk result (λ e. reader.term bounded (reader.factor bounded depth)
         (tokens_in tokens.old.rest.now) ≡ Some (expr_tree e, tokens_in tokens.new.rest.now)) }
-    ensures none { IsErrOf result ReadError.Syntax →
+    ensures none { IsErrOf result TreeError.Syntax →
         reader.term bounded (reader.factor bounded depth) (tokens_in tokens.old.rest.now) ≡ None }
 {
     let first = factor(alloc, tokens, depth)?;
@@ -75,11 +75,11 @@ fn term_behind(
     tokens: &mut Cursor<'_>,
     depth: usize,
     first: Expr,
-) -> Result<Expr, ReadError>
+) -> Result<Expr, TreeError>
     ensures found { IfOk result (λ e.
         reader.term_behind bounded (reader.factor bounded depth) (expr_tree first)
         (tokens_in tokens.old.rest.now) ≡ Some (expr_tree e, tokens_in tokens.new.rest.now)) }
-    ensures none { IsErrOf result ReadError.Syntax →
+    ensures none { IsErrOf result TreeError.Syntax →
         reader.term_behind bounded (reader.factor bounded depth) (expr_tree first)
         (tokens_in tokens.old.rest.now) ≡ None }
 {
@@ -98,14 +98,14 @@ fn term_behind(
 /// A factor, which takes a level.
 #[cycle(expr)]
 #[tactic(auto, using(crate::proofs::ExprLaws::factor_none, crate::proofs::ExprLaws::factor_inner))]
-fn factor(alloc: Global, tokens: &mut Cursor<'_>, depth: usize) -> Result<Expr, ReadError>
+fn factor(alloc: Global, tokens: &mut Cursor<'_>, depth: usize) -> Result<Expr, TreeError>
     ensures found { IfOk result (λ e. reader.factor bounded depth
         (tokens_in tokens.old.rest.now) ≡ Some (expr_tree e, tokens_in tokens.new.rest.now)) }
-    ensures none { IsErrOf result ReadError.Syntax →
+    ensures none { IsErrOf result TreeError.Syntax →
         reader.factor bounded depth (tokens_in tokens.old.rest.now) ≡ None }
 {
     if depth == 0 {
-        return Err(ReadError::Syntax);
+        return Err(TreeError::Syntax);
     }
     inner_factor(alloc, tokens, depth - 1)
 }
@@ -113,11 +113,11 @@ fn factor(alloc: Global, tokens: &mut Cursor<'_>, depth: usize) -> Result<Expr, 
 /// A factor, in which so many levels are left: digits, a string, a day, NULL, a column, what follows a
 /// `-`, or an expression in parentheses.
 #[cycle(expr)]
-fn inner_factor(alloc: Global, tokens: &mut Cursor<'_>, depth: usize) -> Result<Expr, ReadError>
+fn inner_factor(alloc: Global, tokens: &mut Cursor<'_>, depth: usize) -> Result<Expr, TreeError>
     ensures found { IfOk result (λ e. reader.factor_at bounded (reader.factor bounded depth)
         (first_token (tokens_in tokens.old.rest.now)) (after_first (tokens_in tokens.old.rest.now))
         ≡ Some (expr_tree e, tokens_in tokens.new.rest.now)) }
-    ensures none { IsErrOf result ReadError.Syntax →
+    ensures none { IsErrOf result TreeError.Syntax →
         reader.factor_at bounded (reader.factor bounded depth)
         (first_token (tokens_in tokens.old.rest.now)) (after_first (tokens_in tokens.old.rest.now))
         ≡ None }
@@ -135,17 +135,17 @@ fn inner_factor(alloc: Global, tokens: &mut Cursor<'_>, depth: usize) -> Result<
             tokens.close()?;
             Ok(inner)
         }
-        _ => Err(ReadError::Syntax),
+        _ => Err(TreeError::Syntax),
     }
 }
 
 /// What follows a `-`: digits, of which it is the sign, or what is taken from 0.
 #[cycle(expr)]
 #[tactic(auto, unfolding(crate::specs::Reader::negative))]
-fn negative(alloc: Global, tokens: &mut Cursor<'_>, depth: usize) -> Result<Expr, ReadError>
+fn negative(alloc: Global, tokens: &mut Cursor<'_>, depth: usize) -> Result<Expr, TreeError>
     ensures found { IfOk result (λ e. reader.negative bounded (reader.factor bounded depth)
         (tokens_in tokens.old.rest.now) ≡ Some (expr_tree e, tokens_in tokens.new.rest.now)) }
-    ensures none { IsErrOf result ReadError.Syntax →
+    ensures none { IsErrOf result TreeError.Syntax →
         reader.negative bounded (reader.factor bounded depth)
         (tokens_in tokens.old.rest.now) ≡ None }
 {
@@ -178,18 +178,18 @@ fn operator(alloc: Global, op: ArithOp, left: Expr, right: Expr) -> Result<Expr,
 
 /// What follows DATE: a string that names a day.
 #[tactic(auto, unfolding(crate::specs::Reader::date))]
-fn date(tokens: &mut Cursor<'_>) -> Result<Expr, ReadError>
+fn date(tokens: &mut Cursor<'_>) -> Result<Expr, TreeError>
     ensures found { IfOk result (λ e. reader.date (tokens_in tokens.old.rest.now)
         ≡ Some (expr_tree e, tokens_in tokens.new.rest.now)) }
-    ensures none { IsErrOf result ReadError.Syntax →
+    ensures none { IsErrOf result TreeError.Syntax →
         reader.date (tokens_in tokens.old.rest.now) ≡ None }
 {
     let Some(text) = text(tokens.next()) else {
-        return Err(ReadError::Syntax);
+        return Err(TreeError::Syntax);
     };
     match day(text) {
         Some(day) => Ok(Expr::Lit(Cell::Day(day))),
-        None => Err(ReadError::Syntax),
+        None => Err(TreeError::Syntax),
     }
 }
 
@@ -202,10 +202,10 @@ pub fn day(text: &Word) -> Option<i32>
 
 /// A column that begins with the name: `column` or `table.column`.
 #[tactic(auto, unfolding(crate::specs::Reader::column))]
-pub fn column(first: &Word, tokens: &mut Cursor<'_>) -> Result<ColRef, ReadError>
+pub fn column(first: &Word, tokens: &mut Cursor<'_>) -> Result<ColRef, TreeError>
     ensures found { IfOk result (λ column. reader.column first.now (tokens_in tokens.old.rest.now)
         ≡ Some (column, tokens_in tokens.new.rest.now)) }
-    ensures none { IsErrOf result ReadError.Syntax →
+    ensures none { IsErrOf result TreeError.Syntax →
         reader.column first.now (tokens_in tokens.old.rest.now) ≡ None }
 {
     if !is_dot(tokens.peek()) {
@@ -217,7 +217,7 @@ pub fn column(first: &Word, tokens: &mut Cursor<'_>) -> Result<ColRef, ReadError
     }
     tokens.advance();
     let Some(second) = name(tokens.next()) else {
-        return Err(ReadError::Syntax);
+        return Err(TreeError::Syntax);
     };
     let table = first.share()?;
     let column = second.share()?;

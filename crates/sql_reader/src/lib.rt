@@ -35,4 +35,4 @@ pub use expressions::{column, day};
 pub use laws::{one_cond, one_expr};
 pub use number::{magnitude, negative_number, plain_number};
 pub use predicates::{value, whole_expr};
-pub use reading::{ReadError, read_cond, read_expr, read_having};
+pub use reading::{TreeError, read_cond, read_expr, read_having};

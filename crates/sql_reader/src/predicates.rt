@@ -11,7 +11,7 @@ ghost use Rattle.sql_reader.specs.CondReader as reader;
 use crate::conditions::{either, negation};
 use crate::cursor::{Cursor, aggregate_word, comma, comparison, is_all, is_key};
 use crate::expressions::expr;
-use crate::reading::ReadError;
+use crate::reading::TreeError;
 use crate::signs::{with_arithmetic, with_unread_test};
 use cell_core::Memory;
 use sql_refusals::{has_unread, is_column_arithmetic, is_large_cond};
@@ -20,10 +20,10 @@ use std::alloc::Global;
 
 /// An expression, with as many levels as there are tokens.
 #[tactic(auto, unfolding(crate::specs::CondReader::whole_expr))]
-pub fn whole_expr(alloc: Global, tokens: &mut Cursor<'_>) -> Result<Expr, ReadError>
+pub fn whole_expr(alloc: Global, tokens: &mut Cursor<'_>) -> Result<Expr, TreeError>
     ensures found { IfOk result (λ e. reader.whole_expr bounded
         (tokens_in tokens.old.rest.now) ≡ Some (expr_tree e, tokens_in tokens.new.rest.now)) }
-    ensures none { IsErrOf result ReadError.Syntax →
+    ensures none { IsErrOf result TreeError.Syntax →
         reader.whole_expr bounded (tokens_in tokens.old.rest.now) ≡ None }
 {
     let levels = tokens.len();
@@ -32,10 +32,10 @@ pub fn whole_expr(alloc: Global, tokens: &mut Cursor<'_>) -> Result<Expr, ReadEr
 
 /// An expression or an aggregate.
 #[tactic(auto, unfolding(crate::specs::CondReader::value))]
-pub fn value(alloc: Global, tokens: &mut Cursor<'_>) -> Result<Expr, ReadError>
+pub fn value(alloc: Global, tokens: &mut Cursor<'_>) -> Result<Expr, TreeError>
     ensures found { IfOk result (λ e. reader.value bounded
         (tokens_in tokens.old.rest.now) ≡ Some (expr_tree e, tokens_in tokens.new.rest.now)) }
-    ensures none { IsErrOf result ReadError.Syntax →
+    ensures none { IsErrOf result TreeError.Syntax →
         reader.value bounded (tokens_in tokens.old.rest.now) ≡ None }
 {
     let Some(f) = aggregate_word(tokens.peek()) else {
@@ -48,10 +48,10 @@ pub fn value(alloc: Global, tokens: &mut Cursor<'_>) -> Result<Expr, ReadError>
 
 /// The argument of an aggregate, up to its `)`.
 #[tactic(auto, unfolding(crate::specs::CondReader::argument))]
-fn argument(alloc: Global, tokens: &mut Cursor<'_>, f: AggOp) -> Result<Expr, ReadError>
+fn argument(alloc: Global, tokens: &mut Cursor<'_>, f: AggOp) -> Result<Expr, TreeError>
     ensures found { IfOk result (λ e. reader.argument bounded f
         (tokens_in tokens.old.rest.now) ≡ Some (expr_tree e, tokens_in tokens.new.rest.now)) }
-    ensures none { IsErrOf result ReadError.Syntax →
+    ensures none { IsErrOf result TreeError.Syntax →
         reader.argument bounded f (tokens_in tokens.old.rest.now) ≡ None }
 {
     if is_all(f, tokens.peek()) {
@@ -68,10 +68,10 @@ fn argument(alloc: Global, tokens: &mut Cursor<'_>, f: AggOp) -> Result<Expr, Re
 }
 
 /// An operand of a test: an expression, or an aggregate too.
-fn operand(alloc: Global, tokens: &mut Cursor<'_>, aggregates: bool) -> Result<Expr, ReadError>
+fn operand(alloc: Global, tokens: &mut Cursor<'_>, aggregates: bool) -> Result<Expr, TreeError>
     ensures found { IfOk result (λ e. reader.operand bounded aggregates
         (tokens_in tokens.old.rest.now) ≡ Some (expr_tree e, tokens_in tokens.new.rest.now)) }
-    ensures none { IsErrOf result ReadError.Syntax →
+    ensures none { IsErrOf result TreeError.Syntax →
         reader.operand bounded aggregates (tokens_in tokens.old.rest.now) ≡ None }
 {
     if aggregates {
@@ -87,10 +87,10 @@ pub(crate) fn test(
     alloc: Global,
     tokens: &mut Cursor<'_>,
     aggregates: bool,
-) -> Result<Cond, ReadError>
+) -> Result<Cond, TreeError>
     ensures found { IfOk result (λ c. reader.any_test bounded (reader.operand bounded aggregates)
         (tokens_in tokens.old.rest.now) ≡ Some (cond_tree c, tokens_in tokens.new.rest.now)) }
-    ensures none { IsErrOf result ReadError.Syntax →
+    ensures none { IsErrOf result TreeError.Syntax →
         reader.any_test bounded (reader.operand bounded aggregates) (tokens_in tokens.old.rest.now) ≡ None }
 {
     let of = operand(alloc, tokens, aggregates)?;
@@ -104,11 +104,11 @@ pub(crate) fn test_behind(
     tokens: &mut Cursor<'_>,
     aggregates: bool,
     of: Expr,
-) -> Result<Cond, ReadError>
+) -> Result<Cond, TreeError>
     ensures found { IfOk result (λ c.
         reader.test_behind bounded (reader.operand bounded aggregates) (expr_tree of)
         (tokens_in tokens.old.rest.now) ≡ Some (cond_tree c, tokens_in tokens.new.rest.now)) }
-    ensures none { IsErrOf result ReadError.Syntax →
+    ensures none { IsErrOf result TreeError.Syntax →
         reader.test_behind bounded (reader.operand bounded aggregates) (expr_tree of)
         (tokens_in tokens.old.rest.now) ≡ None }
 {
@@ -131,11 +131,11 @@ fn word_test(
     tokens: &mut Cursor<'_>,
     aggregates: bool,
     of: Expr,
-) -> Result<Cond, ReadError>
+) -> Result<Cond, TreeError>
     ensures found { IfOk result (λ c.
         reader.word_test bounded (reader.operand bounded aggregates) (expr_tree of)
         (tokens_in tokens.old.rest.now) ≡ Some (cond_tree c, tokens_in tokens.new.rest.now)) }
-    ensures none { IsErrOf result ReadError.Syntax →
+    ensures none { IsErrOf result TreeError.Syntax →
         reader.word_test bounded (reader.operand bounded aggregates) (expr_tree of)
         (tokens_in tokens.old.rest.now) ≡ None }
 {
@@ -148,10 +148,10 @@ fn word_test(
 
 /// [NOT] NULL, behind the operand and IS.
 #[tactic(auto, unfolding(crate::specs::CondReader::null_test))]
-fn null_test(alloc: Global, tokens: &mut Cursor<'_>, of: Expr) -> Result<Cond, ReadError>
+fn null_test(alloc: Global, tokens: &mut Cursor<'_>, of: Expr) -> Result<Cond, TreeError>
     ensures found { IfOk result (λ c. reader.null_test (expr_tree of)
         (tokens_in tokens.old.rest.now) ≡ Some (cond_tree c, tokens_in tokens.new.rest.now)) }
-    ensures none { IsErrOf result ReadError.Syntax →
+    ensures none { IsErrOf result TreeError.Syntax →
         reader.null_test (expr_tree of) (tokens_in tokens.old.rest.now) ≡ None }
 {
     if is_key(tokens.peek(), Keyword::Not) {
@@ -170,11 +170,11 @@ fn range(
     tokens: &mut Cursor<'_>,
     aggregates: bool,
     of: Expr,
-) -> Result<Cond, ReadError>
+) -> Result<Cond, TreeError>
     ensures found { IfOk result (λ c.
         reader.range bounded (reader.operand bounded aggregates) (expr_tree of)
         (tokens_in tokens.old.rest.now) ≡ Some (cond_tree c, tokens_in tokens.new.rest.now)) }
-    ensures none { IsErrOf result ReadError.Syntax →
+    ensures none { IsErrOf result TreeError.Syntax →
         reader.range bounded (reader.operand bounded aggregates) (expr_tree of)
         (tokens_in tokens.old.rest.now) ≡ None }
 {
@@ -192,12 +192,12 @@ fn plain_range(
     tokens: &mut Cursor<'_>,
     aggregates: bool,
     of: Expr,
-) -> Result<Cond, ReadError>
+) -> Result<Cond, TreeError>
     ensures found { IfOk result (λ c.
         reader.range_at bounded (reader.operand bounded aggregates) (expr_tree of)
         (first_token (tokens_in tokens.old.rest.now)) (after_first (tokens_in tokens.old.rest.now))
         ≡ Some (cond_tree c, tokens_in tokens.new.rest.now)) }
-    ensures none { IsErrOf result ReadError.Syntax →
+    ensures none { IsErrOf result TreeError.Syntax →
         reader.range_at bounded (reader.operand bounded aggregates) (expr_tree of)
         (first_token (tokens_in tokens.old.rest.now)) (after_first (tokens_in tokens.old.rest.now))
         ≡ None }
@@ -205,7 +205,7 @@ fn plain_range(
     match tokens.next() {
         Some(Token::Key(Keyword::Between)) => within(alloc, tokens, aggregates, of),
         Some(Token::Key(Keyword::In)) => listed(alloc, tokens, aggregates, of),
-        _ => Err(ReadError::Syntax),
+        _ => Err(TreeError::Syntax),
     }
 }
 
@@ -216,11 +216,11 @@ fn within(
     tokens: &mut Cursor<'_>,
     aggregates: bool,
     of: Expr,
-) -> Result<Cond, ReadError>
+) -> Result<Cond, TreeError>
     ensures found { IfOk result (λ c.
         reader.within bounded (reader.operand bounded aggregates) (expr_tree of)
         (tokens_in tokens.old.rest.now) ≡ Some (cond_tree c, tokens_in tokens.new.rest.now)) }
-    ensures none { IsErrOf result ReadError.Syntax →
+    ensures none { IsErrOf result TreeError.Syntax →
         reader.within bounded (reader.operand bounded aggregates) (expr_tree of)
         (tokens_in tokens.old.rest.now) ≡ None }
 {
@@ -237,11 +237,11 @@ fn listed(
     tokens: &mut Cursor<'_>,
     aggregates: bool,
     of: Expr,
-) -> Result<Cond, ReadError>
+) -> Result<Cond, TreeError>
     ensures found { IfOk result (λ c.
         reader.listed bounded (reader.operand bounded aggregates) (expr_tree of)
         (tokens_in tokens.old.rest.now) ≡ Some (cond_tree c, tokens_in tokens.new.rest.now)) }
-    ensures none { IsErrOf result ReadError.Syntax →
+    ensures none { IsErrOf result TreeError.Syntax →
         reader.listed bounded (reader.operand bounded aggregates) (expr_tree of)
         (tokens_in tokens.old.rest.now) ≡ None }
 {
@@ -258,11 +258,11 @@ fn members(
     tokens: &mut Cursor<'_>,
     aggregates: bool,
     of: &Expr,
-) -> Result<Cond, ReadError>
+) -> Result<Cond, TreeError>
     ensures found { IfOk result (λ c.
         reader.members bounded (reader.operand bounded aggregates) (expr_tree of.now)
         (tokens_in tokens.old.rest.now) ≡ Some (cond_tree c, tokens_in tokens.new.rest.now)) }
-    ensures none { IsErrOf result ReadError.Syntax →
+    ensures none { IsErrOf result TreeError.Syntax →
         reader.members bounded (reader.operand bounded aggregates) (expr_tree of.now)
         (tokens_in tokens.old.rest.now) ≡ None }
 {

@@ -12,32 +12,32 @@ use cell_core::Memory;
 use sql_tree::{Cond, Expr, Placed};
 use std::alloc::{AllocFailed, Global};
 
-/// Why tokens are not read.
+/// Why tokens give no tree.
 #[derive(Clone, Copy, Debug, PartialEq, Eq, Drop)]
-pub enum ReadError {
+pub enum TreeError {
     /// The grammar doesn't derive them.
     Syntax,
     /// Memory ran out.
     Memory,
 }
 
-impl From<Memory> for ReadError {
-    ghost use Rattle.sql_reader.specs.declared.reading.ReadError.TheVariants.{Memory as ReadMemory};
+impl From<Memory> for TreeError {
+    ghost use Rattle.sql_reader.specs.declared.reading.TreeError.TheVariants.{Memory as ReadMemory};
 
     ghost from_gives = { λ _ e. e ≡ ReadMemory };
 
-    fn from(_e: Memory) -> ReadError {
-        ReadError::Memory
+    fn from(_e: Memory) -> TreeError {
+        TreeError::Memory
     }
 }
 
-impl<T: Drop> From<AllocFailed<T>> for ReadError {
-    ghost use Rattle.sql_reader.specs.declared.reading.ReadError.TheVariants.{Memory as ReadMemory};
+impl<T: Drop> From<AllocFailed<T>> for TreeError {
+    ghost use Rattle.sql_reader.specs.declared.reading.TreeError.TheVariants.{Memory as ReadMemory};
 
     ghost from_gives = { λ _ e. e ≡ ReadMemory };
 
-    fn from(_e: AllocFailed<T>) -> ReadError {
-        ReadError::Memory
+    fn from(_e: AllocFailed<T>) -> TreeError {
+        TreeError::Memory
     }
 }
 
@@ -47,9 +47,9 @@ impl<T: Drop> From<AllocFailed<T>> for ReadError {
 /// 64 nodes stands as it is written; a larger one stands cut off a little past that limit, with a column
 /// and a Huge where what is left out has one and the rest hasn't. The limits of literals and expressions
 /// are steps of their own.
-pub fn read_expr(alloc: Global, tokens: &[Placed]) -> Result<Expr, ReadError>
+pub fn read_expr(alloc: Global, tokens: &[Placed]) -> Result<Expr, TreeError>
     ensures expr { IfOk result (λ e. IsReadExpr (tokens_in tokens.now) (expr_tree e)) }
-    ensures none { IsErrOf result ReadError.Syntax →
+    ensures none { IsErrOf result TreeError.Syntax →
         (e : ExprTree) → IsExpr (tokens_in tokens.now) e → ⊥ }
 {
     let mut rest = Cursor::new(tokens);
@@ -64,9 +64,9 @@ pub fn read_expr(alloc: Global, tokens: &[Placed]) -> Result<Expr, ReadError>
 /// Its expressions stand as those of `read_expr` do. A condition of up to 128 nodes stands as it is
 /// written; a larger one stands cut off a little past that limit, with arithmetic over columns and a Huge
 /// where what is left out has them and the rest hasn't. The limit of conditions is a step of its own.
-pub fn read_cond(alloc: Global, tokens: &[Placed]) -> Result<Cond, ReadError>
+pub fn read_cond(alloc: Global, tokens: &[Placed]) -> Result<Cond, TreeError>
     ensures cond { IfOk result (λ c. IsReadCond (IsCond (tokens_in tokens.now)) (cond_tree c)) }
-    ensures none { IsErrOf result ReadError.Syntax →
+    ensures none { IsErrOf result TreeError.Syntax →
         (c : CondTree) → IsCond (tokens_in tokens.now) c → ⊥ }
 {
     all_cond(alloc, tokens, false)
@@ -75,19 +75,19 @@ pub fn read_cond(alloc: Global, tokens: &[Placed]) -> Result<Cond, ReadError>
 /// The condition of HAVING that the tokens are, all of them: its operands may be aggregates.
 ///
 /// It is cut off as that of `read_cond` is.
-pub fn read_having(alloc: Global, tokens: &[Placed]) -> Result<Cond, ReadError>
+pub fn read_having(alloc: Global, tokens: &[Placed]) -> Result<Cond, TreeError>
     ensures cond { IfOk result (λ c. IsReadCond (IsHaving (tokens_in tokens.now)) (cond_tree c)) }
-    ensures none { IsErrOf result ReadError.Syntax →
+    ensures none { IsErrOf result TreeError.Syntax →
         (c : CondTree) → IsHaving (tokens_in tokens.now) c → ⊥ }
 {
     all_cond(alloc, tokens, true)
 }
 
 /// The condition that the tokens are, all of them.
-fn all_cond(alloc: Global, tokens: &[Placed], aggregates: bool) -> Result<Cond, ReadError>
+fn all_cond(alloc: Global, tokens: &[Placed], aggregates: bool) -> Result<Cond, TreeError>
     ensures found { IfOk result (λ c. reader.whole_cond bounded (reader.operand bounded aggregates)
         (tokens_in tokens.now) ≡ Some (cond_tree c, [])) }
-    ensures none { IsErrOf result ReadError.Syntax →
+    ensures none { IsErrOf result TreeError.Syntax →
         (c : CondTree) → reader.whole_cond bounded (reader.operand bounded aggregates)
         (tokens_in tokens.now) ≡ Some (c, []) → ⊥ }
 {

@@ -4,7 +4,7 @@ use Rattle.sql_grammar.specs.Refused.{is_out_of_range, passed_limits}
 use Rattle.sql_grammar.specs.Statements.{Derives}
 use Rattle.sql_tree.specs.Tree.{StmtTree}
 use Rattle.sql_tree.specs.declared.token.Token.{Token}
-use Rattle.sql_refusals.specs.Unread.{Kept, read_limits, read_stmt}
+use Rattle.sql_refusals.specs.Unread.{Kept, read_limits, stmt_as_read}
 
 -- what is past a limit is kept past it, and nothing else is
 pub record KeepsLimits (kept : Kept) : Type 0 where
@@ -14,4 +14,4 @@ pub record KeepsLimits (kept : Kept) : Type 0 where
 -- the limits of a derived statement, whatever its numbers, are those of what is read
 abbrev pub LimitsAsRead : Type 0
 LimitsAsRead = (kept : Kept) → KeepsLimits kept → (bytes : ℕ) (tokens : List Token) (statement : StmtTree) → Derives tokens statement
-    → read_limits bytes tokens (read_stmt kept statement) ≡ passed_limits bytes tokens statement
+    → read_limits bytes tokens (stmt_as_read kept statement) ≡ passed_limits bytes tokens statement

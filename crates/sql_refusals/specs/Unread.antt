@@ -64,71 +64,71 @@ read_limits bytes tokens statement = with_literal (passes_literal_as_read statem
 -- ## What a reader gives
 
 -- a number of more than 64 bits as a Huge, any other literal as it is
-abbrev pub read_cell : Cell → Cell
-read_cell (cell.Int n) = if is_out_of_range n then unread_cell else cell.Int n
-read_cell other = other
+abbrev pub cell_as_read : Cell → Cell
+cell_as_read (cell.Int n) = if is_out_of_range n then unread_cell else cell.Int n
+cell_as_read other = other
 
-abbrev pub read_expr : ExprTree → ExprTree
-read_expr (Literal literal) = Literal (read_cell literal)
-read_expr (ColumnOf column) = ColumnOf column
-read_expr (Operator op left right) = Operator op (read_expr left) (read_expr right)
-read_expr (AggregateAll f) = AggregateAll f
-read_expr (Aggregate f of) = Aggregate f (read_expr of)
+abbrev pub expr_as_read : ExprTree → ExprTree
+expr_as_read (Literal literal) = Literal (cell_as_read literal)
+expr_as_read (ColumnOf column) = ColumnOf column
+expr_as_read (Operator op left right) = Operator op (expr_as_read left) (expr_as_read right)
+expr_as_read (AggregateAll f) = AggregateAll f
+expr_as_read (Aggregate f of) = Aggregate f (expr_as_read of)
 
-abbrev pub read_cond : CondTree → CondTree
-read_cond (Compare op left right) = Compare op (read_expr left) (read_expr right)
-read_cond (Within of low high) = Within (read_expr of) (read_expr low) (read_expr high)
-read_cond (IsNull of) = IsNull (read_expr of)
-read_cond (Negation cond) = Negation (read_cond cond)
-read_cond (Both left right) = Both (read_cond left) (read_cond right)
-read_cond (Either left right) = Either (read_cond left) (read_cond right)
+abbrev pub cond_as_read : CondTree → CondTree
+cond_as_read (Compare op left right) = Compare op (expr_as_read left) (expr_as_read right)
+cond_as_read (Within of low high) = Within (expr_as_read of) (expr_as_read low) (expr_as_read high)
+cond_as_read (IsNull of) = IsNull (expr_as_read of)
+cond_as_read (Negation cond) = Negation (cond_as_read cond)
+cond_as_read (Both left right) = Both (cond_as_read left) (cond_as_read right)
+cond_as_read (Either left right) = Either (cond_as_read left) (cond_as_read right)
 
-abbrev pub read_item : ItemTree → ItemTree
-read_item item = record { expr = read_expr item.expr; alias = item.alias }
+abbrev pub item_as_read : ItemTree → ItemTree
+item_as_read item = record { expr = expr_as_read item.expr; alias = item.alias }
 
-abbrev pub read_set : List ℕ × ExprTree → List ℕ × ExprTree
-read_set set = (set.0, read_expr set.1)
+abbrev pub set_as_read : List ℕ × ExprTree → List ℕ × ExprTree
+set_as_read set = (set.0, expr_as_read set.1)
 
 -- how a reader keeps a position or LIMIT, and the length of a VARCHAR, in its types of 64 and 32 bits
 pub record Kept : Type 0 where
   pub number : ℕ → ℕ
   pub width : ℕ → ℕ
 
-abbrev pub read_place : Kept → Place → Place
-read_place kept (Position n) = Position (kept.number n)
-read_place kept (Named column) = Named column
+abbrev pub place_as_read : Kept → Place → Place
+place_as_read kept (Position n) = Position (kept.number n)
+place_as_read kept (Named column) = Named column
 
-abbrev pub read_key : Kept → SortKey → SortKey
-read_key kept key = record { at = read_place kept key.at; ascending = key.ascending }
+abbrev pub key_as_read : Kept → SortKey → SortKey
+key_as_read kept key = record { at = place_as_read kept key.at; ascending = key.ascending }
 
-abbrev pub read_column : Kept → Column → Column
-read_column kept column = record {
+abbrev pub column_as_read : Kept → Column → Column
+column_as_read kept column = record {
   name = column.name;
   kind = column.kind;
   width = kept.width column.width;
   not_null = column.not_null;
-  default = read_cell column.default;
+  default = cell_as_read column.default;
 }
 
-abbrev pub read_query : Kept → QueryTree → QueryTree
-read_query kept query = record {
+abbrev pub query_as_read : Kept → QueryTree → QueryTree
+query_as_read kept query = record {
   distinct = query.distinct;
-  items = map read_item query.items;
+  items = map item_as_read query.items;
   froms = query.froms;
-  cond = option_map read_cond query.cond;
+  cond = option_map cond_as_read query.cond;
   groups = query.groups;
-  having = option_map read_cond query.having;
-  keys = map (read_key kept) query.keys;
+  having = option_map cond_as_read query.having;
+  keys = map (key_as_read kept) query.keys;
   limit = option_map kept.number query.limit;
 }
 
--- a statement as it is read: its literals by `read_cell`, its other numbers as they are kept
-abbrev pub read_stmt : Kept → StmtTree → StmtTree
-read_stmt kept (CreateTable table columns) = CreateTable table (map (read_column kept) columns)
-read_stmt kept (DropTable table) = DropTable table
-read_stmt kept (AlterTable table column) = AlterTable table (read_column kept column)
-read_stmt kept (InsertInto table columns rows) = InsertInto table columns (map (map read_cell) rows)
-read_stmt kept (DeleteFrom table cond) = DeleteFrom table (option_map read_cond cond)
-read_stmt kept (UpdateTable table sets cond) = UpdateTable table (map read_set sets) (option_map read_cond cond)
-read_stmt kept (Select query) = Select (read_query kept query)
-read_stmt kept (ExplainSelect query) = ExplainSelect (read_query kept query)
+-- a statement as it is read: its literals by `cell_as_read`, its other numbers as they are kept
+abbrev pub stmt_as_read : Kept → StmtTree → StmtTree
+stmt_as_read kept (CreateTable table columns) = CreateTable table (map (column_as_read kept) columns)
+stmt_as_read kept (DropTable table) = DropTable table
+stmt_as_read kept (AlterTable table column) = AlterTable table (column_as_read kept column)
+stmt_as_read kept (InsertInto table columns rows) = InsertInto table columns (map (map cell_as_read) rows)
+stmt_as_read kept (DeleteFrom table cond) = DeleteFrom table (option_map cond_as_read cond)
+stmt_as_read kept (UpdateTable table sets cond) = UpdateTable table (map set_as_read sets) (option_map cond_as_read cond)
+stmt_as_read kept (Select query) = Select (query_as_read kept query)
+stmt_as_read kept (ExplainSelect query) = ExplainSelect (query_as_read kept query)

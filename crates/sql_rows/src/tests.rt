@@ -10,7 +10,7 @@ use crate::scripts::{
 use cell_core::{Cell, Memory, Word, word_of};
 use sql_check::{CheckError, check};
 use sql_meaning::{
-    Row, cell_over, cond_overflows, constant_overflows, is_kept, overflows_over, value_over,
+    LentRow, cell_over, cond_overflows, constant_overflows, is_kept, overflows_over, value_over,
 };
 use sql_parse::parse;
 use sql_semantics::{
@@ -48,7 +48,7 @@ fn keeps(alloc: Global, cond: &Option<Cond>, a: Option<i64>) -> Result<bool, Mem
     let source = source(alloc)?;
     let row = row(alloc, number(a), Cell::Nil)?;
     let called = [Called::new(&source.table, &source.columns)];
-    is_kept(alloc, &called, cond, &[Row::new(&row)])
+    is_kept(alloc, &called, cond, &[LentRow::new(&row)])
 }
 
 /// Whether an expression overflows over the row of this number and Nil.
@@ -56,7 +56,7 @@ fn overflows(alloc: Global, expr: &Expr, a: Option<i64>) -> Result<bool, Memory>
     let source = source(alloc)?;
     let row = row(alloc, number(a), Cell::Nil)?;
     let called = [Called::new(&source.table, &source.columns)];
-    overflows_over(&called, &[Row::new(&row)], expr)
+    overflows_over(&called, &[LentRow::new(&row)], expr)
 }
 
 #[test]

@@ -9,6 +9,7 @@ pub mod Kept
 pub mod Rows
 pub mod Answer
 pub mod Effect
+pub mod Exprs
 pub mod Valid
 pub mod Check
 pub mod Small

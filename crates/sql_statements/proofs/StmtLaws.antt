@@ -11,7 +11,7 @@ use Rattle.sql_reader.specs.Derived.{cond_with}
 use Rattle.sql_reader.proofs.ChainLemmas.{pair_found, all_found}
 use Rattle.sql_reader.proofs.CondLaws.{same_cond}
 use Rattle.sql_reader.proofs.ExprLaws.{same_cell, same_tree}
-use Rattle.sql_reader.specs.declared.reading.ReadError.{ReadError}
+use Rattle.sql_reader.specs.declared.reading.TreeError.{TreeError}
 use Rattle.sql_tree.specs.Tree.{ExprTree, CondTree, ItemTree, QueryTree, StmtTree, stmt_tree}
 use Rattle.sql_tree.specs.Tree.StmtTree.{CreateTable, DropTable, AlterTable, InsertInto, DeleteFrom, UpdateTable, Select, ExplainSelect}
 use Rattle.sql_tree.specs.declared.token.Token.{Token}
@@ -96,6 +96,6 @@ read_told ts s is = derived_told bounded count_64 length_32 ts s is
 
 -- where no token is left behind a statement, it is what all of them are read as
 pub if_alone : (o : Found StmtTree) (t : StmtTree) (rest : List Token) → o ≡ Some (t, rest) → (P : StmtTree → Type 0) → ((x : StmtTree) → o ≡ Some (x, []) → P x)
-    → (result : Result Stmt ReadError) → IfOk result (λ s. stmt_tree s ≡ t) → OnOk result (rest ≡ []) → IfOk result (λ s. P (stmt_tree s))
+    → (result : Result Stmt TreeError) → IfOk result (λ s. stmt_tree s ≡ t) → OnOk result (rest ≡ []) → IfOk result (λ s. P (stmt_tree s))
 if_alone o t rest h P told (Ok s) same none = told (stmt_tree s) (all_found o (stmt_tree s) rest (h ∙ ap (λ (t : StmtTree). let f : Found StmtTree = Some (t, rest) in f) (sym same)) none)
 if_alone o t rest h P told (Err e) same none = tt

@@ -8,16 +8,16 @@ ghost use Rattle.sql_statements.specs.Reader as reader;
 
 use crate::part::name;
 use cell_core::{Sequence, Word};
-use sql_reader::{Cursor, ReadError, comma, is_key, whole_cond, whole_expr};
+use sql_reader::{Cursor, TreeError, comma, is_key, whole_cond, whole_expr};
 use sql_tree::{Cond, Expr, Keyword, Stmt, Symbol};
 use std::alloc::Global;
 
 /// What follows DELETE: FROM, a table and a condition or none.
 #[tactic(auto, unfolding(crate::specs::Reader::delete))]
-pub(crate) fn delete(alloc: Global, tokens: &mut Cursor<'_>) -> Result<Stmt, ReadError>
+pub(crate) fn delete(alloc: Global, tokens: &mut Cursor<'_>) -> Result<Stmt, TreeError>
     ensures found { IfOk result (λ statement. reader.delete bounded
         (tokens_in tokens.old.rest.now) ≡ Some (stmt_tree statement, tokens_in tokens.new.rest.now)) }
-    ensures none { IsErrOf result ReadError.Syntax →
+    ensures none { IsErrOf result TreeError.Syntax →
         reader.delete bounded (tokens_in tokens.old.rest.now) ≡ None }
 {
     tokens.key(Keyword::From)?;
@@ -28,10 +28,10 @@ pub(crate) fn delete(alloc: Global, tokens: &mut Cursor<'_>) -> Result<Stmt, Rea
 
 /// What follows UPDATE: a table, SET, what is set, and a condition or none.
 #[tactic(auto, unfolding(crate::specs::Reader::update))]
-pub(crate) fn update(alloc: Global, tokens: &mut Cursor<'_>) -> Result<Stmt, ReadError>
+pub(crate) fn update(alloc: Global, tokens: &mut Cursor<'_>) -> Result<Stmt, TreeError>
     ensures found { IfOk result (λ statement. reader.update bounded
         (tokens_in tokens.old.rest.now) ≡ Some (stmt_tree statement, tokens_in tokens.new.rest.now)) }
-    ensures none { IsErrOf result ReadError.Syntax →
+    ensures none { IsErrOf result TreeError.Syntax →
         reader.update bounded (tokens_in tokens.old.rest.now) ≡ None }
 {
     let table = name(tokens)?;
@@ -43,10 +43,10 @@ pub(crate) fn update(alloc: Global, tokens: &mut Cursor<'_>) -> Result<Stmt, Rea
 
 /// One set or more, with commas between them.
 #[tactic(auto, unfolding(crate::specs::Reader::listed), using(crate::proofs::ListLemmas::map_one))]
-fn sets(alloc: Global, tokens: &mut Cursor<'_>) -> Result<Sequence<(Word, Expr)>, ReadError>
+fn sets(alloc: Global, tokens: &mut Cursor<'_>) -> Result<Sequence<(Word, Expr)>, TreeError>
     ensures found { IfOk result (λ sets. reader.listed (reader.set bounded)
         (tokens_in tokens.old.rest.now) ≡ Some (map set_tree sets, tokens_in tokens.new.rest.now)) }
-    ensures none { IsErrOf result ReadError.Syntax →
+    ensures none { IsErrOf result TreeError.Syntax →
         reader.listed (reader.set bounded) (tokens_in tokens.old.rest.now) ≡ None }
 {
     let first = set(alloc, tokens)?;
@@ -65,10 +65,10 @@ fn sets(alloc: Global, tokens: &mut Cursor<'_>) -> Result<Sequence<(Word, Expr)>
 
 /// A column, `=` and its value.
 #[tactic(auto, unfolding(crate::specs::Reader::set))]
-fn set(alloc: Global, tokens: &mut Cursor<'_>) -> Result<(Word, Expr), ReadError>
+fn set(alloc: Global, tokens: &mut Cursor<'_>) -> Result<(Word, Expr), TreeError>
     ensures found { IfOk result (λ set. reader.set bounded (tokens_in tokens.old.rest.now)
         ≡ Some (set_tree set, tokens_in tokens.new.rest.now)) }
-    ensures none { IsErrOf result ReadError.Syntax →
+    ensures none { IsErrOf result TreeError.Syntax →
         reader.set bounded (tokens_in tokens.old.rest.now) ≡ None }
 {
     let column = name(tokens)?;
@@ -79,11 +79,11 @@ fn set(alloc: Global, tokens: &mut Cursor<'_>) -> Result<(Word, Expr), ReadError
 
 /// The condition behind WHERE, or none.
 #[tactic(auto, unfolding(crate::specs::Reader::where_cond))]
-pub(crate) fn where_cond(alloc: Global, tokens: &mut Cursor<'_>) -> Result<Option<Cond>, ReadError>
+pub(crate) fn where_cond(alloc: Global, tokens: &mut Cursor<'_>) -> Result<Option<Cond>, TreeError>
     ensures found { IfOk result (λ cond. reader.optional word.Where (reader.where_cond bounded)
         (tokens_in tokens.old.rest.now)
         ≡ Some (option_map cond_tree cond, tokens_in tokens.new.rest.now)) }
-    ensures none { IsErrOf result ReadError.Syntax →
+    ensures none { IsErrOf result TreeError.Syntax →
         reader.optional word.Where (reader.where_cond bounded)
         (tokens_in tokens.old.rest.now) ≡ None }
 {

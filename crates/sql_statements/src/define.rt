@@ -11,7 +11,7 @@ ghost use Rattle.sql_statements.specs.Reader as reader;
 use crate::part::{Part, enclosed, name, takes};
 use crate::values::literal;
 use cell_core::{Cell, Column, Kind, Word};
-use sql_reader::{Cursor, ReadError, digits, is_key, magnitude};
+use sql_reader::{Cursor, TreeError, digits, is_key, magnitude};
 use sql_tree::{Keyword, Stmt, Symbol, Token};
 use std::alloc::Global;
 
@@ -20,10 +20,10 @@ const PAST_WIDTHS: u32 = 65536;
 
 /// What follows CREATE: TABLE, a name and column definitions.
 #[tactic(auto, unfolding(crate::specs::Reader::create))]
-pub(crate) fn create(alloc: Global, tokens: &mut Cursor<'_>) -> Result<Stmt, ReadError>
+pub(crate) fn create(alloc: Global, tokens: &mut Cursor<'_>) -> Result<Stmt, TreeError>
     ensures found { IfOk result (λ statement. reader.create length_32 bounded
         (tokens_in tokens.old.rest.now) ≡ Some (stmt_tree statement, tokens_in tokens.new.rest.now)) }
-    ensures none { IsErrOf result ReadError.Syntax →
+    ensures none { IsErrOf result TreeError.Syntax →
         reader.create length_32 bounded (tokens_in tokens.old.rest.now) ≡ None }
 {
     tokens.key(Keyword::Table)?;
@@ -34,10 +34,10 @@ pub(crate) fn create(alloc: Global, tokens: &mut Cursor<'_>) -> Result<Stmt, Rea
 
 /// What follows DROP: TABLE and a name.
 #[tactic(auto, unfolding(crate::specs::Reader::drop_table))]
-pub(crate) fn drop_table(tokens: &mut Cursor<'_>) -> Result<Stmt, ReadError>
+pub(crate) fn drop_table(tokens: &mut Cursor<'_>) -> Result<Stmt, TreeError>
     ensures found { IfOk result (λ statement. reader.drop_table (tokens_in tokens.old.rest.now)
         ≡ Some (stmt_tree statement, tokens_in tokens.new.rest.now)) }
-    ensures none { IsErrOf result ReadError.Syntax →
+    ensures none { IsErrOf result TreeError.Syntax →
         reader.drop_table (tokens_in tokens.old.rest.now) ≡ None }
 {
     tokens.key(Keyword::Table)?;
@@ -47,10 +47,10 @@ pub(crate) fn drop_table(tokens: &mut Cursor<'_>) -> Result<Stmt, ReadError>
 
 /// What follows ALTER: TABLE, a name, ADD, perhaps COLUMN, and a column definition.
 #[tactic(auto, unfolding(crate::specs::Reader::alter))]
-pub(crate) fn alter(tokens: &mut Cursor<'_>) -> Result<Stmt, ReadError>
+pub(crate) fn alter(tokens: &mut Cursor<'_>) -> Result<Stmt, TreeError>
     ensures found { IfOk result (λ statement. reader.alter length_32 bounded
         (tokens_in tokens.old.rest.now) ≡ Some (stmt_tree statement, tokens_in tokens.new.rest.now)) }
-    ensures none { IsErrOf result ReadError.Syntax →
+    ensures none { IsErrOf result TreeError.Syntax →
         reader.alter length_32 bounded (tokens_in tokens.old.rest.now) ≡ None }
 {
     tokens.key(Keyword::Table)?;
@@ -63,10 +63,10 @@ pub(crate) fn alter(tokens: &mut Cursor<'_>) -> Result<Stmt, ReadError>
 
 /// A column definition: a name, a type, and what follows the type.
 #[tactic(auto, unfolding(crate::specs::Reader::coldef))]
-fn coldef(tokens: &mut Cursor<'_>) -> Result<Column, ReadError>
+fn coldef(tokens: &mut Cursor<'_>) -> Result<Column, TreeError>
     ensures found { IfOk result (λ column. reader.coldef length_32 bounded (tokens_in tokens.old.rest.now)
         ≡ Some (column, tokens_in tokens.new.rest.now)) }
-    ensures none { IsErrOf result ReadError.Syntax →
+    ensures none { IsErrOf result TreeError.Syntax →
         reader.coldef length_32 bounded (tokens_in tokens.old.rest.now) ≡ None }
 {
     let name = name(tokens)?;
@@ -82,11 +82,11 @@ fn coldef(tokens: &mut Cursor<'_>) -> Result<Column, ReadError>
 }
 
 /// The kind that a type's words name, and the most characters or 0.
-fn column_type(tokens: &mut Cursor<'_>) -> Result<(Kind, u32), ReadError>
+fn column_type(tokens: &mut Cursor<'_>) -> Result<(Kind, u32), TreeError>
     ensures found { IfOk result (λ type. reader.type_at length_32
         (first_token (tokens_in tokens.old.rest.now)) (after_first (tokens_in tokens.old.rest.now))
         ≡ Some (type, tokens_in tokens.new.rest.now)) }
-    ensures none { IsErrOf result ReadError.Syntax →
+    ensures none { IsErrOf result TreeError.Syntax →
         reader.type_at length_32 (first_token (tokens_in tokens.old.rest.now))
         (after_first (tokens_in tokens.old.rest.now)) ≡ None }
 {
@@ -97,21 +97,21 @@ fn column_type(tokens: &mut Cursor<'_>) -> Result<(Kind, u32), ReadError>
         Some(Token::Key(Keyword::Text)) => Ok((Kind::Text, 0)),
         Some(Token::Key(Keyword::Date)) => Ok((Kind::Day, 0)),
         Some(Token::Key(Keyword::Varchar)) => varchar(tokens),
-        _ => Err(ReadError::Syntax),
+        _ => Err(TreeError::Syntax),
     }
 }
 
 /// The length behind VARCHAR, in parentheses.
 #[tactic(auto, unfolding(crate::specs::Reader::varchar))]
-fn varchar(tokens: &mut Cursor<'_>) -> Result<(Kind, u32), ReadError>
+fn varchar(tokens: &mut Cursor<'_>) -> Result<(Kind, u32), TreeError>
     ensures found { IfOk result (λ type. reader.varchar length_32 (tokens_in tokens.old.rest.now)
         ≡ Some (type, tokens_in tokens.new.rest.now)) }
-    ensures none { IsErrOf result ReadError.Syntax →
+    ensures none { IsErrOf result TreeError.Syntax →
         reader.varchar length_32 (tokens_in tokens.old.rest.now) ≡ None }
 {
     tokens.symbol(Symbol::Open)?;
     let Some(digits) = digits(tokens.next()) else {
-        return Err(ReadError::Syntax);
+        return Err(TreeError::Syntax);
     };
     tokens.close()?;
     Ok((Kind::Text, width(digits)))
@@ -143,10 +143,10 @@ fn narrow(number: u64) -> u32
 /// Whether NOT NULL stands behind a type, and the default, which is Nil where none is written. NOT NULL
 /// may stand before DEFAULT and its literal or behind these.
 #[tactic(auto, unfolding(crate::specs::Reader::column_end))]
-fn column_end(tokens: &mut Cursor<'_>) -> Result<(bool, Cell), ReadError>
+fn column_end(tokens: &mut Cursor<'_>) -> Result<(bool, Cell), TreeError>
     ensures found { IfOk result (λ ends. reader.column_end bounded (tokens_in tokens.old.rest.now)
         ≡ Some (ends, tokens_in tokens.new.rest.now)) }
-    ensures none { IsErrOf result ReadError.Syntax →
+    ensures none { IsErrOf result TreeError.Syntax →
         reader.column_end bounded (tokens_in tokens.old.rest.now) ≡ None }
 {
     let required = not_null(tokens)?;
@@ -164,10 +164,10 @@ fn column_end(tokens: &mut Cursor<'_>) -> Result<(bool, Cell), ReadError>
 
 /// Whether NOT NULL stands here, which may be left out.
 #[tactic(auto, unfolding(crate::specs::Reader::not_null))]
-fn not_null(tokens: &mut Cursor<'_>) -> Result<bool, ReadError>
+fn not_null(tokens: &mut Cursor<'_>) -> Result<bool, TreeError>
     ensures found { IfOk result (λ required. reader.not_null (tokens_in tokens.old.rest.now)
         ≡ Some (required, tokens_in tokens.new.rest.now)) }
-    ensures none { IsErrOf result ReadError.Syntax →
+    ensures none { IsErrOf result TreeError.Syntax →
         reader.not_null (tokens_in tokens.old.rest.now) ≡ None }
 {
     if !is_key(tokens.peek(), Keyword::Not) {
@@ -181,7 +181,7 @@ fn not_null(tokens: &mut Cursor<'_>) -> Result<bool, ReadError>
 impl Part for Column {
     ghost reader = { reader.coldef length_32 bounded };
 
-    fn read(alloc: Global, tokens: &mut Cursor<'_>) -> Result<Column, ReadError> {
+    fn read(alloc: Global, tokens: &mut Cursor<'_>) -> Result<Column, TreeError> {
         coldef(tokens)
     }
 }

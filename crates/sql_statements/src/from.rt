@@ -7,7 +7,7 @@ ghost use Rattle.sql_statements.specs.Reader as reader;
 
 use crate::part::name;
 use cell_core::{Memory, Sequence, Word};
-use sql_reader::{Cursor, ReadError, both, is_key, whole_cond};
+use sql_reader::{Cursor, TreeError, both, is_key, whole_cond};
 use sql_tree::{Cond, FromItem, Keyword, Symbol, Token};
 use std::alloc::Global;
 
@@ -27,11 +27,11 @@ pub(crate) enum Joint {
 pub(crate) fn sources(
     alloc: Global,
     tokens: &mut Cursor<'_>,
-) -> Result<(Sequence<FromItem>, Option<Cond>), ReadError>
+) -> Result<(Sequence<FromItem>, Option<Cond>), TreeError>
     ensures found { IfOk result (λ sources. reader.sources bounded
         (tokens_in tokens.old.rest.now)
         ≡ Some ((sources.0, option_map cond_tree sources.1), tokens_in tokens.new.rest.now)) }
-    ensures none { IsErrOf result ReadError.Syntax →
+    ensures none { IsErrOf result TreeError.Syntax →
         reader.sources bounded (tokens_in tokens.old.rest.now) ≡ None }
 {
     let first = source(tokens)?;
@@ -68,11 +68,11 @@ fn joined(
     alloc: Global,
     tokens: &mut Cursor<'_>,
     joint: Joint,
-) -> Result<(FromItem, Option<Cond>), ReadError>
+) -> Result<(FromItem, Option<Cond>), TreeError>
     ensures found { IfOk result (λ next. reader.joined bounded joint
         (tokens_in tokens.old.rest.now)
         ≡ Some ((next.0, option_map cond_tree next.1), tokens_in tokens.new.rest.now)) }
-    ensures none { IsErrOf result ReadError.Syntax →
+    ensures none { IsErrOf result TreeError.Syntax →
         reader.joined bounded joint (tokens_in tokens.old.rest.now) ≡ None }
 {
     match joint {
@@ -90,11 +90,11 @@ fn joined(
 
 /// A source, ON and its condition.
 #[tactic(auto, unfolding(crate::specs::Reader::source_on, crate::specs::Reader::where_cond))]
-fn source_on(alloc: Global, tokens: &mut Cursor<'_>) -> Result<(FromItem, Option<Cond>), ReadError>
+fn source_on(alloc: Global, tokens: &mut Cursor<'_>) -> Result<(FromItem, Option<Cond>), TreeError>
     ensures found { IfOk result (λ next. reader.source_on bounded
         (tokens_in tokens.old.rest.now)
         ≡ Some ((next.0, option_map cond_tree next.1), tokens_in tokens.new.rest.now)) }
-    ensures none { IsErrOf result ReadError.Syntax →
+    ensures none { IsErrOf result TreeError.Syntax →
         reader.source_on bounded (tokens_in tokens.old.rest.now) ≡ None }
 {
     let source = source(tokens)?;
@@ -105,10 +105,10 @@ fn source_on(alloc: Global, tokens: &mut Cursor<'_>) -> Result<(FromItem, Option
 
 /// A table, with a name of its own or without.
 #[tactic(auto, unfolding(crate::specs::Reader::source))]
-fn source(tokens: &mut Cursor<'_>) -> Result<FromItem, ReadError>
+fn source(tokens: &mut Cursor<'_>) -> Result<FromItem, TreeError>
     ensures found { IfOk result (λ source. reader.source (tokens_in tokens.old.rest.now)
         ≡ Some (source, tokens_in tokens.new.rest.now)) }
-    ensures none { IsErrOf result ReadError.Syntax →
+    ensures none { IsErrOf result TreeError.Syntax →
         reader.source (tokens_in tokens.old.rest.now) ≡ None }
 {
     let table = name(tokens)?;
@@ -118,10 +118,10 @@ fn source(tokens: &mut Cursor<'_>) -> Result<FromItem, ReadError>
 
 /// The name behind a table or an item, with AS or without, or none.
 #[tactic(auto, unfolding(crate::specs::Reader::alias))]
-pub(crate) fn alias(tokens: &mut Cursor<'_>) -> Result<Option<Word>, ReadError>
+pub(crate) fn alias(tokens: &mut Cursor<'_>) -> Result<Option<Word>, TreeError>
     ensures found { IfOk result (λ alias. reader.alias (tokens_in tokens.old.rest.now)
         ≡ Some (alias, tokens_in tokens.new.rest.now)) }
-    ensures none { IsErrOf result ReadError.Syntax →
+    ensures none { IsErrOf result TreeError.Syntax →
         reader.alias (tokens_in tokens.old.rest.now) ≡ None }
 {
     if is_key(tokens.peek(), Keyword::As) {

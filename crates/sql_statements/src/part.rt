@@ -4,7 +4,7 @@ ghost use Rattle.sql_reader.specs.Chain.{Parser};
 ghost use Rattle.sql_statements.specs.Reader as reader;
 
 use cell_core::{Sequence, Word};
-use sql_reader::{Cursor, ReadError, comma, is_key};
+use sql_reader::{Cursor, TreeError, comma, is_key};
 use sql_tree::{ColRef, Keyword, Symbol};
 use std::alloc::Global;
 
@@ -13,10 +13,10 @@ pub(crate) trait Part: Drop + Sized {
     ghost reader: { Parser Self };
 
     /// Reads one.
-    fn read(alloc: Global, tokens: &mut Cursor<'_>) -> Result<Self, ReadError>
+    fn read(alloc: Global, tokens: &mut Cursor<'_>) -> Result<Self, TreeError>
         ensures found { IfOk result (λ part. reader (tokens_in tokens.old.rest.now)
             ≡ Some (part, tokens_in tokens.new.rest.now)) }
-        ensures none { IsErrOf result ReadError.Syntax →
+        ensures none { IsErrOf result TreeError.Syntax →
             reader (tokens_in tokens.old.rest.now) ≡ None };
 }
 
@@ -25,10 +25,10 @@ pub(crate) trait Part: Drop + Sized {
 pub(crate) fn listed<P: Part>(
     alloc: Global,
     tokens: &mut Cursor<'_>,
-) -> Result<Sequence<P>, ReadError>
+) -> Result<Sequence<P>, TreeError>
     ensures found { IfOk result (λ parts. reader.listed P.reader (tokens_in tokens.old.rest.now)
         ≡ Some (parts, tokens_in tokens.new.rest.now)) }
-    ensures none { IsErrOf result ReadError.Syntax →
+    ensures none { IsErrOf result TreeError.Syntax →
         reader.listed P.reader (tokens_in tokens.old.rest.now) ≡ None }
 {
     let first = P::read(alloc, tokens)?;
@@ -50,10 +50,10 @@ pub(crate) fn listed<P: Part>(
 pub(crate) fn enclosed<P: Part>(
     alloc: Global,
     tokens: &mut Cursor<'_>,
-) -> Result<Sequence<P>, ReadError>
+) -> Result<Sequence<P>, TreeError>
     ensures found { IfOk result (λ parts. reader.enclosed P.reader (tokens_in tokens.old.rest.now)
         ≡ Some (parts, tokens_in tokens.new.rest.now)) }
-    ensures none { IsErrOf result ReadError.Syntax →
+    ensures none { IsErrOf result TreeError.Syntax →
         reader.enclosed P.reader (tokens_in tokens.old.rest.now) ≡ None }
 {
     tokens.symbol(Symbol::Open)?;
@@ -68,10 +68,10 @@ pub(crate) fn listed_by<P: Part>(
     alloc: Global,
     tokens: &mut Cursor<'_>,
     word: Keyword,
-) -> Result<Sequence<P>, ReadError>
+) -> Result<Sequence<P>, TreeError>
     ensures found { IfOk result (λ parts. reader.listed_by word P.reader
         (tokens_in tokens.old.rest.now) ≡ Some (parts, tokens_in tokens.new.rest.now)) }
-    ensures none { IsErrOf result ReadError.Syntax →
+    ensures none { IsErrOf result TreeError.Syntax →
         reader.listed_by word P.reader (tokens_in tokens.old.rest.now) ≡ None }
 {
     if !is_key(tokens.peek(), word) {
@@ -97,28 +97,28 @@ pub(crate) fn takes(tokens: &mut Cursor<'_>, word: Keyword) -> bool
 
 /// A name, bare or in quotes.
 #[tactic(auto, unfolding(crate::specs::Reader::name))]
-pub(crate) fn name(tokens: &mut Cursor<'_>) -> Result<Word, ReadError>
+pub(crate) fn name(tokens: &mut Cursor<'_>) -> Result<Word, TreeError>
     ensures found { IfOk result (λ name. reader.name (tokens_in tokens.old.rest.now)
         ≡ Some (name, tokens_in tokens.new.rest.now)) }
-    ensures none { IsErrOf result ReadError.Syntax →
+    ensures none { IsErrOf result TreeError.Syntax →
         reader.name (tokens_in tokens.old.rest.now) ≡ None }
 {
     let Some(name) = sql_reader::name(tokens.next()) else {
-        return Err(ReadError::Syntax);
+        return Err(TreeError::Syntax);
     };
     Ok(name.share()?)
 }
 
 /// A column: `column` or `table.column`.
 #[tactic(auto, unfolding(crate::specs::Reader::column))]
-pub(crate) fn column(tokens: &mut Cursor<'_>) -> Result<ColRef, ReadError>
+pub(crate) fn column(tokens: &mut Cursor<'_>) -> Result<ColRef, TreeError>
     ensures found { IfOk result (λ column. reader.column (tokens_in tokens.old.rest.now)
         ≡ Some (column, tokens_in tokens.new.rest.now)) }
-    ensures none { IsErrOf result ReadError.Syntax →
+    ensures none { IsErrOf result TreeError.Syntax →
         reader.column (tokens_in tokens.old.rest.now) ≡ None }
 {
     let Some(name) = sql_reader::name(tokens.next()) else {
-        return Err(ReadError::Syntax);
+        return Err(TreeError::Syntax);
     };
     sql_reader::column(name, tokens)
 }
@@ -126,7 +126,7 @@ pub(crate) fn column(tokens: &mut Cursor<'_>) -> Result<ColRef, ReadError>
 impl Part for Word {
     ghost reader = { reader.name };
 
-    fn read(alloc: Global, tokens: &mut Cursor<'_>) -> Result<Word, ReadError> {
+    fn read(alloc: Global, tokens: &mut Cursor<'_>) -> Result<Word, TreeError> {
         name(tokens)
     }
 }
@@ -134,7 +134,7 @@ impl Part for Word {
 impl Part for ColRef {
     ghost reader = { reader.column };
 
-    fn read(alloc: Global, tokens: &mut Cursor<'_>) -> Result<ColRef, ReadError> {
+    fn read(alloc: Global, tokens: &mut Cursor<'_>) -> Result<ColRef, TreeError> {
         column(tokens)
     }
 }

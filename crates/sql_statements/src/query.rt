@@ -13,17 +13,17 @@ use crate::from::{alias, also, sources};
 use crate::part::{Part, column, listed_by, takes};
 use cell_core::{Sequence, Word};
 use sql_reader::{
-    Cursor, ReadError, comma, digits, is_key, is_symbol, magnitude, value, whole_cond,
+    Cursor, TreeError, comma, digits, is_key, is_symbol, magnitude, value, whole_cond,
 };
 use sql_tree::{Cond, Item, Keyword, Place, Query, SortKey, Symbol};
 use std::alloc::Global;
 
 /// What follows SELECT.
 #[tactic(auto, unfolding(crate::specs::Reader::query))]
-pub(crate) fn query(alloc: Global, tokens: &mut Cursor<'_>) -> Result<Query, ReadError>
+pub(crate) fn query(alloc: Global, tokens: &mut Cursor<'_>) -> Result<Query, TreeError>
     ensures found { IfOk result (λ query. reader.query bounded count_64
         (tokens_in tokens.old.rest.now) ≡ Some (query_tree query, tokens_in tokens.new.rest.now)) }
-    ensures none { IsErrOf result ReadError.Syntax →
+    ensures none { IsErrOf result TreeError.Syntax →
         reader.query bounded count_64 (tokens_in tokens.old.rest.now) ≡ None }
 {
     let distinct = takes(tokens, Keyword::Distinct);
@@ -38,11 +38,11 @@ fn optional_from(
     tokens: &mut Cursor<'_>,
     distinct: bool,
     items: Sequence<Item>,
-) -> Result<Query, ReadError>
+) -> Result<Query, TreeError>
     ensures found { IfOk result (λ query.
         reader.optional_from bounded count_64 distinct (map item_tree items)
         (tokens_in tokens.old.rest.now) ≡ Some (query_tree query, tokens_in tokens.new.rest.now)) }
-    ensures none { IsErrOf result ReadError.Syntax →
+    ensures none { IsErrOf result TreeError.Syntax →
         reader.optional_from bounded count_64 distinct (map item_tree items)
         (tokens_in tokens.old.rest.now) ≡ None }
 {
@@ -68,11 +68,11 @@ fn from(
     tokens: &mut Cursor<'_>,
     distinct: bool,
     items: Sequence<Item>,
-) -> Result<Query, ReadError>
+) -> Result<Query, TreeError>
     ensures found { IfOk result (λ query.
         reader.from bounded count_64 distinct (map item_tree items)
         (tokens_in tokens.old.rest.now) ≡ Some (query_tree query, tokens_in tokens.new.rest.now)) }
-    ensures none { IsErrOf result ReadError.Syntax →
+    ensures none { IsErrOf result TreeError.Syntax →
         reader.from bounded count_64 distinct (map item_tree items)
         (tokens_in tokens.old.rest.now) ≡ None }
 {
@@ -97,10 +97,10 @@ fn from(
 
 /// The items, none for `*`.
 #[tactic(auto, unfolding(crate::specs::Reader::items))]
-fn items(alloc: Global, tokens: &mut Cursor<'_>) -> Result<Sequence<Item>, ReadError>
+fn items(alloc: Global, tokens: &mut Cursor<'_>) -> Result<Sequence<Item>, TreeError>
     ensures found { IfOk result (λ items. reader.items bounded (tokens_in tokens.old.rest.now)
         ≡ Some (map item_tree items, tokens_in tokens.new.rest.now)) }
-    ensures none { IsErrOf result ReadError.Syntax →
+    ensures none { IsErrOf result TreeError.Syntax →
         reader.items bounded (tokens_in tokens.old.rest.now) ≡ None }
 {
     if is_symbol(tokens.peek(), Symbol::Star) {
@@ -112,11 +112,11 @@ fn items(alloc: Global, tokens: &mut Cursor<'_>) -> Result<Sequence<Item>, ReadE
 
 /// One item or more, with commas between them.
 #[tactic(auto, unfolding(crate::specs::Reader::listed), using(crate::proofs::ListLemmas::map_one))]
-fn some_items(alloc: Global, tokens: &mut Cursor<'_>) -> Result<Sequence<Item>, ReadError>
+fn some_items(alloc: Global, tokens: &mut Cursor<'_>) -> Result<Sequence<Item>, TreeError>
     ensures found { IfOk result (λ items. reader.listed (reader.item bounded)
         (tokens_in tokens.old.rest.now)
         ≡ Some (map item_tree items, tokens_in tokens.new.rest.now)) }
-    ensures none { IsErrOf result ReadError.Syntax →
+    ensures none { IsErrOf result TreeError.Syntax →
         reader.listed (reader.item bounded) (tokens_in tokens.old.rest.now) ≡ None }
 {
     let first = item(alloc, tokens)?;
@@ -135,10 +135,10 @@ fn some_items(alloc: Global, tokens: &mut Cursor<'_>) -> Result<Sequence<Item>, 
 
 /// An item, with a name or without.
 #[tactic(auto, unfolding(crate::specs::Reader::item))]
-fn item(alloc: Global, tokens: &mut Cursor<'_>) -> Result<Item, ReadError>
+fn item(alloc: Global, tokens: &mut Cursor<'_>) -> Result<Item, TreeError>
     ensures found { IfOk result (λ item. reader.item bounded (tokens_in tokens.old.rest.now)
         ≡ Some (item_tree item, tokens_in tokens.new.rest.now)) }
-    ensures none { IsErrOf result ReadError.Syntax →
+    ensures none { IsErrOf result TreeError.Syntax →
         reader.item bounded (tokens_in tokens.old.rest.now) ≡ None }
 {
     let expr = value(alloc, tokens)?;
@@ -148,11 +148,11 @@ fn item(alloc: Global, tokens: &mut Cursor<'_>) -> Result<Item, ReadError>
 
 /// The condition behind HAVING, or none.
 #[tactic(auto, unfolding(crate::specs::Reader::having_cond))]
-fn having(alloc: Global, tokens: &mut Cursor<'_>) -> Result<Option<Cond>, ReadError>
+fn having(alloc: Global, tokens: &mut Cursor<'_>) -> Result<Option<Cond>, TreeError>
     ensures found { IfOk result (λ cond.
         reader.optional word.Having (reader.having_cond bounded) (tokens_in tokens.old.rest.now)
         ≡ Some (option_map cond_tree cond, tokens_in tokens.new.rest.now)) }
-    ensures none { IsErrOf result ReadError.Syntax →
+    ensures none { IsErrOf result TreeError.Syntax →
         reader.optional word.Having (reader.having_cond bounded)
         (tokens_in tokens.old.rest.now) ≡ None }
 {
@@ -165,10 +165,10 @@ fn having(alloc: Global, tokens: &mut Cursor<'_>) -> Result<Option<Cond>, ReadEr
 
 /// The most rows behind LIMIT, or none.
 #[tactic(auto, unfolding(crate::specs::Reader::counted))]
-fn limit(tokens: &mut Cursor<'_>) -> Result<Option<u64>, ReadError>
+fn limit(tokens: &mut Cursor<'_>) -> Result<Option<u64>, TreeError>
     ensures found { IfOk result (λ limit. reader.optional word.Limit (reader.counted bounded count_64)
         (tokens_in tokens.old.rest.now) ≡ Some (limit, tokens_in tokens.new.rest.now)) }
-    ensures none { IsErrOf result ReadError.Syntax →
+    ensures none { IsErrOf result TreeError.Syntax →
         reader.optional word.Limit (reader.counted bounded count_64)
         (tokens_in tokens.old.rest.now) ≡ None }
 {
@@ -177,17 +177,17 @@ fn limit(tokens: &mut Cursor<'_>) -> Result<Option<u64>, ReadError>
     }
     tokens.advance();
     let Some(digits) = digits(tokens.next()) else {
-        return Err(ReadError::Syntax);
+        return Err(TreeError::Syntax);
     };
     Ok(Some(count(digits)))
 }
 
 /// A key of ORDER BY.
 #[tactic(auto, unfolding(crate::specs::Reader::key))]
-fn sort_key(tokens: &mut Cursor<'_>) -> Result<SortKey, ReadError>
+fn sort_key(tokens: &mut Cursor<'_>) -> Result<SortKey, TreeError>
     ensures found { IfOk result (λ key. reader.key bounded count_64
         (tokens_in tokens.old.rest.now) ≡ Some (key, tokens_in tokens.new.rest.now)) }
-    ensures none { IsErrOf result ReadError.Syntax →
+    ensures none { IsErrOf result TreeError.Syntax →
         reader.key bounded count_64 (tokens_in tokens.old.rest.now) ≡ None }
 {
     let at = place(tokens)?;
@@ -197,10 +197,10 @@ fn sort_key(tokens: &mut Cursor<'_>) -> Result<SortKey, ReadError>
 
 /// What a key sorts by: a position or a column.
 #[tactic(auto, unfolding(crate::specs::Reader::place))]
-fn place(tokens: &mut Cursor<'_>) -> Result<Place, ReadError>
+fn place(tokens: &mut Cursor<'_>) -> Result<Place, TreeError>
     ensures found { IfOk result (λ place. reader.place bounded count_64
         (tokens_in tokens.old.rest.now) ≡ Some (place, tokens_in tokens.new.rest.now)) }
-    ensures none { IsErrOf result ReadError.Syntax →
+    ensures none { IsErrOf result TreeError.Syntax →
         reader.place bounded count_64 (tokens_in tokens.old.rest.now) ≡ None }
 {
     if let Some(digits) = digits(tokens.peek()) {
@@ -240,7 +240,7 @@ fn count(digits: &Word) -> u64
 impl Part for SortKey {
     ghost reader = { reader.key bounded count_64 };
 
-    fn read(alloc: Global, tokens: &mut Cursor<'_>) -> Result<SortKey, ReadError> {
+    fn read(alloc: Global, tokens: &mut Cursor<'_>) -> Result<SortKey, TreeError> {
         sort_key(tokens)
     }
 }

@@ -10,7 +10,7 @@ use crate::change::{delete, update};
 use crate::define::{alter, create, drop_table};
 use crate::query::query;
 use crate::values::insert;
-use sql_reader::{Cursor, ReadError};
+use sql_reader::{Cursor, TreeError};
 use sql_tree::{Keyword, Placed, Stmt, Token};
 use std::alloc::Global;
 
@@ -21,9 +21,9 @@ use std::alloc::Global;
 /// nodes and a condition of more than 128 stand cut off a little past these limits, with a sign of each of
 /// these in what is left out: a column, a Huge, arithmetic over columns. The limits of all these are a step
 /// of its own.
-pub fn read_stmt(alloc: Global, tokens: &[Placed]) -> Result<Stmt, ReadError>
+pub fn read_stmt(alloc: Global, tokens: &[Placed]) -> Result<Stmt, TreeError>
     ensures statement { IfOk result (λ s. IsReadStmt (tokens_in tokens.now) (stmt_tree s)) }
-    ensures none { IsErrOf result ReadError.Syntax →
+    ensures none { IsErrOf result TreeError.Syntax →
         (s : StmtTree) → Derives (tokens_in tokens.now) s → ⊥ }
 {
     let mut rest = Cursor::new(tokens);
@@ -32,10 +32,10 @@ pub fn read_stmt(alloc: Global, tokens: &[Placed]) -> Result<Stmt, ReadError>
 }
 
 /// The statement, where no token is left behind it.
-fn alone(rest: &Cursor<'_>, read: Stmt) -> Result<Stmt, ReadError>
+fn alone(rest: &Cursor<'_>, read: Stmt) -> Result<Stmt, TreeError>
     ensures same { IfOk result (λ s. stmt_tree s ≡ stmt_tree read) }
     ensures found { OnOk result (tokens_in rest.now.rest.now ≡ []) }
-    ensures none { IsErrOf result ReadError.Syntax → 0 < length (tokens_in rest.now.rest.now) }
+    ensures none { IsErrOf result TreeError.Syntax → 0 < length (tokens_in rest.now.rest.now) }
 {
     match rest.end() {
         Ok(()) => Ok(read),
@@ -49,10 +49,10 @@ fn alone(rest: &Cursor<'_>, read: Stmt) -> Result<Stmt, ReadError>
 
 /// A statement.
 #[tactic(auto, unfolding(crate::specs::Reader::stmt))]
-fn stmt(alloc: Global, tokens: &mut Cursor<'_>) -> Result<Stmt, ReadError>
+fn stmt(alloc: Global, tokens: &mut Cursor<'_>) -> Result<Stmt, TreeError>
     ensures found { IfOk result (λ s. reader.stmt bounded count_64 length_32
         (tokens_in tokens.old.rest.now) ≡ Some (stmt_tree s, tokens_in tokens.new.rest.now)) }
-    ensures none { IsErrOf result ReadError.Syntax →
+    ensures none { IsErrOf result TreeError.Syntax →
         reader.stmt bounded count_64 length_32 (tokens_in tokens.old.rest.now) ≡ None }
 {
     match tokens.next() {
@@ -64,16 +64,16 @@ fn stmt(alloc: Global, tokens: &mut Cursor<'_>) -> Result<Stmt, ReadError>
         Some(Token::Key(Keyword::Update)) => update(alloc, tokens),
         Some(Token::Key(Keyword::Select)) => Ok(Stmt::Query(query(alloc, tokens)?)),
         Some(Token::Key(Keyword::Explain)) => explain(alloc, tokens),
-        _ => Err(ReadError::Syntax),
+        _ => Err(TreeError::Syntax),
     }
 }
 
 /// What follows EXPLAIN: a query.
 #[tactic(auto, unfolding(crate::specs::Reader::explain))]
-fn explain(alloc: Global, tokens: &mut Cursor<'_>) -> Result<Stmt, ReadError>
+fn explain(alloc: Global, tokens: &mut Cursor<'_>) -> Result<Stmt, TreeError>
     ensures found { IfOk result (λ s. reader.explain bounded count_64
         (tokens_in tokens.old.rest.now) ≡ Some (stmt_tree s, tokens_in tokens.new.rest.now)) }
-    ensures none { IsErrOf result ReadError.Syntax →
+    ensures none { IsErrOf result TreeError.Syntax →
         reader.explain bounded count_64 (tokens_in tokens.old.rest.now) ≡ None }
 {
     tokens.key(Keyword::Select)?;

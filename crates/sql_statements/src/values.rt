@@ -6,16 +6,16 @@ ghost use Rattle.sql_statements.specs.Reader as reader;
 
 use crate::part::{Part, enclosed, listed, name};
 use cell_core::{Cell, Sequence, Word};
-use sql_reader::{Cursor, ReadError, day, digits, is_symbol, negative_number, plain_number, text};
+use sql_reader::{Cursor, TreeError, day, digits, is_symbol, negative_number, plain_number, text};
 use sql_tree::{Keyword, Stmt, Symbol, Token};
 use std::alloc::Global;
 
 /// What follows INSERT: INTO, a table, its columns or none, VALUES and rows.
 #[tactic(auto, unfolding(crate::specs::Reader::insert))]
-pub(crate) fn insert(alloc: Global, tokens: &mut Cursor<'_>) -> Result<Stmt, ReadError>
+pub(crate) fn insert(alloc: Global, tokens: &mut Cursor<'_>) -> Result<Stmt, TreeError>
     ensures found { IfOk result (λ statement. reader.insert bounded
         (tokens_in tokens.old.rest.now) ≡ Some (stmt_tree statement, tokens_in tokens.new.rest.now)) }
-    ensures none { IsErrOf result ReadError.Syntax →
+    ensures none { IsErrOf result TreeError.Syntax →
         reader.insert bounded (tokens_in tokens.old.rest.now) ≡ None }
 {
     tokens.key(Keyword::Into)?;
@@ -32,10 +32,10 @@ pub(crate) fn insert(alloc: Global, tokens: &mut Cursor<'_>) -> Result<Stmt, Rea
 
 /// The columns in parentheses, or none.
 #[tactic(auto, unfolding(crate::specs::Reader::names))]
-fn names(alloc: Global, tokens: &mut Cursor<'_>) -> Result<Sequence<Word>, ReadError>
+fn names(alloc: Global, tokens: &mut Cursor<'_>) -> Result<Sequence<Word>, TreeError>
     ensures found { IfOk result (λ names. reader.names (tokens_in tokens.old.rest.now)
         ≡ Some (names, tokens_in tokens.new.rest.now)) }
-    ensures none { IsErrOf result ReadError.Syntax →
+    ensures none { IsErrOf result TreeError.Syntax →
         reader.names (tokens_in tokens.old.rest.now) ≡ None }
 {
     if !is_symbol(tokens.peek(), Symbol::Open) {
@@ -46,10 +46,10 @@ fn names(alloc: Global, tokens: &mut Cursor<'_>) -> Result<Sequence<Word>, ReadE
 
 /// A row: literals in parentheses.
 #[tactic(auto, unfolding(crate::specs::Reader::row))]
-fn row(alloc: Global, tokens: &mut Cursor<'_>) -> Result<Sequence<Cell>, ReadError>
+fn row(alloc: Global, tokens: &mut Cursor<'_>) -> Result<Sequence<Cell>, TreeError>
     ensures found { IfOk result (λ row. reader.row bounded (tokens_in tokens.old.rest.now)
         ≡ Some (row, tokens_in tokens.new.rest.now)) }
-    ensures none { IsErrOf result ReadError.Syntax →
+    ensures none { IsErrOf result TreeError.Syntax →
         reader.row bounded (tokens_in tokens.old.rest.now) ≡ None }
 {
     enclosed(alloc, tokens)
@@ -57,10 +57,10 @@ fn row(alloc: Global, tokens: &mut Cursor<'_>) -> Result<Sequence<Cell>, ReadErr
 
 /// A literal: digits, digits behind a `-`, a string, NULL, or DATE and a string that names a day.
 #[tactic(auto, unfolding(crate::specs::Reader::literal))]
-pub(crate) fn literal(tokens: &mut Cursor<'_>) -> Result<Cell, ReadError>
+pub(crate) fn literal(tokens: &mut Cursor<'_>) -> Result<Cell, TreeError>
     ensures found { IfOk result (λ literal. reader.literal bounded
         (tokens_in tokens.old.rest.now) ≡ Some (literal, tokens_in tokens.new.rest.now)) }
-    ensures none { IsErrOf result ReadError.Syntax →
+    ensures none { IsErrOf result TreeError.Syntax →
         reader.literal bounded (tokens_in tokens.old.rest.now) ≡ None }
 {
     match tokens.next() {
@@ -69,45 +69,45 @@ pub(crate) fn literal(tokens: &mut Cursor<'_>) -> Result<Cell, ReadError>
         Some(Token::Key(Keyword::Null)) => Ok(Cell::Nil),
         Some(Token::Key(Keyword::Date)) => day_literal(tokens),
         Some(Token::Symbol(Symbol::Minus)) => negative_literal(tokens),
-        _ => Err(ReadError::Syntax),
+        _ => Err(TreeError::Syntax),
     }
 }
 
 /// The digits behind a `-`.
 #[tactic(auto, unfolding(crate::specs::Reader::negative_literal))]
-fn negative_literal(tokens: &mut Cursor<'_>) -> Result<Cell, ReadError>
+fn negative_literal(tokens: &mut Cursor<'_>) -> Result<Cell, TreeError>
     ensures found { IfOk result (λ literal. reader.negative_literal bounded
         (tokens_in tokens.old.rest.now) ≡ Some (literal, tokens_in tokens.new.rest.now)) }
-    ensures none { IsErrOf result ReadError.Syntax →
+    ensures none { IsErrOf result TreeError.Syntax →
         reader.negative_literal bounded (tokens_in tokens.old.rest.now) ≡ None }
 {
     let Some(digits) = digits(tokens.next()) else {
-        return Err(ReadError::Syntax);
+        return Err(TreeError::Syntax);
     };
     Ok(negative_number(digits.text()))
 }
 
 /// What follows DATE: a string that names a day.
 #[tactic(auto, unfolding(crate::specs::Reader::day_literal))]
-fn day_literal(tokens: &mut Cursor<'_>) -> Result<Cell, ReadError>
+fn day_literal(tokens: &mut Cursor<'_>) -> Result<Cell, TreeError>
     ensures found { IfOk result (λ literal. reader.day_literal (tokens_in tokens.old.rest.now)
         ≡ Some (literal, tokens_in tokens.new.rest.now)) }
-    ensures none { IsErrOf result ReadError.Syntax →
+    ensures none { IsErrOf result TreeError.Syntax →
         reader.day_literal (tokens_in tokens.old.rest.now) ≡ None }
 {
     let Some(text) = text(tokens.next()) else {
-        return Err(ReadError::Syntax);
+        return Err(TreeError::Syntax);
     };
     match day(text) {
         Some(day) => Ok(Cell::Day(day)),
-        None => Err(ReadError::Syntax),
+        None => Err(TreeError::Syntax),
     }
 }
 
 impl Part for Cell {
     ghost reader = { reader.literal bounded };
 
-    fn read(alloc: Global, tokens: &mut Cursor<'_>) -> Result<Cell, ReadError> {
+    fn read(alloc: Global, tokens: &mut Cursor<'_>) -> Result<Cell, TreeError> {
         literal(tokens)
     }
 }
@@ -115,7 +115,7 @@ impl Part for Cell {
 impl Part for Sequence<Cell> {
     ghost reader = { reader.row bounded };
 
-    fn read(alloc: Global, tokens: &mut Cursor<'_>) -> Result<Sequence<Cell>, ReadError> {
+    fn read(alloc: Global, tokens: &mut Cursor<'_>) -> Result<Sequence<Cell>, TreeError> {
         row(alloc, tokens)
     }
 }

@@ -1,12 +1,12 @@
 use Rattle.std.proofs.Common.{◌≡◌, ◌++◌, map, length}
 use Rattle.std.specs.Option.{option_map}
 use Rattle.cell_core.specs.Calc.{all_or_none}
-use Rattle.mal_meaning.specs.Slow.{function_of}
+use Rattle.mal_meaning.specs.Slow.{row_function}
 use Rattle.mal_meaning.proofs.calc.apply_to_rows.Given as goal
 
 -- what is made so far, and what the rest gives, is what all give
 abbrev pub invariant-rows : goal.invariant-rows
-invariant-rows l = option_map (λ more. l.cells ++ more) (all_or_none (map (function_of l.op) l.rest)) ≡ all_or_none (map (function_of l.op) l.rows)
+invariant-rows l = option_map (λ more. l.cells ++ more) (all_or_none (map (row_function l.op) l.rest)) ≡ all_or_none (map (row_function l.op) l.rows)
 
 abbrev pub decreases-rows : goal.decreases-rows
 decreases-rows l = length l.rest

@@ -1,6 +1,6 @@
 use Rattle.std.proofs.Common.{◌≡◌, ◌++◌, length}
 use Rattle.sql_semantics.specs.Rows.{choice_row}
-use Rattle.sql_meaning.specs.Exprs.{exprs_of}
+use Rattle.sql_semantics.specs.Exprs.{exprs_of}
 use Rattle.sql_meaning.proofs.rows.choice_row.Given as goal
 
 -- what is made so far, and what the rest gives, is what all give

@@ -1,6 +1,6 @@
 use Rattle.std.proofs.Common.{◌≡◌, ◌++◌, map, length}
 use Rattle.sql_meaning.specs.Shown.{row_of_group}
-use Rattle.sql_meaning.specs.Exprs.{exprs_of}
+use Rattle.sql_semantics.specs.Exprs.{exprs_of}
 use Rattle.sql_meaning.proofs.rows.rows_of_groups.Given as goal
 
 -- what is made so far, and what the rest gives, is what all give
