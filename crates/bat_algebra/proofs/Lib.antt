@@ -1,3 +1,4 @@
+pub mod FlagLemmas
 pub mod MarkLemmas
 pub mod PairLemmas
-pub mod RunLemmas
+pub mod PlaceLemmas

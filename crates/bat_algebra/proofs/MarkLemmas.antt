@@ -9,7 +9,7 @@ use Rattle.cell_core.specs.declared.cell.Cell.{Cell}
 use Rattle.cell_core.specs.declared.cell.Cell.TheVariants.{Nil, Int, Huge, Text, Day, Bit, Oid}
 use Rattle.cell_core.specs.Pairs.{Pairs, heads_of}
 use Rattle.cell_core.specs.Relations.{marked, counted_from, projected}
-use Rattle.bat_core.specs.Filled.{oids_from}
+use Rattle.chunk_core.specs.Filled.{oids_from}
 
 -- the heads beside the counts from a place on
 marks_from : (base : Cell) (k : ℕ) (b : Pairs) → zip (heads_of b) (map (counted_from base) (range_with_len k (length b))) ≡ map (λ (n : ℕ × (Cell × Cell)). (n.1.0, counted_from base n.0)) (enumerate_from k b)

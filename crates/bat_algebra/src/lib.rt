@@ -6,9 +6,10 @@
 //! the pairs that it reads and those of its result. Columns that stay as they are, are shared.
 #![tactic(auto)]
 
+mod flags;
 mod heads;
 mod mark;
-mod pass;
+mod places;
 mod product;
 mod range;
 mod turn;

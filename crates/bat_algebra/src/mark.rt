@@ -4,7 +4,7 @@ ghost use Rattle.std.specs.List.{range_with_len};
 ghost use Rattle.cell_core.specs.declared.cell.Cell.TheVariants.{Oid};
 ghost use Rattle.cell_core.specs.Relations.{marked, counted_from};
 
-use bat_core::{Bat, Cells};
+use bat_core::{Bat, Cells, CellsBuilder};
 use cell_core::{Cell, Memory, Steps};
 use std::alloc::Global;
 use std::sync::ledger::Ledger;
@@ -47,9 +47,9 @@ fn wrap_from(alloc: Global, from: u64, count: u64) -> Result<Cells, Memory>
     requires far { 2 ^ 64 ≤ from + count }
     ensures { IfOk result (λ cells. cells ≡ map (counted_from (Oid from)) (range_with_len 0 count)) }
 {
-    let mut cells = Cells::new(alloc);
+    let mut cells = CellsBuilder::new(alloc);
     for i in 0..count {
         cells.push(alloc, Cell::Oid(from.wrapping_add(i)))?;
     }
-    Ok(cells)
+    cells.finish(alloc)
 }

@@ -1,15 +1,18 @@
 //! A function over scalars, and over BATs place by place.
-ghost use Rattle.std.specs.Prelude.{◌≡◌, [], ◌∷◌, ◌+◌, ◌++◌, ◌<◌, ◌≤◌, ◌^◌, length, map, Some, None, IfOk, OnOk, OnErr};
+ghost use Rattle.std.specs.Prelude.{◌≡◌, [], ◌∷◌, ◌+◌, ◌++◌, ◌<◌, ◌≤◌, ◌^◌, length, map, slice_index_or, Some, None, IfOk, OnOk, OnErr};
 ghost use Rattle.std.specs.List.{zip};
 ghost use Rattle.cell_core.specs.declared.operator.Value.TheVariants.{Bat as BatValue};
 ghost use Rattle.cell_core.specs.Pairs.{Pairs, heads_of, pair_count, rows_of, shortest, bats_in};
 ghost use Rattle.cell_core.specs.Calc.{calculated, over_two, all_or_none, first_heads};
+ghost use Rattle.cell_core.specs.declared.cell.Cell.TheVariants.{Nil};
+ghost use Rattle.chunk_core.specs.Parts.{part_cells};
 ghost use Rattle.bat_core.specs.Objects.{value_of};
 ghost use Rattle.bat_calc.specs.Functions.{function_of, Reaches, column, applied};
 
 use crate::function::{Function, apply};
 use bat_core::{Bat, Cells, CellsBuilder, Obj, Shared};
 use cell_core::{Cell, Memory, RunError, Steps};
+use chunk_core::Part;
 use std::alloc::Global;
 use std::sync::ledger::Ledger;
 
@@ -116,28 +119,40 @@ fn cells_of(alloc: Global, function: Function, rows: &Bat) -> Result<Cells, RunE
         add_cells(alloc, function, left, right, &mut cells)?;
         from += left.len() as u64;
     }
-    Ok(cells.finish()?)
+    Ok(cells.finish(alloc)?)
 }
 
 /// Adds the cells of a function over a run.
 fn add_cells(
     alloc: Global,
     function: Function,
-    left: &[Cell],
-    right: &[Cell],
+    left: Part<'_>,
+    right: Part<'_>,
     cells: &mut CellsBuilder,
 ) -> Result<(), RunError>
-    requires { length right.now ≡ length left.now }
-    ensures value { OnOk result ((before : Pairs) → applied function before ≡ Some cells.old → applied function (before ++ zip left.now right.now) ≡ Some cells.new) }
-    ensures overflow { result ≡ Err RunError.Overflow → applied function (zip left.now right.now) ≡ None }
+    requires { length (part_cells right) ≡ length (part_cells left) }
+    ensures value { OnOk result ((before : Pairs) → applied function before ≡ Some cells.old → applied function (before ++ zip (part_cells left.entry) (part_cells right.entry)) ≡ Some cells.new) }
+    ensures overflow { result ≡ Err RunError.Overflow → applied function (zip (part_cells left.entry) (part_cells right.entry)) ≡ None }
 {
     for i in 0..left.len() {
-        match apply(function, &left[i], &right[i]) {
+        match apply_at(function, left, right, i) {
             Some(cell) => cells.push(alloc, cell)?,
             None => return Err(RunError::Overflow),
         }
     }
     Ok(())
+}
+
+/// The cell of a function over the cells at a place.
+#[inline]
+fn apply_at(function: Function, left: Part<'_>, right: Part<'_>, at: usize) -> Option<Cell>
+    requires left { at < length (part_cells left) }
+    requires right { at < length (part_cells right) }
+    ensures { result ≡ function_of function (slice_index_or (part_cells left.entry) at Nil) (slice_index_or (part_cells right.entry) at Nil) }
+{
+    let a = left.get(at);
+    let b = right.get(at);
+    apply(function, a.cell(), b.cell())
 }
 
 /// Tails beside the first heads of a BAT, which are shared where none is left out.

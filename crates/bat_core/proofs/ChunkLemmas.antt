@@ -1,7 +1,7 @@
 -- Lists that are kept in full chunks, by their lengths and places.
 use Rattle.std.proofs.Common.{◌≡◌, ℕ, suc, zero, ◌+◌, ◌-◌, ◌*◌, ◌/◌, ◌%◌, ◌<◌, ◌≤◌, List, [], ◌∷◌, ◌++◌, length, map, get_or, take, drop, refl, sym, ap, ◌∙◌, arith}
 use Rattle.std.specs.List.{flat_map}
-use Rattle.std.proofs.lemmas.List.{length-append, length-drop, drop-append-le, take_at, get_or-take, get_or-append-add, length-take-le, take_rest, append-nil}
+use Rattle.std.proofs.lemmas.List.{length-append, length-drop, drop-append-le, take_at, get_or-take, length-take, get_or-append-add, length-take-le, take_rest, append-nil}
 use Rattle.std.proofs.Math.Seq.{drop-append-add, take-add}
 use Rattle.std.proofs.Math.Nat.{div-add-mod}
 use Rattle.bat_core.specs.Chunks.{AreFull}
@@ -18,6 +18,18 @@ rest_more front back xs from k same place =
     let split : drop from xs ≡ drop k back ++ [] =
     ap (λ l. drop from l) (sym same) ∙ ap (λ n. drop n (front ++ back)) place ∙ drop-append-add front back k ∙ sym (append-nil (drop k back)) in
     rw rest (piece_more xs (drop k back) [] from split)
+
+-- a piece ends within the list
+pub piece_within : {X : Type 0} (xs piece : List X) (from : ℕ) → from ≤ length xs → take (from + length piece) xs ≡ take from xs ++ piece → from + length piece ≤ length xs
+piece_within xs piece from within same =
+    omega (arith, length-take-le from xs within, ap length same, length-append (take from xs) piece, length-take (from + length piece) xs)
+
+-- the same of all that is left
+pub back_more : {X : Type 0} (front back xs : List X) (from k : ℕ) → front ++ back ≡ xs → from ≡ length front + k → take (from + length (drop k back)) xs ≡ take from xs ++ drop k back
+back_more front back xs from k same place =
+    let split : drop from xs ≡ drop k back ++ [] =
+    ap (λ l. drop from l) (sym same) ∙ ap (λ n. drop n (front ++ back)) place ∙ drop-append-add front back k ∙ sym (append-nil (drop k back)) in
+    piece_more xs (drop k back) [] from split
 
 -- and the first of the piece stands at its place
 pub piece_first : {X : Type 0} (xs piece : List X) (from : ℕ) (d : X) → from < length xs → 0 < length piece → take (from + length piece) xs ≡ take from xs ++ piece → get_or piece 0 d ≡ get_or xs from d
@@ -94,12 +106,8 @@ module _ {C X : Type 0} (items : C → List X) (n : ℕ) where
         ap (λ l. drop from l) (sym same) ∙ ap (λ k. drop k (flat_map items chunks)) (sym place) ∙ rest_at chunks (from / n) (from % n) d full (chunk_within chunks xs from some full same within) small
         ∙ ap (λ l. drop (from % n) l ++ flat_map items (drop (suc (from / n)) chunks)) (sym is)
 
-    pub chunk_some : 0 < length (take (length chunk - from % n) (drop (from % n) chunk))
-    chunk_some =
-        let rest : take (length chunk - from % n) (drop (from % n) chunk) ≡ drop (from % n) chunk = take_rest chunk (from % n) in
-        rw rest (omega (arith, length-drop (from % n) chunk, chunk_long))
+    pub chunk_some : 0 < length (drop (from % n) chunk)
+    chunk_some = omega (arith, length-drop (from % n) chunk, chunk_long)
 
-    pub chunk_more : take (from + length (take (length chunk - from % n) (drop (from % n) chunk))) xs ≡ take from xs ++ take (length chunk - from % n) (drop (from % n) chunk)
-    chunk_more =
-        let rest : take (length chunk - from % n) (drop (from % n) chunk) ≡ drop (from % n) chunk = take_rest chunk (from % n) in
-        rw rest (piece_more xs (drop (from % n) chunk) (flat_map items (drop (suc (from / n)) chunks)) from chunk_split)
+    pub chunk_more : take (from + length (drop (from % n) chunk)) xs ≡ take from xs ++ drop (from % n) chunk
+    chunk_more = piece_more xs (drop (from % n) chunk) (flat_map items (drop (suc (from / n)) chunks)) from chunk_split

@@ -1,7 +1,7 @@
 -- The stated bytes of a BAT.
 use Rattle.std.specs.Prelude.{ℕ, ◌+◌, if◌then◌else◌}
 use Rattle.cell_core.specs.Pairs.{Pairs, heads_of, tails_of}
-use Rattle.bat_core.specs.Facts.{cells_bytes, is_dense}
+use Rattle.chunk_core.specs.Facts.{cells_bytes, is_dense}
 
 -- 64, the bytes of the tails, and those of the heads unless they are oids that rise by one each
 abbrev pub bat_bytes : Pairs → ℕ

@@ -1,11 +1,18 @@
--- Lists that are kept in shared chunks of one length.
-use Rattle.std.specs.Prelude.{◌≡◌, ℕ, List, [], ◌∷◌, length}
+-- Chunks that columns share, and lists that are kept in chunks of one length.
+use Rattle.std.specs.Prelude.{◌≡◌, ℕ, List, [], ◌∷◌, length, Option, None, Some}
 use Rattle.std.specs.declared.sync.Arc.{Arc}
-use Rattle.std.specs.declared.vec.Vec.{Vec}
+use Rattle.cell_core.specs.declared.cell.Cell.{Cell}
+use Rattle.chunk_core.specs.Chunks.{chunk_cells}
+use Rattle.chunk_core.specs.declared.chunk.Chunk.{Chunk}
 
--- the elements of a shared chunk
-abbrev pub chunk_items : {X Y Z : Type 0} → Arc (Vec X Y) Z → List X
-chunk_items chunk = chunk.value.items
+-- the cells of a shared chunk
+abbrev pub held_cells : {Z : Type 0} → Arc Chunk Z → List Cell
+held_cells held = chunk_cells held.value
+
+-- those of a last chunk, of which there may be none
+abbrev pub last_cells : {Z : Type 0} → Option (Arc Chunk Z) → List Cell
+last_cells None = []
+last_cells (Some held) = held_cells held
 
 -- each chunk holds this many elements
 abbrev pub AreFull : {C X : Type 0} → (C → List X) → ℕ → List C → Type 0

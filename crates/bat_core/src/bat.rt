@@ -1,13 +1,15 @@
 //! A list of pairs of cells, kept as two columns.
-ghost use Rattle.std.specs.Prelude.{◌≡◌, [], ◌∷◌, ◌+◌, ◌++◌, ◌^◌, ◌<◌, length, take, slice_index_or, IfOk, OnOk, OnErr};
+ghost use Rattle.std.specs.Prelude.{◌≡◌, [], ◌+◌, ◌++◌, ◌^◌, ◌<◌, ◌≤◌, length, take, slice_index_or, IfOk};
 ghost use Rattle.std.specs.List.{zip};
 ghost use Rattle.cell_core.specs.Pairs.{heads_of, tails_of};
 ghost use Rattle.cell_core.specs.Relations.{reversed, mirrored};
-ghost use Rattle.bat_core.specs.Facts.{rises};
+ghost use Rattle.chunk_core.specs.Facts.{rises};
 ghost use Rattle.bat_core.specs.Bats.{bat_bytes};
+ghost use Rattle.chunk_core.specs.Parts.{part_cells, lent_cell};
 
-use crate::cells::{Cells, push_both};
-use cell_core::{Cell, Memory};
+use crate::cells::Cells;
+use cell_core::Memory;
+use chunk_core::{CellAt, Part};
 use std::alloc::Global;
 use std::marker::Model;
 
@@ -74,24 +76,25 @@ impl Bat {
     }
 
     /// The pair at a place, counted from 0.
-    pub fn pair(&self, i: u64) -> (&Cell, &Cell)
+    pub fn pair(&self, i: u64) -> (CellAt<'_>, CellAt<'_>)
         requires { i < length self.now }
-        ensures { (result.0.now, result.1.now) ≡ slice_index_or self.now i (result.0.now, result.1.now) }
+        ensures { (lent_cell result.0, lent_cell result.1) ≡ slice_index_or self.now i (lent_cell result.0, lent_cell result.1) }
     {
         (self.heads().get(i), self.tails().get(i))
     }
 
     /// The heads and the tails from a place on, as far as both lie together.
-    pub fn run(&self, from: u64) -> (&[Cell], &[Cell])
+    pub fn run(&self, from: u64) -> (Part<'_>, Part<'_>)
         requires { from < length self.now }
-        ensures some { 0 < length result.0.now }
-        ensures even { length result.1.now ≡ length result.0.now }
-        ensures pairs { take (from + length result.0.now) self.now ≡ take from self.now ++ zip result.0.now result.1.now }
+        ensures some { 0 < length (part_cells result.0) }
+        ensures even { length (part_cells result.1) ≡ length (part_cells result.0) }
+        ensures pairs { take (from + length (part_cells result.0)) self.now ≡ take from self.now ++ zip (part_cells result.0) (part_cells result.1) }
+        ensures within { from + length (part_cells result.0) ≤ length self.now }
     {
         let heads = self.heads().run(from);
         let tails = self.tails().run(from);
         let count = heads.len().min(tails.len());
-        (&heads[..count], &tails[..count])
+        (heads.front(count), tails.front(count))
     }
 
     /// The stated bytes, which are kept and not counted.
@@ -112,15 +115,6 @@ impl Bat {
         ensures { result ≡ rises (heads_of self.now) }
     {
         self.heads().rises()
-    }
-
-    /// Adds a pair at the end.
-    pub fn append(&mut self, alloc: Global, head: Cell, tail: Cell) -> Result<(), Memory>
-        ensures ok { OnOk result (self.new ≡ self.old ++ (head, tail) ∷ []) }
-        ensures err { OnErr result (self.new ≡ self.old) }
-    {
-        push_both(alloc, &mut self.heads, &mut self.tails, head, tail)?;
-        Ok(())
     }
 
     /// The pairs with their cells exchanged, in columns that both BATs share.

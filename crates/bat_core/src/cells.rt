@@ -1,40 +1,43 @@
 //! A column of cells, in chunks that several columns share.
-ghost use Rattle.std.specs.Prelude.{◌≡◌, [], ◌∷◌, ◌+◌, ◌++◌, ◌^◌, ◌<◌, ◌≤◌, length, slice_index_or, take, IfOk, OnOk, OnErr, IfSome, vec_len, replicate};
-ghost use Rattle.std.specs.Vec.{vec_capacity};
-ghost use Rattle.std.specs.Option.{option_copied};
-ghost use Rattle.bat_core.specs.Facts.{rises, is_dense, cells_bytes, last_cell, AreToldOf};
-ghost use Rattle.bat_core.specs.Filled.{oids_from};
+ghost use Rattle.std.specs.Prelude.{◌≡◌, [], ◌∷◌, ◌+◌, ◌++◌, ◌^◌, ◌<◌, ◌≤◌, length, slice_index_or, take, IfOk, replicate};
+ghost use Rattle.chunk_core.specs.Facts.{rises, is_dense, cells_bytes, AreToldOf};
+ghost use Rattle.chunk_core.specs.Filled.{oids_from};
+ghost use Rattle.chunk_core.specs.Parts.{part_cells, lent_cell};
+ghost use Rattle.chunk_core.specs.Chunks.{chunk_cells};
+ghost use Rattle.bat_core.specs.Chunks.{held_cells, last_cells};
 
 use crate::builder::CellsBuilder;
-use crate::facts::{Facts, bytes_with, dense_after, facts_after, rises_after};
 use crate::filled::{
     oid_chunk, oid_facts, oid_pile, repeated_chunk, repeated_facts, repeated_pile,
 };
 use crate::pile::{CHUNK, Pile};
-use cell_core::{Cell, Memory, copy_cells};
+use cell_core::{Cell, Memory};
+use chunk_core::{CellAt, Chunk, Facts, Part};
 use std::alloc::Global;
 use std::marker::Model;
-use std::mem;
+use std::sync::Arc;
 
 /// The cells of a column, which contracts see as their list. A column that grows past its limit of
 /// 2^60 stated bytes answers `Memory`.
 #[derive(Drop)]
 pub struct Cells {
     pile: Pile,
-    loose: Vec<Cell>,
+    piled: Facts,
+    last: Option<Arc<Chunk>>,
     facts: Facts,
 }
 
 impl Model for Cells {
     ghost use Rattle.std.specs.Prelude.{List, ◌++◌};
     ghost use Rattle.cell_core.specs.declared.cell.Cell.{Cell};
-    ghost use Rattle.bat_core.specs.Facts.{AreToldOf};
+    ghost use Rattle.chunk_core.specs.Facts.{AreToldOf};
+    ghost use Rattle.bat_core.specs.Chunks.{last_cells};
 
     ghost Value = { List Cell };
 
-    ghost view = { λ c. c.pile ++ c.loose.items };
+    ghost view = { λ c. c.pile ++ last_cells c.last };
 
-    ghost invariant = { λ c. AreToldOf c.facts (c.pile ++ c.loose.items) };
+    ghost invariant = { λ c. AreToldOf c.piled c.pile × AreToldOf c.facts (c.pile ++ last_cells c.last) };
 }
 
 impl Cells {
@@ -44,17 +47,31 @@ impl Cells {
     {
         Cells {
             pile: Pile::new(alloc),
-            loose: Vec::new(alloc),
+            piled: Facts::none(),
+            last: None,
             facts: Facts::none(),
         }
     }
 
     /// The column of the cells of a pile and others behind it, of which these facts are told.
-    pub(crate) fn from_parts(pile: Pile, loose: Vec<Cell>, facts: Facts) -> Cells
-        requires { AreToldOf facts (pile ++ loose.items) }
-        ensures { result ≡ pile ++ loose.items }
+    pub(crate) fn from_parts(
+        alloc: Global,
+        pile: Pile,
+        piled: Facts,
+        last: Chunk,
+        facts: Facts,
+    ) -> Result<Cells, Memory>
+        requires piled { AreToldOf piled pile }
+        requires all { AreToldOf facts (pile ++ chunk_cells last) }
+        ensures { IfOk result (λ cells. cells ≡ pile ++ chunk_cells last) }
     {
-        Cells { pile, loose, facts }
+        let last = Some(Arc::new(alloc, last)?);
+        Ok(Cells {
+            pile,
+            piled,
+            last,
+            facts,
+        })
     }
 
     /// That many oids from a number on, each one more than the one before.
@@ -62,27 +79,36 @@ impl Cells {
         requires { from + count < 2 ^ 64 }
         ensures { IfOk result (λ cells. cells ≡ oids_from from count) }
     {
+        let chunks = count / CHUNK as u64;
+        let full = CHUNK as u64 * chunks;
+        let Some(piled) = oid_facts(from, full) else {
+            return Err(Memory);
+        };
         let Some(facts) = oid_facts(from, count) else {
             return Err(Memory);
         };
-        let chunks = count / CHUNK as u64;
-        let piled = chunks * CHUNK as u64;
         let pile = oid_pile(alloc, from, chunks)?;
-        let loose = oid_chunk(alloc, from + piled, (count - piled) as usize)?;
-        Ok(Cells { pile, loose, facts })
+        let last = oid_chunk(from + full, (count - full) as usize);
+        let made = Cells::from_parts(alloc, pile, piled, last, facts)?;
+        Ok(made)
     }
 
     /// One cell, that many times. The full chunks are one chunk.
     pub fn repeated(alloc: Global, cell: &Cell, count: u64) -> Result<Cells, Memory>
         ensures { IfOk result (λ cells. cells ≡ replicate count cell.now) }
     {
+        let chunks = count / CHUNK as u64;
+        let full = CHUNK as u64 * chunks;
+        let Some(piled) = repeated_facts(cell, full) else {
+            return Err(Memory);
+        };
         let Some(facts) = repeated_facts(cell, count) else {
             return Err(Memory);
         };
-        let chunks = count / CHUNK as u64;
         let pile = repeated_pile(alloc, cell, chunks)?;
-        let loose = repeated_chunk(alloc, cell, (count % CHUNK as u64) as usize)?;
-        Ok(Cells { pile, loose, facts })
+        let last = repeated_chunk(alloc, cell, (count - full) as usize)?;
+        let made = Cells::from_parts(alloc, pile, piled, last, facts)?;
+        Ok(made)
     }
 
     /// How many cells there are.
@@ -90,46 +116,56 @@ impl Cells {
         ensures len { result ≡ length self.now }
         ensures small { result < 2 ^ 60 }
     {
-        (self.pile.len() + self.loose.len()) as u64
+        (self.pile.len() + last_len(&self.last)) as u64
     }
 
     /// The cells from a place on, as far as they lie together.
-    pub fn run(&self, from: u64) -> &[Cell]
+    #[inline]
+    pub fn run(&self, from: u64) -> Part<'_>
         requires { from < length self.now }
-        ensures some { 0 < length result.now }
-        ensures cells { take (from + length result.now) self.now ≡ take from self.now ++ result.now }
+        ensures some { 0 < length (part_cells result) }
+        ensures cells { take (from + length (part_cells result)) self.now ≡ take from self.now ++ part_cells result }
+        ensures within { from + length (part_cells result) ≤ length self.now }
+    {
+        self.lying_from(from)
+    }
+
+    /// The cells from a place on, as far as they lie together.
+    #[inline]
+    fn lying_from(&self, from: u64) -> Part<'_>
+        requires { from < length self.now }
+        ensures some { 0 < length (part_cells result) }
+        ensures cells { take (from + length (part_cells result)) self.now ≡ take from self.now ++ part_cells result }
     {
         let from = from as usize;
         let piled = self.pile.len();
         if from < piled {
             self.pile.run(from)
         } else {
-            &self.loose[from - piled..]
+            match &self.last {
+                Some(last) => last.part(from - piled),
+                None => unreachable!(),
+            }
         }
     }
 
     /// The cell at a place, counted from 0.
-    pub fn get(&self, at: u64) -> &Cell
+    #[inline]
+    pub fn get(&self, at: u64) -> CellAt<'_>
         requires { at < length self.now }
-        ensures { result.now ≡ slice_index_or self.now at result.now }
+        ensures { lent_cell result ≡ slice_index_or self.now at (lent_cell result) }
     {
-        &self.run(at)[0]
+        self.run(at).get(0)
     }
 
-    /// The last cell, if there is one.
-    pub fn last(&self) -> Option<&Cell>
-        ensures { option_copied result ≡ last_cell self.now }
+    /// A cell that is equal to the one at a place, counted from 0.
+    #[inline]
+    pub fn copy(&self, at: u64) -> Result<Cell, Memory>
+        requires { at < length self.now }
+        ensures { IfOk result (λ cell. cell ≡ slice_index_or self.now at cell) }
     {
-        let loose = self.loose.len();
-        if loose != 0 {
-            return Some(&self.loose[loose - 1]);
-        }
-        let count = self.len();
-        if count == 0 {
-            None
-        } else {
-            Some(self.get(count - 1))
-        }
+        let held = self.get(at);
+        held.cell().share()
     }
 
     /// The sum of the cells' stated bytes.
@@ -154,20 +190,7 @@ impl Cells {
         self.facts.dense
     }
 
-    /// An equal column, which shares the full chunks.
-    pub fn share(&self, alloc: Global) -> Result<Cells, Memory>
-        ensures { IfOk result (λ cells. cells ≡ self.now) }
-    {
-        let pile = self.pile.share(alloc)?;
-        let loose = copy_cells(alloc, self.loose.as_slice())?.into_vec();
-        Ok(Cells {
-            pile,
-            loose,
-            facts: self.facts,
-        })
-    }
-
-    /// The first cells. Where these are all, the full chunks are shared.
+    /// The first cells. Where these are all, the chunks are shared.
     pub fn front(&self, alloc: Global, count: u64) -> Result<Cells, Memory>
         requires { count ≤ length self.now }
         ensures { IfOk result (λ cells. cells ≡ take count self.now) }
@@ -180,121 +203,69 @@ impl Cells {
         while from < count {
             let run = self.run(from);
             let many = (count - from).min(run.len() as u64);
-            out.push_all(alloc, &run[..many as usize])?;
+            out.push_part(alloc, run.front(many as usize))?;
             from += many;
         }
-        out.finish()
+        out.finish(alloc)
     }
 
     /// These cells and then those of another column. The full chunks of these are shared.
     pub fn followed_by(&self, alloc: Global, more: &Cells) -> Result<Cells, Memory>
         ensures { IfOk result (λ cells. cells ≡ self.now ++ more.now) }
     {
-        let mut out = self.share(alloc)?;
+        let mut out = self.reopened(alloc)?;
         let mut from = 0;
         while from < more.len() {
             let run = more.run(from);
-            out = out.with_run(alloc, run)?;
+            out.push_part(alloc, run)?;
             from += run.len() as u64;
+        }
+        out.finish(alloc)
+    }
+
+    /// A builder that goes on behind these cells. The full chunks are shared.
+    fn reopened(&self, alloc: Global) -> Result<CellsBuilder, Memory>
+        ensures { IfOk result (λ builder. builder ≡ self.now) }
+    {
+        let pile = self.pile.share(alloc)?;
+        let mut out = CellsBuilder::behind(alloc, pile, self.piled);
+        if let Some(last) = &self.last {
+            out.push_part(alloc, last.part(0))?;
         }
         Ok(out)
     }
 
-    /// These cells and then those of a run.
-    fn with_run(self, alloc: Global, run: &[Cell]) -> Result<Cells, Memory>
-        ensures { IfOk result (λ cells. cells ≡ self ++ run.now) }
+    /// An equal column, which shares all chunks.
+    pub fn share(&self, alloc: Global) -> Result<Cells, Memory>
+        ensures { IfOk result (λ cells. cells ≡ self.now) }
     {
-        let Some(after) = facts_after(self.facts, self.last(), run) else {
-            return Err(Memory);
-        };
-        let Cells {
-            mut pile,
-            mut loose,
-            facts: _,
-        } = self;
-        for cell in run {
-            make_room(alloc, &mut pile, &mut loose)?;
-            put(&mut loose, cell.share()?);
-        }
-        Ok(Cells::from_parts(pile, loose, after))
-    }
-
-    /// Adds a cell at the end.
-    pub fn push(&mut self, alloc: Global, cell: Cell) -> Result<(), Memory>
-        ensures ok { OnOk result (self.new ≡ self.old ++ cell ∷ []) }
-        ensures err { OnErr result (self.new ≡ self.old) }
-    {
-        let facts = self.facts_with(&cell)?;
-        make_room(alloc, &mut self.pile, &mut self.loose)?;
-        put(&mut self.loose, cell);
-        self.facts = facts;
-        Ok(())
-    }
-
-    /// The facts once a cell is added, where the column may still grow by it.
-    fn facts_with(&self, cell: &Cell) -> Result<Facts, Memory>
-        ensures { IfOk result (λ facts. AreToldOf facts (self.now ++ cell.now ∷ [])) }
-    {
-        let Some(bytes) = bytes_with(self.facts.bytes, cell) else {
-            return Err(Memory);
-        };
-        let last = self.last();
-        Ok(Facts {
-            bytes,
-            rises: rises_after(self.facts.rises, last, cell),
-            dense: dense_after(self.facts.dense, last, cell),
+        let pile = self.pile.share(alloc)?;
+        let last = share_last(&self.last)?;
+        Ok(Cells {
+            pile,
+            piled: self.piled,
+            last,
+            facts: self.facts,
         })
     }
 }
 
-/// Adds one cell at the end of each of two columns, or changes neither.
-pub(crate) fn push_both(
-    alloc: Global,
-    heads: &mut Cells,
-    tails: &mut Cells,
-    head: Cell,
-    tail: Cell,
-) -> Result<(), Memory>
-    ensures heads_ok { OnOk result (heads.new ≡ heads.old ++ head ∷ []) }
-    ensures tails_ok { OnOk result (tails.new ≡ tails.old ++ tail ∷ []) }
-    ensures heads_err { OnErr result (heads.new ≡ heads.old) }
-    ensures tails_err { OnErr result (tails.new ≡ tails.old) }
+/// How many cells the last chunk holds.
+fn last_len(last: &Option<Arc<Chunk>>) -> usize
+    ensures { result ≡ length (last_cells last.now) }
 {
-    let head_facts = heads.facts_with(&head)?;
-    let tail_facts = tails.facts_with(&tail)?;
-    make_room(alloc, &mut heads.pile, &mut heads.loose)?;
-    make_room(alloc, &mut tails.pile, &mut tails.loose)?;
-    put(&mut heads.loose, head);
-    heads.facts = head_facts;
-    put(&mut tails.loose, tail);
-    tails.facts = tail_facts;
-    Ok(())
+    match last {
+        Some(chunk) => chunk.len(),
+        None => 0,
+    }
 }
 
-/// Makes room for one more loose cell, and moves the loose cells to the pile once they fill a chunk.
-fn make_room(alloc: Global, pile: &mut Pile, loose: &mut Vec<Cell>) -> Result<(), Memory>
-    ensures cells { pile.new ++ loose.new.items ≡ pile.old ++ loose.old.items }
-    ensures room { OnOk result (vec_len loose.new < vec_capacity loose.new) }
+/// The same last chunk.
+fn share_last(last: &Option<Arc<Chunk>>) -> Result<Option<Arc<Chunk>>, Memory>
+    ensures { IfOk result (λ copy. last_cells copy ≡ last_cells last.now) }
 {
-    if loose.len() != CHUNK {
-        loose.reserve(1)?;
-        return Ok(());
-    }
-    let fresh = Vec::with_capacity(alloc, CHUNK)?;
-    let full = mem::replace(loose, fresh);
-    if let Err(back) = pile.add(alloc, full) {
-        *loose = back;
-        return Err(Memory);
-    }
-    Ok(())
-}
-
-/// Adds a cell where there is room for it.
-fn put(loose: &mut Vec<Cell>, cell: Cell)
-    requires { vec_len loose.old < vec_capacity loose.old }
-    ensures { loose.new.items ≡ loose.old.items ++ cell ∷ [] }
-{
-    if loose.push(cell).is_err() {
-        unreachable!();
+    match last {
+        Some(chunk) => Ok(Some(Arc::try_clone(chunk)?)),
+        None => Ok(None),
     }
 }

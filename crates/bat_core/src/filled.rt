@@ -1,12 +1,13 @@
 //! The cells of columns that are made whole, and what is known of them.
 ghost use Rattle.std.specs.Prelude.{◌≡◌, ◌+◌, ◌*◌, ◌^◌, ◌<◌, length, IfOk, IfSome, replicate};
-ghost use Rattle.bat_core.specs.Facts.{AreToldOf, rises, is_dense};
-ghost use Rattle.bat_core.specs.Filled.{oids_from};
-ghost use Rattle.bat_core.specs.Chunks.{chunk_items};
+ghost use Rattle.chunk_core.specs.Facts.{AreToldOf, rises, is_dense};
+ghost use Rattle.chunk_core.specs.Filled.{oids_from};
+ghost use Rattle.chunk_core.specs.Chunks.{chunk_cells};
+ghost use Rattle.bat_core.specs.Chunks.{held_cells};
 
-use crate::facts::{BYTES_LIMIT, Facts};
 use crate::pile::{CHUNK, Pile};
 use cell_core::{Cell, Memory, stated_bytes};
+use chunk_core::{BYTES_LIMIT, Chunk, Count, Facts};
 use std::alloc::Global;
 use std::sync::Arc;
 
@@ -26,15 +27,14 @@ pub(crate) fn oid_facts(from: u64, count: u64) -> Option<Facts>
 }
 
 /// Oids from a number on.
-pub(crate) fn oid_chunk(alloc: Global, from: u64, count: usize) -> Result<Vec<Cell>, Memory>
+pub(crate) fn oid_chunk(from: u64, count: usize) -> Chunk
     requires { from + count < 2 ^ 64 }
-    ensures { IfOk result (λ chunk. chunk.items ≡ oids_from from count) }
+    ensures { chunk_cells result ≡ oids_from from count }
 {
-    let mut chunk = Vec::with_capacity(alloc, count)?;
-    for i in 0..count {
-        chunk.push(Cell::Oid(from + i as u64))?;
-    }
-    Ok(chunk)
+    Chunk::Rising(Count {
+        first: from,
+        len: count,
+    })
 }
 
 /// Full chunks of oids from a number on.
@@ -44,7 +44,7 @@ pub(crate) fn oid_pile(alloc: Global, from: u64, chunks: u64) -> Result<Pile, Me
 {
     let mut pile = Pile::new(alloc);
     for i in 0..chunks {
-        let chunk = oid_chunk(alloc, from + CHUNK as u64 * i, CHUNK)?;
+        let chunk = oid_chunk(from + CHUNK as u64 * i, CHUNK);
         let Ok(()) = pile.add(alloc, chunk) else {
             return Err(Memory);
         };
@@ -90,12 +90,12 @@ fn dense_repeated(cell: &Cell, count: u64) -> bool
 }
 
 /// A cell, a number of times.
-pub(crate) fn repeated_chunk(alloc: Global, cell: &Cell, count: usize) -> Result<Vec<Cell>, Memory>
-    ensures { IfOk result (λ chunk. chunk.items ≡ replicate count cell.now) }
+pub(crate) fn repeated_chunk(alloc: Global, cell: &Cell, count: usize) -> Result<Chunk, Memory>
+    ensures { IfOk result (λ chunk. chunk_cells chunk ≡ replicate count cell.now) }
 {
-    let mut chunk = Vec::with_capacity(alloc, count)?;
+    let mut chunk = Chunk::none(alloc);
     for _ in 0..count {
-        chunk.push(cell.share()?)?;
+        chunk.push(alloc, cell.share()?)?;
     }
     Ok(chunk)
 }

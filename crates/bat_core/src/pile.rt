@@ -1,8 +1,11 @@
 //! Full chunks of cells, which several columns share.
 ghost use Rattle.std.specs.Prelude.{◌≡◌, [], ◌+◌, ◌++◌, ◌<◌, length, map, take, IfOk, IfErr, OnOk, OnErr};
-ghost use Rattle.bat_core.specs.Chunks.{chunk_items};
+ghost use Rattle.chunk_core.specs.Chunks.{chunk_cells};
+ghost use Rattle.bat_core.specs.Chunks.{held_cells};
+ghost use Rattle.chunk_core.specs.Parts.{part_cells};
 
-use cell_core::{Cell, Memory};
+use cell_core::Memory;
+use chunk_core::{Chunk, Part};
 use std::alloc::Global;
 use std::marker::Model;
 use std::sync::Arc;
@@ -13,20 +16,20 @@ pub(crate) const CHUNK: usize = 4096;
 /// Full chunks, which contracts see as the list of their cells.
 #[derive(Drop)]
 pub(crate) struct Pile {
-    chunks: Vec<Arc<Vec<Cell>>>,
+    chunks: Vec<Arc<Chunk>>,
 }
 
 impl Model for Pile {
     ghost use Rattle.std.specs.Prelude.{List, ◌<◌, ◌^◌, length};
     ghost use Rattle.std.specs.List.{flat_map};
     ghost use Rattle.cell_core.specs.declared.cell.Cell.{Cell};
-    ghost use Rattle.bat_core.specs.Chunks.{chunk_items, AreFull};
+    ghost use Rattle.bat_core.specs.Chunks.{held_cells, AreFull};
 
     ghost Value = { List Cell };
 
-    ghost view = { λ p. flat_map chunk_items p.chunks.items };
+    ghost view = { λ p. flat_map held_cells p.chunks.items };
 
-    ghost invariant = { λ p. AreFull chunk_items 4096 p.chunks.items × (length p.chunks.items < 2 ^ 47) };
+    ghost invariant = { λ p. AreFull held_cells 4096 p.chunks.items × (length p.chunks.items < 2 ^ 47) };
 }
 
 impl Pile {
@@ -47,19 +50,19 @@ impl Pile {
     }
 
     /// The cells from a place on, as far as they lie together.
-    pub fn run(&self, from: usize) -> &[Cell]
+    pub fn run(&self, from: usize) -> Part<'_>
         requires { from < length self.now }
-        ensures some { 0 < length result.now }
-        ensures cells { take (from + length result.now) self.now ≡ take from self.now ++ result.now }
+        ensures some { 0 < length (part_cells result) }
+        ensures cells { take (from + length (part_cells result)) self.now ≡ take from self.now ++ part_cells result }
     {
         let chunk = &self.chunks[from / CHUNK];
-        &chunk[from % CHUNK..]
+        chunk.part(from % CHUNK)
     }
 
     /// Adds a full chunk at the end. Where memory is wanting, the chunk comes back.
-    pub fn add(&mut self, alloc: Global, chunk: Vec<Cell>) -> Result<(), Vec<Cell>>
-        requires { length chunk.items ≡ CHUNK }
-        ensures ok { OnOk result (self.new ≡ self.old ++ chunk.items) }
+    pub fn add(&mut self, alloc: Global, chunk: Chunk) -> Result<(), Chunk>
+        requires { length (chunk_cells chunk) ≡ CHUNK }
+        ensures ok { OnOk result (self.new ≡ self.old ++ chunk_cells chunk) }
         ensures err { OnErr result (self.new ≡ self.old) }
         ensures returned { IfErr result (λ back. back ≡ chunk) }
     {
@@ -76,9 +79,9 @@ impl Pile {
     }
 
     /// Adds a full chunk at the end, and shares it.
-    pub fn add_shared(&mut self, chunk: &Arc<Vec<Cell>>) -> Result<(), Memory>
-        requires { length (chunk_items chunk.now) ≡ CHUNK }
-        ensures ok { OnOk result (self.new ≡ self.old ++ chunk_items chunk.now) }
+    pub fn add_shared(&mut self, chunk: &Arc<Chunk>) -> Result<(), Memory>
+        requires { length (held_cells chunk.now) ≡ CHUNK }
+        ensures ok { OnOk result (self.new ≡ self.old ++ held_cells chunk.now) }
         ensures err { OnErr result (self.new ≡ self.old) }
     {
         if self.chunks.len() >= MOST_CHUNKS {
@@ -102,8 +105,8 @@ impl Pile {
 const MOST_CHUNKS: usize = (1 << 47) - 1;
 
 /// Equal pointers to the same chunks.
-fn share_chunks(alloc: Global, chunks: &[Arc<Vec<Cell>>]) -> Result<Vec<Arc<Vec<Cell>>>, Memory>
-    ensures { IfOk result (λ copy. map chunk_items copy.items ≡ map chunk_items chunks.now) }
+fn share_chunks(alloc: Global, chunks: &[Arc<Chunk>]) -> Result<Vec<Arc<Chunk>>, Memory>
+    ensures { IfOk result (λ copy. map held_cells copy.items ≡ map held_cells chunks.now) }
 {
     let mut copy = Vec::with_capacity(alloc, chunks.len())?;
     'chunks: for chunk in chunks {

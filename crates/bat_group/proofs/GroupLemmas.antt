@@ -3,12 +3,12 @@ use Rattle.std.proofs.Common.{◌≡◌, ℕ, suc, zero, ◌+◌, ◌<◌, ◌�
 use Rattle.std.specs.Prelude.{filter}
 use Rattle.std.specs.List.{zip, list_any, position_or_len, enumerate_from}
 use Rattle.std.specs.Cmp.{IsEquivalence}
-use Rattle.std.proofs.lemmas.List.{get_or-map, take-map, length-map, map_push, take_all}
+use Rattle.std.proofs.lemmas.List.{get_or-map, get_or_read, take-map, length-map, map_push, take_all}
 use Rattle.std.proofs.lemmas.List.FromFn.{length-enumerate_from}
 use Rattle.std.proofs.lemmas.List.Sums.{prefix_len-le-length}
 use Rattle.std.proofs.lemmas.Slice.Zip.{get_or-zip}
 use Rattle.cell_core.specs.declared.cell.Cell.{Cell}
-use Rattle.cell_core.specs.declared.cell.Cell.TheVariants.{Oid}
+use Rattle.cell_core.specs.declared.cell.Cell.TheVariants.{Nil, Oid}
 use Rattle.cell_core.specs.Same.{same_cell, same_equivalence}
 use Rattle.cell_core.specs.Pairs.{Pairs, heads_of, tails_of, numbered}
 use Rattle.cell_core.specs.Groups.{distinct, group_heads_of, same_pair}
@@ -119,9 +119,16 @@ module _ (g : Pairs) (i : ℕ) (p : Cell × Cell) (n : ℕ) (within : i < length
 pub zip_read : (xs ys : List Cell) (i : ℕ) (a b : Cell) → i < length xs → i < length ys → a ≡ get_or xs i a → b ≡ get_or ys i b → (a, b) ≡ get_or (zip xs ys) i (a, b)
 zip_read xs ys i a b x y left right = ap (λ c. (c, b)) left ∙ ap (λ c. (get_or xs i a, c)) right ∙ sym (get_or-zip xs ys i (a, b) x y)
 
--- the tail of a pair that was read
-pub tail_read : (g : Pairs) (i : ℕ) (p : Cell × Cell) → i < length g → p ≡ get_or g i p → p.1 ≡ get_or (tails_of g) i p.1
-tail_read g i p within is = ap (λ (q : Cell × Cell). q.1) is ∙ sym (get_or-map (λ (q : Cell × Cell). q.1) g i p p.1 within)
-
 pub length-tails : (b : Pairs) → length (tails_of b) ≡ length b
 length-tails b = length-map b (λ p. p.1)
+
+-- a cell that was read among the heads
+pub head_read : (g : Pairs) (i : ℕ) (c : Cell) → i < length g → c ≡ get_or (heads_of g) i c → c ≡ get_or (heads_of g) i Nil
+head_read g i c within is = get_or_read (heads_of g) i c (omega (arith, length-map g (λ (p : Cell × Cell). p.0))) is Nil
+
+-- the pair whose tail was read
+pub pair_read : (g : Pairs) (i : ℕ) (key : Cell) → i < length g → key ≡ get_or (tails_of g) i key → (get_or (heads_of g) i Nil, key) ≡ get_or g i (get_or (heads_of g) i Nil, key)
+pair_read g i key within is =
+    let d : Cell × Cell = (get_or (heads_of g) i Nil, key) in
+    ap (λ h. (h, key)) (get_or-map (λ (q : Cell × Cell). q.0) g i d Nil within)
+    ∙ ap (λ t. ((get_or g i d).0, t)) (is ∙ get_or-map (λ (q : Cell × Cell). q.1) g i d key within)

@@ -7,7 +7,7 @@ ghost use Rattle.cell_core.specs.Pairs.{heads_of};
 ghost use Rattle.cell_core.specs.Groups.{grouped, derived, group_heads_of, group_number, same_pair};
 
 use crate::numbers::number_of;
-use bat_core::{Bat, Cells, CellsBuilder};
+use bat_core::{Bat, BatBuilder, Cells, CellsBuilder};
 use cell_core::{Cell, Memory, Steps};
 use std::alloc::Global;
 use std::collections::HashMap;
@@ -34,10 +34,10 @@ fn number_cells(alloc: Global, cells: &Cells) -> Result<Cells, Memory>
     let mut count = 0;
     let mut out = CellsBuilder::new(alloc);
     for i in 0..cells.len() {
-        let number = number_of(&mut numbers, &mut count, cells.get(i).share()?)?;
+        let number = number_of(&mut numbers, &mut count, cells.copy(i)?)?;
         out.push(alloc, Cell::Oid(number))?;
     }
-    out.finish()
+    out.finish(alloc)
 }
 
 /// By position, up to the shorter: each head of `g` beside the number of the pair of tails, an oid.
@@ -66,11 +66,11 @@ fn number_pairs(alloc: Global, left: &Cells, right: &Cells) -> Result<Cells, Mem
     let mut count = 0;
     let mut out = CellsBuilder::new(alloc);
     for i in 0..left.len().min(right.len()) {
-        let pair = (left.get(i).share()?, right.get(i).share()?);
+        let pair = (left.copy(i)?, right.copy(i)?);
         let number = number_of(&mut numbers, &mut count, pair)?;
         out.push(alloc, Cell::Oid(number))?;
     }
-    out.finish()
+    out.finish(alloc)
 }
 
 /// The first heads beside these tails, of which there may be fewer than heads.
@@ -100,13 +100,13 @@ fn first_heads(alloc: Global, g: &Bat) -> Result<Bat, Memory>
 {
     let mut numbers = HashMap::new(alloc);
     let mut count = 0;
-    let mut out = Bat::new(alloc);
+    let mut out = BatBuilder::new(alloc);
     for i in 0..g.len() {
-        let (head, tail) = g.pair(i);
-        let number = number_of(&mut numbers, &mut count, tail.share()?)?;
-        if number == out.len() {
-            out.append(alloc, Cell::Oid(number), head.share()?)?;
+        let known = count;
+        let number = number_of(&mut numbers, &mut count, g.tails().copy(i)?)?;
+        if number == known {
+            out.append(alloc, Cell::Oid(number), g.heads().copy(i)?)?;
         }
     }
-    Ok(out)
+    out.finish(alloc)
 }

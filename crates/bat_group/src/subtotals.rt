@@ -8,7 +8,7 @@ ghost use Rattle.cell_calc.specs.Aggregates.{aggregate_of};
 ghost use Rattle.bat_group.specs.Members.{members_of};
 
 use crate::numbers::number_of;
-use bat_core::{Bat, Cells};
+use bat_core::{Bat, BatBuilder, Cells};
 use cell_calc::Aggregate;
 use cell_core::{Cell, Memory, Steps};
 use std::alloc::Global;
@@ -114,7 +114,7 @@ fn group_totals(
     let mut count = 0;
     let mut totals = Vec::new(alloc);
     for i in 0..groups.len() {
-        let number = number_of(&mut numbers, &mut count, groups.get(i).share()?)?;
+        let number = number_of(&mut numbers, &mut count, groups.copy(i)?)?;
         begin_total(aggregate, number, &mut totals)?;
         add_beside(aggregate, i, cells, &mut totals[number as usize])?;
     }
@@ -141,7 +141,8 @@ fn add_beside(
     ensures { OnOk result ((so_far : List Cell) → total.old ≡ aggregate_of aggregate so_far → total.new ≡ aggregate_of aggregate (so_far ++ take 1 (drop place cells.now))) }
 {
     if place < cells.len() {
-        aggregate.add(total, cells.get(place))?;
+        let held = cells.get(place);
+        aggregate.add(total, held.cell())?;
     }
     Ok(())
 }
@@ -150,9 +151,9 @@ fn add_beside(
 fn number_totals(alloc: Global, totals: &[Cell]) -> Result<Bat, Memory>
     ensures { IfOk result (λ out. out ≡ numbered totals.now) }
 {
-    let mut out = Bat::new(alloc);
+    let mut out = BatBuilder::new(alloc);
     for (i, total) in totals.iter().enumerate() {
         out.append(alloc, Cell::Oid(i as u64), total.share()?)?;
     }
-    Ok(out)
+    out.finish(alloc)
 }

@@ -1,5 +1,8 @@
 //! Aggregates over the tails of a BAT.
-ghost use Rattle.std.specs.Prelude.{◌≡◌, ◌+◌, length, IfOk, OnOk, OnErr};
+ghost use Rattle.std.specs.Prelude.{◌≡◌, ◌+◌, ◌++◌, ◌∷◌, [], ◌<◌, List, length, slice_index_or, IfOk, OnOk, OnErr};
+ghost use Rattle.cell_core.specs.declared.cell.Cell.{Cell as CellSeen};
+ghost use Rattle.cell_core.specs.declared.cell.Cell.TheVariants.{Nil};
+ghost use Rattle.chunk_core.specs.Parts.{part_cells};
 ghost use Rattle.cell_core.specs.Pairs.{tails_of};
 ghost use Rattle.cell_core.specs.Groups.{counted, summed, least, greatest};
 ghost use Rattle.cell_calc.specs.Aggregates.{aggregate_of};
@@ -7,6 +10,7 @@ ghost use Rattle.cell_calc.specs.Aggregates.{aggregate_of};
 use bat_core::{Bat, Cells};
 use cell_calc::Aggregate;
 use cell_core::{Cell, Memory, Steps};
+use chunk_core::Part;
 use std::alloc::Global;
 use std::sync::ledger::Ledger;
 
@@ -57,13 +61,36 @@ pub fn max<L: Ledger>(_alloc: Global, b: &Bat, steps: &mut Steps<L>) -> Result<C
     Ok(cell)
 }
 
-/// The aggregate of the cells.
+/// The aggregate of the cells, run by run.
 fn aggregate_cells(aggregate: Aggregate, cells: &Cells) -> Result<Cell, Memory>
     ensures { IfOk result (λ out. out ≡ aggregate_of aggregate cells.now) }
 {
     let mut so_far = aggregate.of_none();
-    for i in 0..cells.len() {
-        aggregate.add(&mut so_far, cells.get(i))?;
+    let mut from = 0;
+    'runs: while from < cells.len() {
+        let part = cells.run(from);
+        add_part(aggregate, part, &mut so_far)?;
+        from += part.len() as u64;
     }
     Ok(so_far)
+}
+
+/// The cells of a part are taken into a total.
+fn add_part(aggregate: Aggregate, part: Part<'_>, total: &mut Cell) -> Result<(), Memory>
+    ensures { OnOk result ((before : List CellSeen) → total.old ≡ aggregate_of aggregate before → total.new ≡ aggregate_of aggregate (before ++ part_cells part.entry)) }
+{
+    for i in 0..part.len() {
+        add_at(aggregate, part, i, total)?;
+    }
+    Ok(())
+}
+
+/// The cell at a place is taken into a total.
+#[inline]
+fn add_at(aggregate: Aggregate, part: Part<'_>, at: usize, total: &mut Cell) -> Result<(), Memory>
+    requires { at < length (part_cells part) }
+    ensures { OnOk result ((before : List CellSeen) → total.old ≡ aggregate_of aggregate before → total.new ≡ aggregate_of aggregate (before ++ slice_index_or (part_cells part.entry) at Nil ∷ [])) }
+{
+    let held = part.get(at);
+    aggregate.add(total, held.cell())
 }

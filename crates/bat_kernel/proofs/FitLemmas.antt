@@ -1,22 +1,19 @@
 -- The forms of arguments that fit an operator.
-use Rattle.std.proofs.Common.{◌≡◌, suc, ◌≤◌, Bool, true, false, List, [], ◌∷◌, length, Option, refl, sym, ap, ◌∙◌, arith, Some, None}
-use Rattle.std.specs.Prelude.{IsTrue, IsSome, ◌&&◌}
-use Rattle.std.specs.Bool.{then_some}
-use Rattle.std.specs.List.{list_all}
+use Rattle.std.proofs.Common.{◌≡◌, Bool, true, List, [], ◌∷◌, Option, refl, ap, ◌∙◌}
+use Rattle.std.specs.Prelude.{IsTrue, IsSome}
 use Rattle.cell_core.specs.declared.cell.Cell.{Cell}
-use Rattle.cell_core.specs.declared.cell.Cell.TheVariants as cell
 use Rattle.cell_core.specs.declared.cell.Kind.{Kind}
 use Rattle.cell_core.specs.declared.cell.Kind.TheVariants as kind
 use Rattle.cell_core.specs.declared.operator.Op.{Op}
 use Rattle.cell_core.specs.declared.operator.Op.TheVariants as op
 use Rattle.cell_core.specs.declared.operator.Value.{Value}
 use Rattle.cell_core.specs.declared.operator.Value.TheVariants.{Bat, One}
-use Rattle.cell_core.specs.Pairs.{Pairs, tails_of}
+use Rattle.cell_core.specs.Pairs.{Pairs}
 use Rattle.cell_core.proofs.TypedLemmas.{no_values, first_value, first_bat, first_one}
-use Rattle.cell_core.specs.Kinds.{ValueType, OneOf, BatOf, agrees, is_of_kind, is_of_type, are_of_types, from_bat, from_bats, from_bat_and_cell, from_range, from_two, from_one, from_any, both_are, are_comparable, result_type, Fits}
+use Rattle.cell_core.specs.Kinds.{ValueType, OneOf, BatOf, is_of_type, are_of_types, from_range, from_two, both_are, are_comparable, Fits}
 use Rattle.cell_core.specs.declared.form.Form.TheVariants as form
 use Rattle.cell_core.specs.Forms.{form_of}
-use Rattle.bat_kernel.specs.Shapes.{is_bat, is_two_bats, is_bat_and_cell, is_range, is_two, is_one}
+use Rattle.bat_kernel.specs.Shapes.{is_range, is_two}
 use Rattle.std.specs.Cmp.{first_so, second_so}
 
 -- ## Forms

@@ -1,9 +1,10 @@
 //! The shapes of arguments.
-ghost use Rattle.std.specs.Prelude.{◌≡◌, [], ◌∷◌, Some, IsTrue, IsSome};
+ghost use Rattle.std.specs.Prelude.{◌≡◌, ◌<◌, [], ◌∷◌, Some, IsTrue, IsSome, length, slice_index_or};
 ghost use Rattle.std.specs.List.{list_all};
+ghost use Rattle.cell_core.specs.declared.cell.Cell.TheVariants.{Nil};
 ghost use Rattle.cell_core.specs.Kinds.{is_of_kind as is_of_kind_cell, is_of_type, result_type};
 ghost use Rattle.bat_core.specs.Objects.{value_of};
-ghost use Rattle.kernel_rows.specs.Types.{type_of, is_pair_of};
+ghost use Rattle.kernel_rows.specs.Types.{type_of, is_pair_of as is_pair_of_kind};
 ghost use Rattle.kernel_rows.specs.declared.shape.Shape.TheVariants.{Ints, Oids, Int};
 
 use bat_core::{Bat, Obj};
@@ -43,14 +44,22 @@ pub(crate) fn has_shape(obj: &Obj, shape: Shape) -> bool
 
 /// Whether the heads are oids and the tails of a kind.
 fn has_tails(b: &Bat, kind: Kind) -> bool
-    ensures { result ≡ list_all (is_pair_of kind) b.now }
+    ensures { result ≡ list_all (is_pair_of_kind kind) b.now }
 {
     let mut all = true;
     for i in 0..b.len() {
-        let (head, tail) = b.pair(i);
-        all = all && is_of_kind(head, Kind::Oid) && is_of_kind(tail, kind);
+        all = all && is_pair_of(b, i, kind);
     }
     all
+}
+
+/// Whether the pair at a place is an oid beside a cell of a kind.
+fn is_pair_of(b: &Bat, at: u64, kind: Kind) -> bool
+    requires { at < length b.now }
+    ensures { result ≡ is_pair_of_kind kind (slice_index_or b.now at (Nil, Nil)) }
+{
+    let (head, tail) = b.pair(at);
+    is_of_kind(head.cell(), Kind::Oid) && is_of_kind(tail.cell(), kind)
 }
 
 /// Whether a cell is of a kind, as Nil is of each.

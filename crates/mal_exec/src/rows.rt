@@ -57,7 +57,7 @@ fn cell_of(value: &Obj, place: u64) -> Result<Cell, Memory>
         Obj::One(cell) => cell.share(),
         Obj::Bat(b) => {
             if place < b.bat().len() {
-                b.bat().tails().get(place).share()
+                b.bat().tails().copy(place)
             } else {
                 Ok(Cell::Nil)
             }

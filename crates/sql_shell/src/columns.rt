@@ -3,7 +3,7 @@ ghost use Rattle.std.specs.Prelude.{◌≡◌, IfOk, slice_index_or};
 ghost use Rattle.cell_core.specs.Pairs.{numbered};
 ghost use Rattle.cell_core.specs.Relations.{column_cells};
 
-use bat_core::{Bat, Cells, Columns, Shared};
+use bat_core::{Bat, Cells, CellsBuilder, Columns, Shared};
 use cell_core::{Cell, Db, Memory, Sequence, Word, find_column};
 use std::alloc::Global;
 
@@ -50,13 +50,13 @@ fn column_bat(alloc: Global, rows: &[Sequence<Cell>], place: usize) -> Result<Ba
 fn cells_at(alloc: Global, rows: &[Sequence<Cell>], place: usize) -> Result<Cells, Memory>
     ensures { IfOk result (λ cells. cells ≡ column_cells place rows.now) }
 {
-    let mut cells = Cells::new(alloc);
+    let mut cells = CellsBuilder::new(alloc);
     let mut rest = rows;
     'rows: while let [row, more @ ..] = rest {
         cells.push(alloc, cell_at(row.as_slice(), place)?)?;
         rest = more;
     }
-    Ok(cells)
+    cells.finish(alloc)
 }
 
 /// The cell at a place of a row, which is Nil where the row is shorter.

@@ -9,16 +9,16 @@ const MANY: u64 = 10_000;
 
 /// Oids from 0, each beside its number.
 fn many_pairs(alloc: Global) -> Result<Bat, Memory> {
-    let mut bat = Bat::new(alloc);
+    let mut bat = BatBuilder::new(alloc);
     for place in 0..MANY {
         bat.append(alloc, Cell::Oid(place), Cell::Huge(i128::from(place)))?;
     }
-    Ok(bat)
+    bat.finish(alloc)
 }
 
 /// Whether the pair at a place is this one.
 fn has_pair(bat: &Bat, place: u64, head: &Cell, tail: &Cell) -> bool {
-    place < bat.len() && *bat.pair(place).0 == *head && *bat.pair(place).1 == *tail
+    place < bat.len() && *bat.pair(place).0.cell() == *head && *bat.pair(place).1.cell() == *tail
 }
 
 #[test]
@@ -36,17 +36,26 @@ fn pairs_past_a_chunk(rt: HostRuntime) -> Result<(), Fail> {
     Ok(())
 }
 
+/// The BAT of these heads, each beside Nil.
+fn beside_nil(alloc: Global, heads: &[u64]) -> Result<Bat, Memory> {
+    let mut bat = BatBuilder::new(alloc);
+    for head in heads {
+        bat.append(alloc, Cell::Oid(*head), Cell::Nil)?;
+    }
+    bat.finish(alloc)
+}
+
 #[test]
 fn facts_of_bats(rt: HostRuntime) -> Result<(), Fail> {
     let alloc = rt.alloc();
-    let mut bat = Bat::new(alloc);
-    for (head, bytes, rises) in [
-        (2, 72, true),
-        (3, 80, true),
-        (5, 112, true),
-        (5, 128, false),
+    let heads = [2, 3, 5, 5];
+    for (count, bytes, rises) in [
+        (1, 72, true),
+        (2, 80, true),
+        (3, 112, true),
+        (4, 128, false),
     ] {
-        bat.append(alloc, Cell::Oid(head), Cell::Nil)?;
+        let bat = beside_nil(alloc, &heads[..count])?;
         assert_eq!(rt; bat.bytes(), bytes);
         assert_eq!(rt; bat.heads_rise(), rises);
     }
@@ -58,10 +67,8 @@ fn facts_of_bats(rt: HostRuntime) -> Result<(), Fail> {
 #[test]
 fn values_are_shared(rt: HostRuntime) -> Result<(), Fail> {
     let alloc = rt.alloc();
-    let mut bat = Bat::new(alloc);
-    bat.append(alloc, Cell::Oid(1), Cell::Int(2))?;
-    let mut tails = Cells::new(alloc);
-    tails.push(alloc, Cell::Bit(true))?;
+    let bat = beside_nil(alloc, &[1])?;
+    let tails = Cells::repeated(alloc, &Cell::Bit(true), 1)?;
     let copy = tails.share(alloc)?;
     assert!(rt; copy.len() == 1 && bat.len() == 1);
     let other = bat.with_tails(alloc, copy)?;
@@ -81,19 +88,10 @@ fn columns_made_whole(rt: HostRuntime) -> Result<(), Fail> {
     assert!(rt; same.len() == 5_000 && !same.is_dense() && !same.rises());
     assert_eq!(rt; same.bytes(), 5_000);
     for place in [0, 4_095, 4_096, 4_999] {
-        assert!(rt; place < oids.len() && *oids.get(place) == Cell::Oid(7 + place));
-        assert!(rt; place < same.len() && *same.get(place) == Cell::Bit(true));
+        assert!(rt; place < oids.len() && *oids.get(place).cell() == Cell::Oid(7 + place));
+        assert!(rt; place < same.len() && *same.get(place).cell() == Cell::Bit(true));
     }
     Ok(())
-}
-
-/// The same as `many_pairs`, by a builder.
-fn built_pairs(alloc: Global) -> Result<Bat, Memory> {
-    let mut bat = BatBuilder::new(alloc);
-    for place in 0..MANY {
-        bat.append(alloc, Cell::Oid(place), Cell::Huge(i128::from(place)))?;
-    }
-    bat.finish()
 }
 
 /// Whether the BAT has these pairs past its chunks.
@@ -108,7 +106,7 @@ fn has_many(bat: &Bat) -> bool {
 
 #[test]
 fn pairs_built_past_a_chunk(rt: HostRuntime) -> Result<(), Fail> {
-    let bat = built_pairs(rt.alloc())?;
+    let bat = many_pairs(rt.alloc())?;
     assert!(rt; has_many(&bat) && bat.heads_rise());
     assert_eq!(rt; bat.bytes(), 64 + 160_000);
     Ok(())
@@ -116,7 +114,7 @@ fn pairs_built_past_a_chunk(rt: HostRuntime) -> Result<(), Fail> {
 
 #[test]
 fn columns_after_others(rt: HostRuntime) -> Result<(), Fail> {
-    let bat = built_pairs(rt.alloc())?;
+    let bat = many_pairs(rt.alloc())?;
     let twice = bat.followed_by(rt.alloc(), &bat)?;
     assert!(rt; twice.len() == 2 * MANY && !twice.heads_rise());
     Ok(())
@@ -134,8 +132,9 @@ fn fronts_of_columns(rt: HostRuntime) -> Result<(), Fail> {
 fn built_cells(alloc: Global) -> Result<Cells, Memory> {
     let mut cells = CellsBuilder::new(alloc);
     cells.push(alloc, Cell::Oid(1))?;
-    cells.push_all(alloc, &[Cell::Oid(2), Cell::Nil])?;
-    cells.finish()
+    cells.push(alloc, Cell::Oid(2))?;
+    cells.push(alloc, Cell::Nil)?;
+    cells.finish(alloc)
 }
 
 #[test]

@@ -1,7 +1,7 @@
 //! Plans: their meaning, their first faults, and a run.
 ghost use Rattle.std.specs.Prelude.{◌≡◌, ◌<◌, []};
 
-use bat_core::{Bat, Columns, Obj, Shared};
+use bat_core::{BatBuilder, Columns, Obj, Shared};
 use bat_kernel::Kernel;
 use cell_core::{
     Arg, Cell, Column, Db, Instr, Kind, Memory, Op, RunError, Sequence, Steps, Table, Word, word_of,
@@ -139,10 +139,11 @@ fn first_faults(rt: HostRuntime) -> Result<(), Fail> {
 
 /// A BAT with the tails 3, 1 and 2.
 fn three(alloc: Global) -> Result<Obj, Memory> {
-    let mut bat = Bat::new(alloc);
+    let mut bat = BatBuilder::new(alloc);
     for number in [3, 1, 2] {
         bat.append(alloc, Cell::Oid(0), Cell::Int(number))?;
     }
+    let bat = bat.finish(alloc)?;
     Ok(Obj::Bat(Shared::new(alloc, bat)?))
 }
 

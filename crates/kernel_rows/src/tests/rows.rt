@@ -3,7 +3,7 @@ use crate::tables::{
     ARITHMETIC, Argument, COMPARISON, Lit, ONE_ARGUMENT, RANGES, TWO_BATS, TwoRow, Val,
 };
 use crate::{run_one, run_select, run_two};
-use bat_core::{Bat, Obj, Shared};
+use bat_core::{Bat, BatBuilder, Obj, Shared};
 use cell_core::{Cell, Memory, Op, RunError};
 use std::alloc::Global;
 use std::test::Fail;
@@ -21,11 +21,11 @@ fn cell_of(lit: Lit) -> Cell {
 
 /// The BAT of these pairs.
 fn bat_of(alloc: Global, pairs: &[(Lit, Lit)]) -> Result<Bat, Memory> {
-    let mut bat = Bat::new(alloc);
+    let mut bat = BatBuilder::new(alloc);
     for (head, tail) in pairs {
         bat.append(alloc, cell_of(*head), cell_of(*tail))?;
     }
-    Ok(bat)
+    bat.finish(alloc)
 }
 
 /// The argument of a table.
@@ -44,8 +44,8 @@ fn has_pairs(bat: &Bat, pairs: &[(Lit, Lit)]) -> bool {
         let i = i as u64;
         same = same
             && i < bat.len()
-            && *bat.pair(i).0 == cell_of(*head)
-            && *bat.pair(i).1 == cell_of(*tail);
+            && *bat.pair(i).0.cell() == cell_of(*head)
+            && *bat.pair(i).1.cell() == cell_of(*tail);
     }
     same
 }

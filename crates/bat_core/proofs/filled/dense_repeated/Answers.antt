@@ -1,5 +1,5 @@
 use Rattle.std.proofs.Common.{sym, arith}
-use Rattle.bat_core.proofs.FilledLemmas.{same_dense}
+use Rattle.chunk_core.proofs.FilledLemmas.{same_dense}
 use Rattle.bat_core.proofs.filled.dense_repeated.Goals as goal
 
 pub returns-in_default : goal.returns-in_default

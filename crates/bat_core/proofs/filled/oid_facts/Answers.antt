@@ -1,5 +1,5 @@
 use Rattle.std.proofs.Common.{refl, arith}
-use Rattle.bat_core.proofs.FilledLemmas.{oids_told}
+use Rattle.chunk_core.proofs.FilledLemmas.{oids_told}
 use Rattle.bat_core.proofs.filled.oid_facts.Goals as goal
 
 pub returns : goal.returns

@@ -1,5 +1,5 @@
 use Rattle.std.proofs.Common.{◌≡◌, ◌*◌}
-use Rattle.bat_core.specs.Filled.{oids_from}
+use Rattle.chunk_core.specs.Filled.{oids_from}
 use Rattle.bat_core.proofs.filled.oid_pile.Given as goal
 
 abbrev pub invariant-loop-i : goal.invariant-loop-i

@@ -1,5 +1,5 @@
 use Rattle.std.proofs.Common.{◌*◌, ap, ◌∙◌, arith}
-use Rattle.bat_core.proofs.FilledLemmas.{same_told}
+use Rattle.chunk_core.proofs.FilledLemmas.{same_told}
 use Rattle.bat_core.proofs.filled.repeated_facts.Goals as goal
 
 pub returns : goal.returns

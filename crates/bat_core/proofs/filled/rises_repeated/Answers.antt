@@ -1,5 +1,5 @@
 use Rattle.std.proofs.Common.{sym, arith}
-use Rattle.bat_core.proofs.FilledLemmas.{same_rise}
+use Rattle.chunk_core.proofs.FilledLemmas.{same_rise}
 use Rattle.bat_core.proofs.filled.rises_repeated.Goals as goal
 
 pub returns-in_default : goal.returns-in_default

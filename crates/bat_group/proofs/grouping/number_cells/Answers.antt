@@ -2,16 +2,16 @@ use Rattle.std.proofs.Common.{◌≡◌, ◌<◌, length, get_or, sym, subst, ar
 use Rattle.cell_core.specs.declared.cell.Cell.TheVariants.{Oid}
 use Rattle.cell_core.specs.Same.{same_cell, same_equivalence}
 use Rattle.bat_group.specs.Numbers.{AreNumbered}
-use Rattle.bat_group.proofs.NumberLemmas.{distinct_next, numbers_next, read_is}
+use Rattle.bat_group.proofs.NumberLemmas.{distinct_next, numbers_next}
 use Rattle.bat_group.proofs.grouping.number_cells.Goals as goal
 
 pub loop-i-preserved : goal.loop-i-preserved
 loop-i-preserved c =
     let cells = c.args.cells.now in
     let i = c.loop-i.i in
-    let x = c.in_ok-share.field-0 in
+    let x = c.in_ok-copy.field-0 in
     let within : i < length cells = omega arith in
-    let is : x ≡ get_or cells i x = read_is cells i x c.get.result.now c.in_ok-share.ensures c.get.ensures in
+    let is : x ≡ get_or cells i x = c.in_ok-copy.ensures in
     let known = c.loop-i.invariant.known in
     record {
       known = subst (AreNumbered same_cell _ _) (sym (distinct_next same_cell same_equivalence cells i x within is)) (c.in_ok-number.ensures.numbered _ known);

@@ -7,7 +7,7 @@ use Rattle.cell_core.specs.declared.cell.Cell.{Cell}
 use Rattle.cell_core.specs.declared.cell.Cell.TheVariants.{Oid}
 use Rattle.cell_core.specs.Groups.{group_number, same_pair}
 use Rattle.bat_group.specs.Numbers.{AreNumbered}
-use Rattle.bat_group.proofs.NumberLemmas.{distinct_next, numbers_next, read_is}
+use Rattle.bat_group.proofs.NumberLemmas.{distinct_next, numbers_next}
 use Rattle.bat_group.proofs.GroupLemmas.{same_pair_equivalence, zip_read}
 use Rattle.bat_group.proofs.grouping.number_pairs.Goals as goal
 
@@ -16,13 +16,13 @@ loop-i-preserved c =
     let left = c.args.left.now in
     let right = c.args.right.now in
     let i = c.loop-i.i in
-    let a = c.in_ok-share.field-0 in
-    let b = c.in_ok-share-2.field-0 in
+    let a = c.in_ok-copy.field-0 in
+    let b = c.in_ok-copy-2.field-0 in
     let in_left : i < length left = omega arith in
     let in_right : i < length right = omega arith in
     let within : i < length (zip left right) = omega (arith, length-zip left right) in
     let is : (a, b) ≡ get_or (zip left right) i (a, b) =
-    zip_read left right i a b in_left in_right (read_is left i a c.get.result.now c.in_ok-share.ensures c.get.ensures) (read_is right i b c.get-in-loop-i.result.now c.in_ok-share-2.ensures c.get-in-loop-i.ensures) in
+    zip_read left right i a b in_left in_right c.in_ok-copy.ensures c.in_ok-copy-2.ensures in
     let known = c.loop-i.invariant.known in
     record {
       known = subst (AreNumbered same_pair _ _) (sym (distinct_next same_pair same_pair_equivalence (zip left right) i (a, b) within is)) (c.in_ok-number.ensures.numbered _ known);

@@ -1,4 +1,4 @@
-use Rattle.std.proofs.Common.{◌≡◌, ◌+◌, ◌^◌, ◌<◌, length, take, map, get_or, sym, ap, subst, arith}
+use Rattle.std.proofs.Common.{◌≡◌, ◌<◌, length, take, map, get_or, sym, ap, subst, arith}
 use Rattle.std.specs.List.{position_or_len}
 use Rattle.std.proofs.lemmas.List.{length-map}
 use Rattle.cell_core.specs.declared.cell.Cell.TheVariants.{Nil}
@@ -7,7 +7,7 @@ use Rattle.cell_core.specs.Groups.{distinct}
 use Rattle.bat_group.specs.Numbers.{AreNumbered}
 use Rattle.cell_calc.specs.Aggregates.{aggregate_of}
 use Rattle.bat_group.specs.Members.{members_of}
-use Rattle.bat_group.proofs.NumberLemmas.{distinct_next, read_is}
+use Rattle.bat_group.proofs.NumberLemmas.{distinct_next}
 use Rattle.bat_group.proofs.TotalLemmas.{before, firsts_now, begun, number_inside, finished, total_at}
 use Rattle.bat_group.proofs.subtotals.group_totals.Goals as goal
 
@@ -17,9 +17,9 @@ index_mut-requires c =
     let cells = c.args.cells.now in
     let groups = c.args.groups.now in
     let i = c.loop-i.i in
-    let key = c.in_ok-share.field-0 in
+    let key = c.in_ok-copy.field-0 in
     let inside : i < length groups = omega arith in
-    let is : key ≡ get_or groups i key = read_is groups i key c.get.result.now c.in_ok-share.ensures c.get.ensures in
+    let is : key ≡ get_or groups i key = c.in_ok-copy.ensures in
     let n = c.in_ok-number.number in
     let number : n ≡ position_or_len (λ y. same_cell y key) (distinct same_cell (take i groups)) = c.in_ok-number.ensures.place _ c.loop-i.invariant.known in
     let value : c.begin_total.new.totals.items ≡ map (before A cells groups i key inside is) (firsts_now A cells groups i key inside is) =
@@ -32,9 +32,9 @@ loop-i-preserved c =
     let cells = c.args.cells.now in
     let groups = c.args.groups.now in
     let i = c.loop-i.i in
-    let key = c.in_ok-share.field-0 in
+    let key = c.in_ok-copy.field-0 in
     let inside : i < length groups = omega arith in
-    let is : key ≡ get_or groups i key = read_is groups i key c.get.result.now c.in_ok-share.ensures c.get.ensures in
+    let is : key ≡ get_or groups i key = c.in_ok-copy.ensures in
     let n = c.in_ok-number.number in
     let number : n ≡ position_or_len (λ y. same_cell y key) (distinct same_cell (take i groups)) = c.in_ok-number.ensures.place _ c.loop-i.invariant.known in
     let value : c.begin_total.new.totals.items ≡ map (before A cells groups i key inside is) (firsts_now A cells groups i key inside is) =

@@ -4,7 +4,7 @@ use Rattle.std.proofs.lemmas.List.FromFn.{length-map-range_with_len}
 use Rattle.cell_core.specs.declared.cell.Cell.{Cell}
 use Rattle.cell_core.specs.declared.cell.Cell.TheVariants.{Oid}
 use Rattle.cell_core.specs.Pairs.{numbered}
-use Rattle.bat_core.specs.Filled.{oids_from}
+use Rattle.chunk_core.specs.Filled.{oids_from}
 use Rattle.sql_shell.proofs.columns.column_bat.Goals as goal
 
 numbered_is : (i : ℕ) (cells : List Cell) → zip (oids_from i (length cells)) cells ≡ map (λ c. (Oid c.0, c.1)) (enumerate_from i cells)

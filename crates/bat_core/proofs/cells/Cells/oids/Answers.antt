@@ -1,15 +1,19 @@
-use Rattle.std.proofs.Common.{◌≡◌, ◌+◌, ◌-◌, ◌*◌, ◌/◌, ◌++◌, ap, ◌∙◌, arith}
-use Rattle.bat_core.specs.Filled.{oids_from}
-use Rattle.bat_core.proofs.FilledLemmas.{oids_parts}
+use Rattle.std.proofs.Common.{◌≡◌, ◌-◌, ◌*◌, ◌/◌, ◌++◌, ap, ◌∙◌, arith}
+use Rattle.chunk_core.specs.Chunks.{chunk_cells}
+use Rattle.chunk_core.specs.Filled.{oids_from}
+use Rattle.chunk_core.proofs.FilledLemmas.{oids_parts}
 use Rattle.bat_core.proofs.cells.Cells.oids.Goals as goal
+
+pub from_parts-requires-clause-all : goal.from_parts-requires-clause-all
+from_parts-requires-clause-all c =
+    let same : c.in_ok-pile.pile ++ chunk_cells c.oid_chunk-last.result ≡ oids_from c.args.from c.args.count =
+    ap (λ l. l ++ chunk_cells c.oid_chunk-last.result) c.in_ok-pile.ensures
+    ∙ ap (λ l. oids_from c.args.from (4096 * (c.args.count / 4096)) ++ l) c.oid_chunk-last.ensures
+    ∙ oids_parts c.args.from (4096 * (c.args.count / 4096)) (c.args.count - 4096 * (c.args.count / 4096)) c.args.count (omega arith) in
+    rw same c.in-Some-oid_facts.ensures
 
 pub returns : goal.returns
 returns c =
-    let turned : c.args.count / 4096 * 4096 ≡ 4096 * (c.args.count / 4096) = omega arith in
-    ap (λ l. l ++ c.in_ok-loose.loose.items) c.in_ok-pile.ensures
-    ∙ ap (λ l. oids_from c.args.from (4096 * (c.args.count / 4096)) ++ l) c.in_ok-loose.ensures
-    ∙ ap (λ k. oids_from c.args.from (4096 * (c.args.count / 4096)) ++ oids_from (c.args.from + k) (c.args.count - c.args.count / 4096 * 4096)) turned
-    ∙ oids_parts c.args.from (4096 * (c.args.count / 4096)) (c.args.count - c.args.count / 4096 * 4096) c.args.count (omega arith)
-
-pub invariant_of-result : goal.invariant_of-result
-invariant_of-result c = rw (returns c) c.in-Some.ensures
+    c.in_ok-made.ensures ∙ ap (λ l. l ++ chunk_cells c.oid_chunk-last.result) c.in_ok-pile.ensures
+    ∙ ap (λ l. oids_from c.args.from (4096 * (c.args.count / 4096)) ++ l) c.oid_chunk-last.ensures
+    ∙ oids_parts c.args.from (4096 * (c.args.count / 4096)) (c.args.count - 4096 * (c.args.count / 4096)) c.args.count (omega arith)

@@ -1,7 +1,8 @@
-use Rattle.std.proofs.Common.{◌++◌, ◌-◌, ap, ◌∙◌, arith}
-use Rattle.bat_core.proofs.ChunkLemmas.{rest_more}
+use Rattle.std.proofs.Common.{arith}
+use Rattle.chunk_core.specs.Parts.{part_cells}
+use Rattle.bat_core.proofs.ChunkLemmas.{piece_within}
 use Rattle.bat_core.proofs.cells.Cells.run.Goals as goal
 
-pub returns-else-from-piled-clause-cells : goal.returns-else-from-piled-clause-cells
-returns-else-from-piled-clause-cells c =
-    rest_more c.self.inside.pile c.deref.result.now c.args.self.now c.args.from (c.args.from - c.len-piled.result) (ap (λ l. c.self.inside.pile ++ l) c.deref.ensures.value ∙ c.self.view_is) (omega arith)
+pub returns-clause-within : goal.returns-clause-within
+returns-clause-within c =
+    piece_within c.args.self.now (part_cells c.lying_from.result) c.args.from (omega arith) c.lying_from.ensures.cells

@@ -1,0 +1,14 @@
+use Rattle.std.proofs.Common.{◌<◌, length, get_or, map, arith}
+use Rattle.std.proofs.lemmas.List.{length-map}
+use Rattle.cell_core.specs.declared.cell.Cell.TheVariants.{Int, Nil}
+use Rattle.chunk_core.proofs.PickLemmas.{get_default}
+use Rattle.bat_algebra.proofs.PlaceLemmas.{place_step}
+use Rattle.bat_algebra.proofs.places.ints_within.Goals as goal
+
+pub loop-i-preserved : goal.loop-i-preserved
+loop-i-preserved c =
+    let few : c.loop-i.i < length (map Int c.args.numbers.now) = omega (arith, length-map c.args.numbers.now Int) in
+    record {
+      few = omega (arith, c.place_if-count.ensures.within);
+      found = place_step _ (map Int c.args.numbers.now) c.loop-i.i (get_or (map Int c.args.numbers.now) c.loop-i.i Nil) _ _ _ c.place_if-count.ensures.found c.loop-i.invariant.found c.number_within-kept.ensures (get_default (map Int c.args.numbers.now) c.loop-i.i Nil (get_or (map Int c.args.numbers.now) c.loop-i.i Nil) few) few;
+    }

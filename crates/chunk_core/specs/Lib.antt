@@ -1,0 +1,5 @@
+pub mod Chunks
+pub mod Facts
+pub mod Filled
+pub mod Parts
+pub mod Picked

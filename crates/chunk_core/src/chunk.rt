@@ -1,0 +1,243 @@
+//! Chunks of cells, each kept in the smallest form that holds it.
+ghost use Rattle.std.specs.Prelude.{◌≡◌, [], ◌∷◌, ◌++◌, ◌+◌, ◌^◌, ◌<◌, ◌≤◌, length, drop, map, pos, IfOk, OnOk, OnErr};
+ghost use Rattle.cell_core.specs.declared.cell.Cell.TheVariants.{Nil, Oid};
+ghost use Rattle.chunk_core.specs.Parts.{part_cells};
+ghost use Rattle.chunk_core.specs.Picked.{picked, AreWithin};
+ghost use Rattle.chunk_core.specs.Chunks.{chunk_cells};
+
+use crate::count::Count;
+use crate::part::Part;
+use cell_core::{Cell, Memory};
+use std::alloc::Global;
+
+/// Cells of one kind as their numbers, oids that rise by one each, or any cells.
+#[derive(Drop)]
+pub enum Chunk {
+    /// The cells of kind Int with these numbers.
+    Ints(Vec<i64>),
+    /// The cells of kind Oid with these numbers.
+    Oids(Vec<u64>),
+    /// Oids that rise by one each.
+    Rising(Count),
+    /// The cells of kind Bit with these values.
+    Bits(Vec<bool>),
+    /// Cells as they are.
+    Cells(Vec<Cell>),
+}
+
+impl Chunk {
+    /// No cells.
+    pub fn none(alloc: Global) -> Chunk
+        ensures { chunk_cells result ≡ [] }
+    {
+        Chunk::Cells(Vec::new(alloc))
+    }
+
+    /// How many cells there are.
+    #[inline]
+    pub fn len(&self) -> usize
+        ensures { result ≡ length (chunk_cells self.now) }
+    {
+        match self {
+            Chunk::Ints(numbers) => numbers.len(),
+            Chunk::Oids(numbers) => numbers.len(),
+            Chunk::Rising(count) => count.len,
+            Chunk::Bits(bits) => bits.len(),
+            Chunk::Cells(cells) => cells.len(),
+        }
+    }
+
+    /// The cells from a place on.
+    #[inline]
+    pub fn part(&self, from: usize) -> Part<'_>
+        requires { from ≤ length (chunk_cells self.now) }
+        ensures { part_cells result ≡ drop from (chunk_cells self.now) }
+    {
+        match self {
+            Chunk::Ints(numbers) => Part::Ints(&numbers[from..]),
+            Chunk::Oids(numbers) => Part::Oids(&numbers[from..]),
+            Chunk::Rising(all) => Part::Rising(Count {
+                first: all.first + from as u64,
+                len: all.len - from,
+            }),
+            Chunk::Bits(bits) => Part::Bits(&bits[from..]),
+            Chunk::Cells(cells) => Part::Cells(&cells[from..]),
+        }
+    }
+
+    /// Adds a cell at the end.
+    #[inline]
+    pub fn push(&mut self, alloc: Global, cell: Cell) -> Result<(), Memory>
+        ensures ok { OnOk result (chunk_cells self.new ≡ chunk_cells self.old ++ cell ∷ []) }
+        ensures err { OnErr result (chunk_cells self.new ≡ chunk_cells self.old) }
+    {
+        match (&mut *self, &cell) {
+            (Chunk::Ints(numbers), Cell::Int(number)) => {
+                numbers.push(*number)?;
+                Ok(())
+            }
+            (Chunk::Oids(numbers), Cell::Oid(oid)) => {
+                numbers.push(*oid)?;
+                Ok(())
+            }
+            (Chunk::Bits(bits), Cell::Bit(bit)) => {
+                bits.push(*bit)?;
+                Ok(())
+            }
+            _ => push_other(self, alloc, cell),
+        }
+    }
+
+    /// Adds the cells of a part at these places, in the order of the places.
+    pub fn push_places(
+        &mut self,
+        alloc: Global,
+        part: Part<'_>,
+        places: &[u32],
+    ) -> Result<(), Memory>
+        requires { AreWithin places.now (length (part_cells part)) }
+        ensures { OnOk result (chunk_cells self.new ≡ chunk_cells self.old ++ picked Nil (part_cells part.entry) places.now) }
+    {
+        make_ready(self, alloc, part, places.len())?;
+        match (&mut *self, part) {
+            (Chunk::Ints(numbers), Part::Ints(from)) => pick_ints(numbers, from, places),
+            (Chunk::Oids(numbers), Part::Oids(from)) => pick_oids(numbers, from, places),
+            (Chunk::Oids(numbers), Part::Rising(from)) => pick_rising(numbers, from, places),
+            _ => pick_cells(self, alloc, part, places),
+        }
+    }
+
+    /// No cells, in a form that takes those of a part.
+    fn ready_for(alloc: Global, part: Part<'_>, count: usize) -> Result<Chunk, Memory>
+        ensures { IfOk result (λ chunk. chunk_cells chunk ≡ []) }
+    {
+        match part {
+            Part::Ints(_) => Ok(Chunk::Ints(Vec::with_capacity(alloc, count)?)),
+            Part::Oids(_) | Part::Rising(_) => Ok(Chunk::Oids(Vec::with_capacity(alloc, count)?)),
+            Part::Bits(_) => Ok(Chunk::Bits(Vec::with_capacity(alloc, count)?)),
+            Part::Cells(_) => Ok(Chunk::Cells(Vec::with_capacity(alloc, count)?)),
+        }
+    }
+}
+
+/// A chunk without cells gets the form of a part.
+fn make_ready(chunk: &mut Chunk, alloc: Global, part: Part<'_>, count: usize) -> Result<(), Memory>
+    ensures { chunk_cells chunk.new ≡ chunk_cells chunk.old }
+{
+    if chunk.len() == 0 {
+        *chunk = Chunk::ready_for(alloc, part, count)?;
+    }
+    Ok(())
+}
+
+/// Adds the numbers at these places.
+fn pick_ints(numbers: &mut Vec<i64>, from: &[i64], places: &[u32]) -> Result<(), Memory>
+    requires { AreWithin places.now (length from.now) }
+    ensures { OnOk result (numbers.new.items ≡ numbers.old.items ++ picked (pos 0) from.now places.now) }
+{
+    numbers.reserve(places.len())?;
+    for place in places {
+        numbers.push(from[*place as usize])?;
+    }
+    Ok(())
+}
+
+/// Adds the oids at these places.
+fn pick_oids(numbers: &mut Vec<u64>, from: &[u64], places: &[u32]) -> Result<(), Memory>
+    requires { AreWithin places.now (length from.now) }
+    ensures { OnOk result (numbers.new.items ≡ numbers.old.items ++ picked 0 from.now places.now) }
+{
+    numbers.reserve(places.len())?;
+    for place in places {
+        numbers.push(from[*place as usize])?;
+    }
+    Ok(())
+}
+
+/// Adds the oids at these places.
+fn pick_rising(numbers: &mut Vec<u64>, from: Count, places: &[u32]) -> Result<(), Memory>
+    requires { AreWithin places.now from.len }
+    ensures { OnOk result (map Oid numbers.new.items ≡ map Oid numbers.old.items ++ map (λ i. Oid (from.first + i)) places.now) }
+{
+    numbers.reserve(places.len())?;
+    for place in places {
+        numbers.push(from.first + u64::from(*place))?;
+    }
+    Ok(())
+}
+
+/// Adds the cells at these places.
+fn pick_cells(
+    chunk: &mut Chunk,
+    alloc: Global,
+    part: Part<'_>,
+    places: &[u32],
+) -> Result<(), Memory>
+    requires { AreWithin places.now (length (part_cells part)) }
+    ensures { OnOk result (chunk_cells chunk.new ≡ chunk_cells chunk.old ++ picked Nil (part_cells part.entry) places.now) }
+{
+    for place in places {
+        chunk.push(alloc, part.get(*place as usize).cell().share()?)?;
+    }
+    Ok(())
+}
+
+/// Adds a cell at the end of cells of another kind, or of none.
+#[inline(never)]
+fn push_other(chunk: &mut Chunk, alloc: Global, cell: Cell) -> Result<(), Memory>
+    ensures ok { OnOk result (chunk_cells chunk.new ≡ chunk_cells chunk.old ++ cell ∷ []) }
+    ensures err { OnErr result (chunk_cells chunk.new ≡ chunk_cells chunk.old) }
+{
+    if chunk.len() == 0 {
+        *chunk = chunk_of(alloc, cell)?;
+        return Ok(());
+    }
+    if let Chunk::Cells(cells) = chunk {
+        cells.push(cell)?;
+        return Ok(());
+    }
+    let mut cells = copied(alloc, chunk.part(0))?;
+    cells.push(cell)?;
+    *chunk = Chunk::Cells(cells);
+    Ok(())
+}
+
+/// A chunk of one cell.
+fn chunk_of(alloc: Global, cell: Cell) -> Result<Chunk, Memory>
+    ensures { IfOk result (λ chunk. chunk_cells chunk ≡ cell ∷ []) }
+{
+    match cell {
+        Cell::Int(number) => {
+            let mut numbers = Vec::new(alloc);
+            numbers.push(number)?;
+            Ok(Chunk::Ints(numbers))
+        }
+        Cell::Oid(oid) => {
+            let mut oids = Vec::new(alloc);
+            oids.push(oid)?;
+            Ok(Chunk::Oids(oids))
+        }
+        Cell::Bit(bit) => {
+            let mut bits = Vec::new(alloc);
+            bits.push(bit)?;
+            Ok(Chunk::Bits(bits))
+        }
+        cell => {
+            let mut cells = Vec::new(alloc);
+            cells.push(cell)?;
+            Ok(Chunk::Cells(cells))
+        }
+    }
+}
+
+/// The cells of a part, each by itself.
+pub fn copied(alloc: Global, part: Part<'_>) -> Result<Vec<Cell>, Memory>
+    ensures { IfOk result (λ cells. cells.items ≡ part_cells part.entry) }
+{
+    let count = part.len();
+    let mut cells = Vec::with_capacity(alloc, count)?;
+    for at in 0..count {
+        cells.push(part.get(at).cell().share()?)?;
+    }
+    Ok(cells)
+}
