@@ -5,7 +5,8 @@ ghost use Rattle.chunk_core.specs.Parts.{part_cells, lent_cell};
 use crate::count::Count;
 use cell_core::{Cell, Memory};
 
-/// Cells that lie together: numbers alone, oids alone, oids that rise by one each, or any cells.
+/// Cells that lie together: numbers alone, oids alone, oids that rise by one each, bits alone, or any
+/// cells.
 #[derive(Clone, Copy)]
 pub enum Part<'a> {
     /// The cells of kind Int with these numbers.

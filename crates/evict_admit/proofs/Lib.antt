@@ -6,3 +6,4 @@ pub mod Orders
 pub mod Plans
 pub mod Seats
 pub mod Writes
+pub mod Runs

@@ -109,4 +109,4 @@ module _ (score : Stats → Score) (positive : (stats : Stats) → 0 < (score st
           ]
 
 pub one_order_holds : OneOrder
-one_order_holds = (λ score positive. (line score positive, finds_least score positive), λ kind now stats. bottom_some kind stats now)
+one_order_holds = (λ score positive. (line score positive, finds_least score positive), λ kind weights now stats. bottom_some kind weights stats now)

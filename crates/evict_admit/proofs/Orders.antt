@@ -1,8 +1,8 @@
 -- The order in which rows go is a strict total order.
-use Rattle.std.proofs.Math.Nat.{mul-le-mul_right, le_of_mul-le-mul_right}
-use Rattle.std.proofs.Common.{◌≡◌, ◌≢◌, ◌*◌, ◌<◌, ◌≤◌, Bool, true, false, not, ◌&&◌, ◌||◌, ◌⊎◌, inl, inr, refl, arith, nat_lt, ltb-true, ltb-false}
+use Rattle.std.proofs.Math.Nat.{mul-le-mul_left, mul-le-mul_right, le_of_mul-le-mul_right}
+use Rattle.std.proofs.Common.{◌≡◌, ◌≢◌, ℕ, ◌*◌, ◌^◌, ◌<◌, ◌≤◌, Bool, true, false, not, ◌&&◌, ◌||◌, ◌⊎◌, inl, inr, refl, arith, nat_lt, ltb-true, ltb-false}
 use Rattle.score_hook.specs.declared.stats.Score.{Score}
-use Rattle.score_hook.specs.Scores.{is_less}
+use Rattle.score_hook.specs.Scores.{IsSmall, is_less}
 use Rattle.evict_admit.specs.declared.contest.Contender.{Contender}
 use Rattle.evict_admit.specs.Boards.{comes_before}
 
@@ -84,3 +84,7 @@ before_total a b differ = go (comes_before a b) (comes_before b a) refl refl
         let under = h.ids k.score in
         let over = k.ids h.score in
         absurd (differ (omega (arith, under, over)))
+
+-- a top times a bottom stays below 2^128 where both scores can be compared
+pub product_small : (most : ℕ) (a b : Score) → IsSmall most a → IsSmall most b → a.top * b.bottom < 2 ^ 128
+product_small most a b small_a small_b = let less = mul-le-mul_left a.top small_b.bottom in omega (arith, less, small_a.product)

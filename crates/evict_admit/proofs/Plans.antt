@@ -9,16 +9,17 @@ use Rattle.std.proofs.lemmas.List.Sums.{sum_by-cons}
 use Rattle.std.proofs.lemmas.Bool.Decides.{eqb_tells, Decides-eqb, Decides-like, same_from_decides}
 use Rattle.score_hook.specs.declared.stats.Stats.{Stats}
 use Rattle.score_hook.specs.declared.stats.Score.{Score}
-use Rattle.score_hook.specs.Scores.{IsInRange, score_of}
-use Rattle.score_hook.proofs.Bounds.{top_small, bottom_small, bottom_some}
+use Rattle.score_hook.specs.Scores.{AreWeights, IsInRange, IsSmall, most_bottom, score_of}
+use Rattle.score_hook.proofs.Bounds.{score_small}
 use Rattle.score_hook.specs.declared.stats.Evict.{Evict}
+use Rattle.score_hook.specs.declared.stats.Evict.TheVariants.{Weighted}
 use Rattle.cell_core.specs.Sorted.{first_by}
 use Rattle.evict_admit.specs.declared.plan.Row.{Row}
 use Rattle.evict_admit.specs.declared.contest.Contender.{Contender}
 use Rattle.evict_admit.specs.declared.names.Known.{Known}
 use Rattle.evict_admit.specs.declared.board.Left.{Left}
 use Rattle.evict_admit.specs.Evictions.{is_parent, can_go, goes_before, next_of, without, is_enough, GivesUp}
-use Rattle.evict_admit.specs.Boards.{no_row, row_at, left_at, contender_at, contender_for, comes_before, IsSmall, IsKnown, IsNamed, IsSeated, seat_of, winner_at, may_go, is_gone, still, left_of, once_gone, one_if}
+use Rattle.evict_admit.specs.Boards.{no_row, row_at, left_at, contender_at, contender_for, comes_before, AreSmall, IsKnown, IsNamed, IsSeated, seat_of, winner_at, may_go, is_gone, still, left_of, once_gone, one_if}
 use Rattle.evict_admit.proofs.Contests.{is_or_not}
 use Rattle.evict_admit.proofs.Firsts.{first_seat, first_before, first_none}
 use Rattle.evict_admit.proofs.Orders.{before_total}
@@ -30,7 +31,7 @@ module _ {X : Type 0} where
   In x [] = ⊥
   In x (y ∷ ys) = (x ≡ y) ⊎ In x ys
 
-  filter_in : (p : X → Bool) (xs : List X) (x : X) → In x (filter p xs) → In x xs
+  pub filter_in : (p : X → Bool) (xs : List X) (x : X) → In x (filter p xs) → In x xs
   filter_in p [] x h = h
   filter_in p (y ∷ ys) x h = elim (p y) as (λ b. In x (cond b (y ∷ filter p ys) (filter p ys)) → In x (y ∷ ys)) [
     | true ↦ λ i. elim i [ inl e ↦ inl e | inr more ↦ inr (filter_in p ys x more) ]
@@ -49,7 +50,7 @@ module _ {X : Type 0} where
   in_filter p (y ∷ ys) x (inl is) e = subst (λ b. In x (cond b (y ∷ filter p ys) (filter p ys))) (sym (sym (ap p is) ∙ e)) (inl is)
   in_filter p (y ∷ ys) x (inr more) e = elim (p y) as (λ b. In x (cond b (y ∷ filter p ys) (filter p ys))) [ true ↦ inr (in_filter p ys x more e) | false ↦ in_filter p ys x more e ]
 
-  passes : (p : X → Bool) (xs : List X) (x : X) → In x (filter p xs) → p x ≡ true
+  pub passes : (p : X → Bool) (xs : List X) (x : X) → In x (filter p xs) → p x ≡ true
   passes p [] x h = absurd h
   passes p (y ∷ ys) x h = go (passes p ys x) (p y) refl h
     where
@@ -246,13 +247,16 @@ apart_from_places (row ∷ rows) h = (
 pub apart_known : (known : Known) → IsKnown known → AreApart known.rows.now
 apart_known known h = apart_from_places known.rows.now h.apart
 
--- the scores of a formula are small
-pub all_small : (kind : Evict) (now : ℕ) (rows : List Row) → All (λ (row : Row). IsInRange row.stats now) rows → All IsSmall (map (contender_for (λ stats. score_of kind stats now)) rows)
-all_small kind now [] h k d low = absurd (omega arith)
-all_small kind now (x ∷ xs) h zero d low =
-    let here = h 0 x (omega arith) in
-    record { top = top_small kind x.stats now here; bottom = bottom_small kind x.stats now here; some = bottom_some kind x.stats now }
-all_small kind now (x ∷ xs) h (suc k) d low = all_small kind now xs (λ k d low. h (suc k) d (omega arith)) k d (omega arith)
+-- the scores of a formula can be compared
+each_small : (kind : Evict) (weights : List ℕ) (now : ℕ) (rows : List Row) → (kind ≡ Weighted → AreWeights weights) → All (λ (row : Row). IsInRange row.stats now) rows
+    → All (λ (c : Contender). IsSmall (most_bottom kind) c.score) (map (contender_for (λ stats. score_of kind weights stats now)) rows)
+each_small kind weights now [] ok h k d low = absurd (omega arith)
+each_small kind weights now (x ∷ xs) ok h zero d low = score_small kind weights x.stats now ok (h 0 x (omega arith))
+each_small kind weights now (x ∷ xs) ok h (suc k) d low = each_small kind weights now xs ok (λ k d low. h (suc k) d (omega arith)) k d (omega arith)
+
+pub all_small : (kind : Evict) (weights : List ℕ) → (kind ≡ Weighted → AreWeights weights) → (now : ℕ) (rows : List Row) → All (λ (row : Row). IsInRange row.stats now) rows
+    → AreSmall (map (contender_for (λ stats. score_of kind weights stats now)) rows)
+all_small kind weights ok now rows h = (most_bottom kind, each_small kind weights now rows ok h)
 
 -- ## The plan as far as it has come
 
@@ -281,10 +285,13 @@ contender_is score [] p low = absurd (omega arith)
 contender_is score (x ∷ xs) zero low = refl
 contender_is score (x ∷ xs) (suc p) low = contender_is score xs p (omega arith)
 
-all_some : (contenders : List Contender) → All IsSmall contenders → (p : ℕ) → 0 < (contender_at contenders p).score.bottom
-all_some [] h p = let past : contender_at [] p ≡ record { score = record { top = 0; bottom = 1 }; id = 0 } = get_or_past [] p _ (omega arith) in subst (λ (c : Contender). 0 < c.score.bottom) (sym past) (omega arith)
-all_some (x ∷ xs) h zero = (h 0 x (omega arith)).some
-all_some (x ∷ xs) h (suc p) = all_some xs (λ k d low. h (suc k) d (omega arith)) p
+each_some : (most : ℕ) (contenders : List Contender) → All (λ (c : Contender). IsSmall most c.score) contenders → (p : ℕ) → 0 < (contender_at contenders p).score.bottom
+each_some most [] h p = let past : contender_at [] p ≡ record { score = record { top = 0; bottom = 1 }; id = 0 } = get_or_past [] p _ (omega arith) in subst (λ (c : Contender). 0 < c.score.bottom) (sym past) (omega arith)
+each_some most (x ∷ xs) h zero = let one = (h 0 x (omega arith)).some in omega (arith, one)
+each_some most (x ∷ xs) h (suc p) = each_some most xs (λ k d low. h (suc k) d (omega arith)) p
+
+all_some : (contenders : List Contender) → AreSmall contenders → (p : ℕ) → 0 < (contender_at contenders p).score.bottom
+all_some contenders h = each_some h.0 contenders h.1
 
 seat_some : (b : Bool) (p : ℕ) → b ≡ true → seat_of b p ≡ Some p
 seat_some true p e = refl
@@ -377,14 +384,14 @@ none_left score (row ∷ rows) h = absurd (omega arith)
 -- ## What is known at first
 
 pub known_is : (known : Known) (score : Stats → Score) → length known.rows.now ≤ 1024 → All (λ (row : Row). 0 < row.id) known.rows.now → IsNamed known.rows.now known.names.now → IsDistinct nat_eq (map (λ (row : Row). row.id) known.rows.now)
-    → All IsSmall (map (contender_for score) known.rows.now) → known.contenders.now ≡ map (contender_for score) known.rows.now → IsKnown known
+    → AreSmall (map (contender_for score) known.rows.now) → known.contenders.now ≡ map (contender_for score) known.rows.now → IsKnown known
 known_is known score few ids named distinct small scored = record {
   few = few;
   ids = λ p low. ids p no_row low;
   named = named;
   apart = apart_by_place known.rows.now (apart_from_distinct known.rows.now distinct);
   same = ap length scored ∙ length-map known.rows.now (contender_for score);
-  small = subst (All IsSmall) (sym scored) small;
+  small = subst AreSmall (sym scored) small;
 }
 
 pub left_first : (rows : List Row) (row : Row) → record { children = count_by (is_parent row.id) rows; gone = false } ≡ left_of [] rows row

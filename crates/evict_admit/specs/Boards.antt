@@ -1,11 +1,11 @@
 -- Helpers of the proof, which private contracts alone cite: what is kept of the rows while a plan is made.
-use Rattle.std.specs.Prelude.{◌≡◌, ℕ, ◌+◌, ◌-◌, ◌*◌, ◌^◌, ◌<◌, ◌≤◌, ◌==◌, List, Bool, false, not, ◌&&◌, ◌||◌, if◌then◌else◌, Option, Some, None, All, length, nat_lt, slice_index_or, [], filter, count_by}
+use Rattle.std.specs.Prelude.{◌≡◌, ℕ, ◌+◌, ◌-◌, ◌*◌, ◌<◌, ◌≤◌, ◌==◌, List, Bool, false, not, ◌&&◌, ◌||◌, if◌then◌else◌, Option, Some, None, All, length, nat_lt, slice_index_or, [], filter, count_by}
 use Rattle.std.specs.List.{Contains, list_any}
 use Rattle.std.specs.List.Sorted.{IsNonDecreasingBy}
 use Rattle.std.specs.Option.{ForSome}
 use Rattle.score_hook.specs.declared.stats.Stats.{Stats}
 use Rattle.score_hook.specs.declared.stats.Score.{Score}
-use Rattle.score_hook.specs.Scores.{is_less}
+use Rattle.score_hook.specs.Scores.{IsSmall, is_less}
 use Rattle.evict_admit.specs.declared.plan.Row.{Row}
 use Rattle.evict_admit.specs.declared.contest.Contender.{Contender}
 use Rattle.evict_admit.specs.declared.names.Name.{Name}
@@ -15,7 +15,7 @@ use Rattle.evict_admit.specs.Evictions.{is_parent}
 
 -- what stands past the end of a list
 abbrev pub no_row : Row
-no_row = record { id = 0; bytes = 0; free = false; parents = []; stats = record { work = 0; reuses = 0; others = 0; admitted_at = 0; used_at = 0 } }
+no_row = record { id = 0; bytes = 0; free = false; parents = []; stats = record { class = 0; work = 0; reuses = 0; others = 0; admitted_at = 0; used_at = 0 } }
 
 abbrev pub row_at : List Row → ℕ → Row
 row_at rows p = slice_index_or rows p no_row
@@ -36,11 +36,9 @@ contender_for score row = record { score = score row.stats; id = row.id }
 abbrev pub comes_before : Contender → Contender → Bool
 comes_before a b = is_less a.score b.score || (not (is_less b.score a.score) && nat_lt a.id b.id)
 
--- a score can be compared
-pub record IsSmall (c : Contender) : Type 0 where
-  pub top : c.score.top < 2 ^ 96
-  pub bottom : c.score.bottom < 2 ^ 32
-  pub some : 0 < c.score.bottom
+-- the scores of any two can be compared
+abbrev pub AreSmall : List Contender → Type 0
+AreSmall contenders = (most : ℕ) × All (λ c. IsSmall most c.score) contenders
 
 -- ## Contests: a list that has the places that take part behind, and at each place k before the sooner of those at 2 k and 2 k + 1
 
@@ -85,7 +83,7 @@ pub record IsKnown (known : Known) : Type 0 where
   pub named : IsNamed known.rows.now known.names.now
   pub apart : (p q : ℕ) → p < length known.rows.now → q < length known.rows.now → (row_at known.rows.now p).id ≡ (row_at known.rows.now q).id → p ≡ q
   pub same : length known.contenders.now ≡ length known.rows.now
-  pub small : All IsSmall known.contenders.now
+  pub small : AreSmall known.contenders.now
 
 -- ## What changes
 

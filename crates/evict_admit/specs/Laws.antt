@@ -24,4 +24,4 @@ pub record IsLeast (before : Row → Row → Bool) (rows : List Row) (row : Row)
 abbrev pub OneOrder : Type 0
 OneOrder = ((score : Stats → Score) → ((stats : Stats) → 0 < (score stats).bottom) → IsLine (goes_before score)
     × ((rows : List Row) (row : Row) → IsDistinct nat_eq (map (λ (r : Row). r.id) rows) → first_by (goes_before score) rows ≡ Some row ↔ IsLeast (goes_before score) rows row))
-    × ((kind : Evict) (now : ℕ) (stats : Stats) → 0 < (score_of kind stats now).bottom)
+    × ((kind : Evict) (weights : List ℕ) (now : ℕ) (stats : Stats) → 0 < (score_of kind weights stats now).bottom)

@@ -2,3 +2,4 @@ pub mod Boards
 pub mod Credits
 pub mod Evictions
 pub mod Laws
+pub mod Runs

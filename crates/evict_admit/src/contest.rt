@@ -1,8 +1,8 @@
 //! A tournament tree over places: who of those that take part goes first, told again after each change by
 //! the games on its way alone.
-ghost use Rattle.std.specs.Prelude.{◌≡◌, ◌≢◌, ℕ, ◌+◌, ◌*◌, ◌<◌, ◌≤◌, All, length, None, slice_set};
+ghost use Rattle.std.specs.Prelude.{◌≡◌, ◌≢◌, ℕ, ◌+◌, ◌*◌, ◌^◌, ◌<◌, ◌≤◌, length, None, slice_set};
 ghost use Rattle.std.specs.Option.{ForSome};
-ghost use Rattle.evict_admit.specs.Boards.{IsContest, IsSmall, IsWhole, comes_before, contender_at, seat_of, sooner_of, winner_at};
+ghost use Rattle.evict_admit.specs.Boards.{AreSmall, IsContest, IsWhole, comes_before, contender_at, seat_of, sooner_of, winner_at};
 
 use score_hook::{Score, less};
 
@@ -15,8 +15,8 @@ pub(crate) struct Contender {
 
 /// Whether one goes before another.
 fn goes_before(a: &Contender, b: &Contender) -> bool
-    requires a { IsSmall a.now }
-    requires b { IsSmall b.now }
+    requires left { a.now.score.top * b.now.score.bottom < 2 ^ 128 }
+    requires right { b.now.score.top * a.now.score.bottom < 2 ^ 128 }
     ensures { result ≡ comes_before a.now b.now }
 {
     less(&a.score, &b.score) || (!less(&b.score, &a.score) && a.id < b.id)
@@ -24,7 +24,7 @@ fn goes_before(a: &Contender, b: &Contender) -> bool
 
 /// Of two places, the one that goes first.
 fn sooner(contenders: &[Contender], a: Option<u16>, b: Option<u16>) -> Option<u16>
-    requires small { All IsSmall contenders.now }
+    requires small { AreSmall contenders.now }
     requires a { ForSome a (λ p. p < length contenders.now) }
     requires b { ForSome b (λ p. p < length contenders.now) }
     ensures { result ≡ sooner_of contenders.now a b }
@@ -41,7 +41,7 @@ fn sooner(contenders: &[Contender], a: Option<u16>, b: Option<u16>) -> Option<u1
 
 /// Plays the game of one node.
 fn play(winners: &mut [Option<u16>], contenders: &[Contender], node: usize)
-    requires small { All IsSmall contenders.now }
+    requires small { AreSmall contenders.now }
     requires size { length winners.old ≡ 2 * length contenders.now }
     requires places { (k : ℕ) → ForSome (winner_at winners.old k) (λ p. p < length contenders.now) }
     requires node { node < length contenders.now }
@@ -52,7 +52,7 @@ fn play(winners: &mut [Option<u16>], contenders: &[Contender], node: usize)
 
 /// Plays all games.
 pub(crate) fn play_all(winners: &mut [Option<u16>], contenders: &[Contender])
-    requires small { All IsSmall contenders.now }
+    requires small { AreSmall contenders.now }
     requires size { length winners.old ≡ 2 * length contenders.now }
     requires places { (k : ℕ) → ForSome (winner_at winners.old k) (λ p. p < length contenders.now) }
     ensures whole { IsWhole contenders.now winners.new }
@@ -73,7 +73,7 @@ pub(crate) fn settle(
     seated: bool,
 )
     requires few { length contenders.now ≤ 1024 }
-    requires small { All IsSmall contenders.now }
+    requires small { AreSmall contenders.now }
     requires whole { IsWhole contenders.now winners.old }
     requires place { place < length contenders.now }
     ensures whole { IsWhole contenders.now winners.new }

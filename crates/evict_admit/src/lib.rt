@@ -17,6 +17,6 @@ mod plan;
 #[cfg(test)]
 mod tests;
 
-pub use laws::one_order;
+pub use laws::{one_order, runs_are_functions};
 pub use ledger::Ledger;
 pub use plan::{MOST_ROWS, Row, plan_evictions};

@@ -49,7 +49,8 @@ pub fn plan_evictions(
     requires range { All (λ row. IsInRange row.stats now) rows.now }
     requires empty { out.old.items ≡ [] }
     requires room { length rows.now ≤ vec_capacity out.old }
-    ensures { GivesUp (λ stats. score_of scorer.now.kind stats now) rows.now need slots out.new.items result }
+    ensures plan { GivesUp (λ stats. score_of scorer.now.kind scorer.now.weights.items stats now) rows.now need slots out.new.items result }
+    ensures room { vec_capacity out.old ≤ vec_capacity out.new }
 {
     let count = rows.len();
     let mut contender_store = [NOBODY; MOST_ROWS];
@@ -100,7 +101,7 @@ const CHILDLESS: Left = Left {
 fn note_contenders(contenders: &mut [Contender], rows: &[Row], scorer: &Scorer, now: u64)
     requires room { length contenders.old ≡ length rows.now }
     requires range { All (λ row. IsInRange row.stats now) rows.now }
-    ensures { contenders.new ≡ map (contender_for (λ stats. score_of scorer.now.kind stats now)) rows.now }
+    ensures { contenders.new ≡ map (contender_for (λ stats. score_of scorer.now.kind scorer.now.weights.items stats now)) rows.now }
 {
     'rows: for i in 0..rows.len() {
         contenders[i] = Contender {
@@ -123,7 +124,8 @@ fn plan_in(
     requires fresh { (p : ℕ) → p < length known.now.rows.now → left_at lefts.old p ≡ left_of [] known.now.rows.now (row_at known.now.rows.now p) }
     requires empty { out.old.items ≡ [] }
     requires room { length known.now.rows.now ≤ vec_capacity out.old }
-    ensures { (score : StatsValue → ScoreValue) → known.now.contenders.now ≡ map (contender_for score) known.now.rows.now → GivesUp score known.now.rows.now wanted.bytes wanted.places out.new.items result }
+    ensures plan { (score : StatsValue → ScoreValue) → known.now.contenders.now ≡ map (contender_for score) known.now.rows.now → GivesUp score known.now.rows.now wanted.bytes wanted.places out.new.items result }
+    ensures room { vec_capacity out.old ≤ vec_capacity out.new }
 {
     let mut bytes = wanted.bytes;
     let mut places = wanted.places;

@@ -1,4 +1,4 @@
-ghost use Rattle.std.specs.Prelude.{◌≡◌};
+ghost use Rattle.std.specs.Prelude.{◌≡◌, []};
 ghost use Rattle.score_hook.specs.declared.stats.Evict.TheVariants.{History, Lru};
 ghost use Rattle.score_hook.specs.Scores.{IsInRange, score_of};
 
@@ -17,6 +17,7 @@ const ROWS: [Row; 4] = [
         free: true,
         parents: [0, 0],
         stats: Stats {
+            class: 0,
             work: 9,
             reuses: 2,
             others: 0,
@@ -30,6 +31,7 @@ const ROWS: [Row; 4] = [
         free: true,
         parents: [1, 0],
         stats: Stats {
+            class: 0,
             work: 3,
             reuses: 1,
             others: 1,
@@ -43,6 +45,7 @@ const ROWS: [Row; 4] = [
         free: false,
         parents: [0, 0],
         stats: Stats {
+            class: 0,
             work: 1,
             reuses: 0,
             others: 0,
@@ -56,6 +59,7 @@ const ROWS: [Row; 4] = [
         free: true,
         parents: [0, 0],
         stats: Stats {
+            class: 0,
             work: 40,
             reuses: 0,
             others: 0,
@@ -84,10 +88,10 @@ fn parents_go_after_their_children(rt: HostRuntime) -> Result<(), Fail> {
         alloc,
         move |stats: &Stats, now: u64| -> Score
             requires { IsInRange stats.now now }
-            ensures { result ≡ score_of Lru stats.now now }
+            ensures { result ≡ score_of Lru [] stats.now now }
         { formula(Evict::Lru, stats, now) },
     )?;
-    let scorer = Scorer::new(Evict::Lru, call);
+    let scorer = Scorer::new(alloc, Evict::Lru, call);
     one_order();
     let (enough, out) = plan(alloc, &scorer, 25, 0)?;
     assert!(rt; enough);
@@ -112,7 +116,7 @@ fn another_closure_gives_up_the_same(rt: HostRuntime) -> Result<(), Fail> {
         alloc,
         move |stats: &Stats, now: u64| -> Score
             requires { IsInRange stats.now now }
-            ensures { result ≡ score_of History stats.now now }
+            ensures { result ≡ score_of History [] stats.now now }
         { formula(Evict::History, stats, now) },
     )?;
     let calls = Arc::new(alloc, AtomicU64::new(0))?;
@@ -121,7 +125,7 @@ fn another_closure_gives_up_the_same(rt: HostRuntime) -> Result<(), Fail> {
         alloc,
         move |stats: &Stats, now: u64| -> Score
             requires { IsInRange stats.now now }
-            ensures { result ≡ score_of History stats.now now }
+            ensures { result ≡ score_of History [] stats.now now }
         {
             held.fetch_add(1, Ordering::SeqCst);
             let age = if now > stats.admitted_at {
@@ -135,10 +139,10 @@ fn another_closure_gives_up_the_same(rt: HostRuntime) -> Result<(), Fail> {
             }
         },
     )?;
-    let (enough, out) = plan(alloc, &Scorer::new(Evict::History, plain), 30, 0)?;
+    let (enough, out) = plan(alloc, &Scorer::new(alloc, Evict::History, plain), 30, 0)?;
     assert!(rt; enough);
     assert_eq!(rt; out.as_slice(), [2, 1, 4].as_slice());
-    let (_, same) = plan(alloc, &Scorer::new(Evict::History, counting), 30, 0)?;
+    let (_, same) = plan(alloc, &Scorer::new(alloc, Evict::History, counting), 30, 0)?;
     assert_eq!(rt; same.as_slice(), out.as_slice());
     assert!(rt; calls.load(Ordering::SeqCst) != 0);
     Ok(())

@@ -1,3 +1,4 @@
 pub mod Keys
 pub mod Same
 pub mod Spans
+pub mod Parents

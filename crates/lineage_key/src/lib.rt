@@ -3,16 +3,18 @@
 //! It stands on `cell_core` for operators, instructions, cells and spans. A `Key` is an instruction
 //! whose variables are the ids of results, beside the version of the table that it reads. Keys are
 //! equal exactly where they are the same, so equal keys name one meaning, and a map may find a
-//! result by its key. A `Shape` is a lineage without its constants. `span_of` gives the range that a
-//! selection's key asks for.
+//! result by its key. A key tells its parents (the ids in it) and the table that it reads. A `Shape` is
+//! a lineage without its constants. `span_of` gives the range that a selection's key asks for.
 #![tactic(auto)]
 
 mod key;
+mod parents;
 mod shape;
 mod span;
 #[cfg(test)]
 mod tests;
 
 pub use key::{Key, KeyArg, equal_keys_are_the_same, key_of};
+pub use parents::shape_of;
 pub use shape::{Shape, equal_shapes_are_the_same};
 pub use span::span_of;

@@ -71,3 +71,23 @@ fn shapes_are_told_apart(rt: HostRuntime) -> Result<(), Fail> {
     assert!(rt; shape(alloc, "a")? != shape(alloc, "b")?);
     Ok(())
 }
+
+// A join of 9 and 8 names both, and no other.
+#[test]
+fn keys_tell_their_parents(rt: HostRuntime) -> Result<(), Fail> {
+    let alloc = rt.alloc();
+    let mut args = Vec::new(alloc);
+    args.push(KeyArg::Id(9))?;
+    args.push(KeyArg::Id(8))?;
+    let key = Key {
+        op: Op::Join,
+        args: Sequence::from_vec(args),
+        version: 0,
+    };
+    assert_eq!(rt; key.parents().as_slice(), [9, 8].as_slice());
+    assert!(rt; key.names(8) && key.names(9) && !key.names(7) && !key.is_bind());
+    assert!(rt; key.table().is_empty() && key.column().is_empty());
+    let shape = shape_of(alloc, &key, [2, 1, 0, 0, 0])?;
+    assert_eq!(rt; shape.args.as_slice(), [2, 1, 0, 0, 0].as_slice());
+    Ok(())
+}

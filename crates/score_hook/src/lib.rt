@@ -11,4 +11,4 @@ mod stats;
 mod tests;
 
 pub use scorer::{ScoreCall, Scorer};
-pub use stats::{Evict, Score, Stats, formula, less};
+pub use stats::{Evict, Score, Stats, formula, less, weighted_formula};

@@ -1,6 +1,6 @@
-ghost use Rattle.std.specs.Prelude.{◌≡◌, ℕ, ◌<◌, ◌^◌};
-ghost use Rattle.score_hook.specs.declared.stats.Evict.TheVariants.{History};
-ghost use Rattle.score_hook.specs.Scores.{IsInRange, score_of};
+ghost use Rattle.std.specs.Prelude.{◌≡◌, ℕ, [], ◌<◌, ◌^◌};
+ghost use Rattle.score_hook.specs.declared.stats.Evict.TheVariants.{History, Weighted};
+ghost use Rattle.score_hook.specs.Scores.{AreWeights, IsInRange, score_of};
 
 use super::*;
 use std::sync::Arc;
@@ -8,13 +8,15 @@ use std::sync::atomic::{AtomicU64, Ordering};
 use std::test::Fail;
 
 /// What is known of an entry that was used by other statements alone.
-fn stats(work: u64, reuses: u64, admitted_at: u64) -> Stats
+fn stats(class: u32, work: u64, reuses: u64, admitted_at: u64) -> Stats
+    requires class { class < 35 }
     requires work { work < 2 ^ 20 }
     requires reuses { reuses < 2 ^ 20 }
     requires moment { admitted_at < 2 ^ 20 }
     ensures { (now : ℕ) → now < 2 ^ 32 → IsInRange result now }
 {
     Stats {
+        class,
         work,
         reuses,
         others: reuses,
@@ -34,7 +36,7 @@ fn a_closure_that_counts(rt: HostRuntime) -> Result<(), Fail> {
         alloc,
         move |stats: &Stats, now: u64| -> Score
             requires { IsInRange stats.now now }
-            ensures { result ≡ score_of History stats.now now }
+            ensures { result ≡ score_of History [] stats.now now }
         {
             held.fetch_add(1, Ordering::SeqCst);
             let age = if now > stats.admitted_at {
@@ -48,18 +50,43 @@ fn a_closure_that_counts(rt: HostRuntime) -> Result<(), Fail> {
             }
         },
     )?;
-    let scorer = Scorer::new(Evict::History, call);
-    let score = scorer.score(&stats(6, 2, 1), 7);
+    let scorer = Scorer::new(alloc, Evict::History, call);
+    let score = scorer.score(&stats(1, 6, 2, 1), 7);
     assert_eq!(rt; score.top, 120);
     assert_eq!(rt; score.bottom, 6);
     assert!(rt; calls.load(Ordering::SeqCst) != 0);
     Ok(())
 }
 
+// The weight of each operator but the second, which weighs 100, is 1.
+const WEIGHTS: [u64; 35] = [
+    1, 100, 1, 1, 1, 1, 1, 1, 1, 1, 1, 1, 1, 1, 1, 1, 1, 1, 1, 1, 1, 1, 1, 1, 1, 1, 1, 1, 1, 1, 1,
+    1, 1, 1, 1,
+];
+
+// The closure has a list of the weights of its own.
+#[test]
+fn operators_weigh(rt: HostRuntime) -> Result<(), Fail> {
+    let alloc = rt.alloc();
+    let held = WEIGHTS;
+    let call: ScoreCall = Box::new(
+        alloc,
+        move |stats: &Stats, now: u64| -> Score
+            requires range { IsInRange stats.now now }
+            requires weights { AreWeights held }
+            ensures { result ≡ score_of Weighted held stats.now now }
+        { weighted_formula(&held, stats, now) },
+    )?;
+    let scorer = Scorer::weighted(Vec::from_array(alloc, WEIGHTS)?, call);
+    assert_eq!(rt; scorer.score(&stats(1, 6, 2, 1), 7).top, 12_000);
+    assert_eq!(rt; scorer.score(&stats(0, 6, 0, 1), 7).top, 6);
+    Ok(())
+}
+
 // One unit of work is worth 1 before another statement uses it, and 10 for each reuse afterwards.
 #[test]
 fn formulas(rt: HostRuntime) {
-    let (fresh, used) = (stats(6, 0, 3), stats(6, 2, 3));
+    let (fresh, used) = (stats(1, 6, 0, 3), stats(1, 6, 2, 3));
     assert_eq!(rt; formula(Evict::Lru, &fresh, 7).top, 3);
     assert_eq!(rt; formula(Evict::Benefit, &fresh, 7).top, 6);
     assert_eq!(rt; formula(Evict::Benefit, &used, 7).top, 120);

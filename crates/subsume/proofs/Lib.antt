@@ -4,3 +4,4 @@ pub mod Sweep
 pub mod Members
 pub mod Permuted
 pub mod IndexLemmas
+pub mod Functions

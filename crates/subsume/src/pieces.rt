@@ -5,6 +5,7 @@ ghost use Rattle.std.specs.Option.{option_copied, option_and_then, option_map_or
 ghost use Rattle.cell_core.specs.declared.cut.Span.{Span};
 ghost use Rattle.cell_core.specs.Cuts.{covers, is_cut_below, is_cut_up_to};
 ghost use Rattle.subsume.specs.Cutting.{is_contained, is_better, piece_of, least_cut, is_lower, Entry, IsCutting, IsPartition};
+ghost use Rattle.subsume.specs.Greedy.{CuttingsAreFunctions};
 
 use cell_core::{Cut, Memory, Span, compare_cuts};
 use std::alloc::Global;
@@ -71,6 +72,12 @@ pub fn cover(
 pub fn cuttings_are_partitions()
     ensures { (target : Span) (entries pieces : List Entry)
         → IsCutting target entries target.low pieces → IsPartition target.low target.high pieces }
+{}
+
+/// Of spans with different ids, the cutting of a target that isn't empty is a function of them: `cover`
+/// gives exactly that, and there is none where they don't cover the target.
+pub fn cuttings_are_functions()
+    ensures { CuttingsAreFunctions }
 {}
 
 /// The spans in the order of their lows.

@@ -5,4 +5,4 @@ use Rattle.evict_admit.proofs.plan.note_contenders.Given as goal
 
 -- the rows so far are noted
 abbrev pub invariant-rows : goal.invariant-rows
-invariant-rows g l = l.contenders ≡ map (contender_for (λ stats. score_of l.scorer.kind stats l.now)) (take l.i l.rows) ++ drop l.i l.initial.contenders
+invariant-rows g l = l.contenders ≡ map (contender_for (λ stats. score_of l.scorer.kind l.scorer.weights.items stats l.now)) (take l.i l.rows) ++ drop l.i l.initial.contenders

@@ -16,14 +16,15 @@ rounds-init c =
       left = subst (λ out. length (still out rows) + length out ≤ length rows) none (omega (arith, all));
       rounds = ap length c.requires.empty;
       room = c.requires.room;
+      kept = omega arith;
     }
 
-pub returns-then-is_enough : goal.returns-then-is_enough
-returns-then-is_enough c =
+pub returns-then-is_enough-clause-plan : goal.returns-then-is_enough-clause-plan
+returns-then-is_enough-clause-plan c =
     λ score scored. ends score c.args.known.now.rows.now c.args.wanted.bytes c.args.wanted.places c.rounds.out.items c.rounds.bytes c.rounds.places (c.rounds.invariant.planned score scored) true c.if-is_enough.ensures (λ e. cc)
 
-pub returns-in-None : goal.returns-in-None
-returns-in-None c =
+pub returns-in-None-clause-plan : goal.returns-in-None-clause-plan
+returns-in-None-clause-plan c =
     λ score scored. ends score c.args.known.now.rows.now c.args.wanted.bytes c.args.wanted.places c.rounds.out.items c.rounds.bytes c.rounds.places (c.rounds.invariant.planned score scored) false c.if-is_enough.ensures
     (λ e. none_next c.args.known.now c.requires.known c.rounds.out.items c.rounds.lefts c.rounds.winners c.rounds.invariant.seated c.rounds.invariant.lefts c.in-None.is score)
 
@@ -51,10 +52,11 @@ rounds-preserved c =
       left = omega (arith, fewer, long, c.rounds.invariant.left);
       rounds = long ∙ ap (λ n. n + 1) c.rounds.invariant.rounds;
       room = omega (arith, c.rounds.invariant.room, c.put.ensures.room);
+      kept = omega (arith, c.rounds.invariant.kept, c.put.ensures.room);
     }
 
-pub returns : goal.returns
-returns c =
+pub returns-clause-plan : goal.returns-clause-plan
+returns-clause-plan c =
     let rows = c.args.known.now.rows.now in
     let none : length (still c.rounds.out.items rows) ≤ 0 = omega (arith, c.rounds.invariant.left, c.rounds.invariant.rounds) in
     λ score scored. ends score rows c.args.wanted.bytes c.args.wanted.places c.rounds.out.items c.rounds.bytes c.rounds.places (c.rounds.invariant.planned score scored) c.is_enough-2.result c.is_enough-2.ensures

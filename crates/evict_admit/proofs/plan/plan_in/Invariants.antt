@@ -16,4 +16,5 @@ invariant-rounds l = record {
   left : length (still l.out.items l.known.rows.now) + length l.out.items ≤ length l.known.rows.now;
   rounds : length l.out.items ≡ l.counter;
   room : length l.known.rows.now ≤ vec_capacity l.out;
+  kept : vec_capacity l.fn.out ≤ vec_capacity l.out;
 }

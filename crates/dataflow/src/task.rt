@@ -1,0 +1,26 @@
+//! What goes through the queues.
+
+use crate::ready::Job;
+use bat_core::Obj;
+use cell_core::RunError;
+
+/// An instruction of a plan, by its number, as a job.
+#[derive(Drop)]
+pub struct Task {
+    pub instr: u32,
+    pub job: Job,
+}
+
+/// Two tasks that are ready at once.
+#[derive(Drop)]
+pub(crate) struct Pair {
+    pub first: Task,
+    pub second: Task,
+}
+
+/// The answer to a task: the value of its instruction, or why there is none.
+#[derive(Drop)]
+pub(crate) struct Answer {
+    pub instr: u32,
+    pub result: Result<Obj, RunError>,
+}

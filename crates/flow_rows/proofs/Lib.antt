@@ -1,0 +1,4 @@
+pub mod NoneLemmas
+pub mod OrderLemmas
+pub mod SoundLemmas
+pub mod TwoInts

@@ -1,0 +1,6 @@
+use Rattle.flow_rows.specs.Sound.{known_of}
+use Rattle.flow_rows.specs.Ready.{NoneReady}
+use Rattle.flow_rows.proofs.args.ready.Given as goal
+
+abbrev pub invariant-instrs : goal.invariant-instrs
+invariant-instrs l = NoneReady l.instrs (known_of l.values) l.handed l.i

@@ -1,0 +1,15 @@
+use Rattle.std.proofs.Common.{rules, arith, subst, sym, set, Some, ◌≡◌, ◌++◌, ◌∷◌, []}
+use Rattle.flow_rows.specs.Sound.{IsSound}
+use Rattle.flow_rows.proofs.SoundLemmas.{put_sound, put_grows}
+use Rattle.flow_rows.proofs.run.Run.put.Goals as goal
+
+pub invariant_of-self-2 : goal.invariant_of-self-2
+invariant_of-self-2 c =
+    let more : c.push.new.self.items ≡ c.args.self.now.finished.items ++ c.args.instr ∷ [] = search rules in
+    record {
+      sound = subst (λ done. IsSound c.args.self.now.plan (set c.args.self.now.values.items c.args.instr (Some c.args.value)) c.args.self.now.handed.items done) (sym more)
+          (put_sound c.args.self.now.plan c.args.self.now.values.items c.args.self.now.handed.items c.args.self.now.finished.items c.args.instr c.args.value c.args.self.now.sound c.requires.out c.requires.value (omega arith));
+    }
+
+pub returns-clause-grows : goal.returns-clause-grows
+returns-clause-grows c = put_grows c.args.self.now.values.items c.args.instr c.args.value (omega arith)

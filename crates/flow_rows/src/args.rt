@@ -1,0 +1,103 @@
+//! The arguments of instructions among the values so far.
+ghost use Rattle.std.specs.Prelude.{◌≡◌, ℕ, ◌<◌, ◌^◌, length, map, true, false, slice_get, Some, None, IfOk, IfSome, IfNone};
+ghost use Rattle.std.specs.Option.{option_map};
+ghost use Rattle.cell_core.specs.declared.operator.Arg.TheVariants.{Var};
+ghost use Rattle.bat_core.specs.Objects.{value_of, values_of};
+ghost use Rattle.mal_meaning.specs.Meaning.{arg_value, arg_values};
+ghost use Rattle.dataflow.specs.Plans.{has};
+ghost use Rattle.flow_rows.specs.Sound as sound;
+ghost use Rattle.flow_rows.specs.Sound.{known_of};
+ghost use Rattle.flow_rows.specs.Ready.{IsReady, NoneReady};
+
+use bat_core::Obj;
+use cell_core::{Arg, Instr, Memory, Op};
+use dataflow::{Job, Task};
+use std::alloc::Global;
+
+/// The value at a place, if there is one.
+fn value_at(values: &[Option<Obj>], place: u32) -> Result<Option<Obj>, Memory>
+    ensures { IfOk result (λ found. option_map value_of found ≡ arg_value (known_of values.now) (Var place)) }
+{
+    let Some(Some(value)) = values.get(place as usize) else {
+        return Ok(None);
+    };
+    let value = value.share()?;
+    Ok(Some(value))
+}
+
+/// The value of an argument, if it has one.
+fn arg_at(values: &[Option<Obj>], arg: &Arg) -> Result<Option<Obj>, Memory>
+    ensures { IfOk result (λ found. option_map value_of found ≡ arg_value (known_of values.now) arg.now) }
+{
+    match arg {
+        Arg::Const(cell) => {
+            let cell = cell.share()?;
+            Ok(Some(Obj::One(cell)))
+        }
+        Arg::Var(n) => value_at(values, *n),
+    }
+}
+
+/// The values of the arguments, if all have one.
+fn args_at(alloc: Global, values: &[Option<Obj>], args: &[Arg]) -> Result<Option<Vec<Obj>>, Memory>
+    ensures { IfOk result (λ found. option_map (λ v. values_of v.items) found ≡ arg_values (known_of values.now) args.now) }
+{
+    let mut found = Vec::with_capacity(alloc, args.len())?;
+    let mut rest = args;
+    'parts: while let [arg, more @ ..] = rest {
+        let Some(value) = arg_at(values, arg)? else {
+            return Ok(None);
+        };
+        found.push(value)?;
+        rest = more;
+    }
+    Ok(Some(found))
+}
+
+/// Whether an operator is the bind.
+pub(crate) fn is_bind(op: Op) -> bool
+    ensures { result ≡ sound.is_bind op }
+{
+    matches!(op, Op::Bind)
+}
+
+/// The job of an instruction, if it isn't handed out and all its arguments have values.
+fn job_at(
+    alloc: Global,
+    instr: &Instr,
+    number: u32,
+    values: &[Option<Obj>],
+    handed: &[u32],
+) -> Result<Option<Task>, Memory>
+    ensures some { IfOk result (λ found. IfSome found (λ task. (task.instr ≡ number) × (sound.is_bind instr.now.op ≡ false) × (has handed.now number ≡ false) × (task.job.op ≡ instr.now.op) × (arg_values (known_of values.now) instr.now.args ≡ Some (values_of task.job.args.items)))) }
+    ensures none { IfOk result (λ found. IfNone found (sound.is_bind instr.now.op ≡ false → has handed.now number ≡ false → arg_values (known_of values.now) instr.now.args ≡ None)) }
+{
+    if is_bind(instr.op) || handed.contains(&number) {
+        return Ok(None);
+    }
+    let Some(args) = args_at(alloc, values, instr.args.as_slice())? else {
+        return Ok(None);
+    };
+    let job = Job { op: instr.op, args };
+    Ok(Some(Task { instr: number, job }))
+}
+
+/// The first task that is ready.
+pub(crate) fn ready(
+    alloc: Global,
+    instrs: &[Instr],
+    values: &[Option<Obj>],
+    handed: &[u32],
+) -> Result<Option<Task>, Memory>
+    requires { length instrs.now < 2 ^ 32 }
+    ensures some { IfOk result (λ found. IfSome found (λ task. IsReady instrs.now (known_of values.now) handed.now task)) }
+    ensures none { IfOk result (λ found. IfNone found (NoneReady instrs.now (known_of values.now) handed.now (length instrs.now))) }
+{
+    'instrs: for i in 0..instrs.len() {
+        let number = i as u32;
+        if let Some(task) = job_at(alloc, &instrs[i], number, values, handed)? {
+            return Ok(Some(task));
+        }
+    }
+    Ok(None)
+}

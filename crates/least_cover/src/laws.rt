@@ -1,0 +1,15 @@
+ghost use Rattle.std.specs.Prelude.{ℕ, List};
+ghost use Rattle.cell_core.specs.declared.cut.Span.{Span};
+ghost use Rattle.least_cover.specs.Covers.{IsCertificate, IsLeastCost, OneChosen, Priced};
+
+/// The numbers of a certificate show that no cover costs less.
+pub fn certificates_bound()
+    ensures { (spans : List Priced) (target : Span) (cost : ℕ) (labels : List ℕ)
+        → IsCertificate spans target cost labels → IsLeastCost spans target cost }
+{}
+
+/// A chain through a target that isn't empty is a cover; the chain that is chosen costs no more than
+/// any other; and no two chains are chosen from one cut on.
+pub fn one_chosen()
+    ensures { (spans : List Priced) (target : Span) → OneChosen spans target }
+{}

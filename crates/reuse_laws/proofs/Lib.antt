@@ -1,0 +1,6 @@
+pub mod Bridge
+pub mod Within
+pub mod Merge
+pub mod Across
+pub mod Reused
+pub mod ExampleReuse

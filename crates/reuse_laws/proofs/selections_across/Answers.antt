@@ -1,0 +1,8 @@
+use Rattle.reuse_laws.proofs.Reused.{reused_across, cuttings_serve}
+use Rattle.reuse_laws.proofs.selections_across.Goals as goal
+
+pub returns-clause-across : goal.returns-clause-across
+returns-clause-across c = reused_across
+
+pub returns-clause-cuttings : goal.returns-clause-cuttings
+returns-clause-cuttings c = cuttings_serve

@@ -1,0 +1,27 @@
+//! That a selection which is computed from other selections is the plain selection.
+//!
+//! It stands on `lineage_key` for the spans of bounds and on `subsume` for pieces. Its public calls
+//! state laws and run nothing: a selection keeps what lies in its span; one that is selected from a
+//! containing one is the plain one; and so is what the selections of a cover's pieces give, merged by
+//! their heads, order included.
+#![tactic(auto)]
+
+ghost use Rattle.reuse_laws.specs.Laws.{BoundsAreSpans, CuttingsServe, SelectionsAcross, SelectionsWithin};
+
+/// A selection by four bounds keeps exactly what lies in the span of these bounds, and a span that
+/// some selection asks for has its bounds.
+pub fn bounds_are_spans()
+    ensures { BoundsAreSpans }
+{}
+
+/// A selection from a selection whose span contains its own is the plain selection.
+pub fn selections_within()
+    ensures { SelectionsWithin }
+{}
+
+/// Selections of pieces that follow each other through a target, each from a selection that contains
+/// it, merged by heads that rise, are the plain selection. The pieces of a greedy cutting are such.
+pub fn selections_across()
+    ensures across { SelectionsAcross }
+    ensures cuttings { CuttingsServe }
+{}
