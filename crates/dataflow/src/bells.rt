@@ -2,13 +2,57 @@
 
 use cell_core::Memory;
 use std::alloc::Global;
+use std::sync::Wait;
+use std::sync::atomic::{AtomicBool, Ordering};
 use std::thread::Parker;
+
+/// What wakes one worker.
+#[derive(Drop)]
+pub(crate) struct Bell {
+    parker: Parker,
+    // Set before the worker's last look, so who pushes a task after that look sees it.
+    asleep: AtomicBool,
+}
+
+impl Bell {
+    fn new() -> Bell {
+        Bell {
+            parker: Parker::new(),
+            asleep: AtomicBool::new(false),
+        }
+    }
+
+    /// Says that the worker is about to sleep; whether it hadn't said so, and has to look once more.
+    pub fn lies_down(&self) -> bool {
+        !self.asleep.swap(true, Ordering::SeqCst)
+    }
+
+    /// Sleeps until someone rings.
+    pub fn sleep<R: Wait>(&self, rt: &R) {
+        self.parker.park(rt);
+        self.gets_up();
+    }
+
+    /// Says that the worker is awake.
+    pub fn gets_up(&self) {
+        self.asleep.store(false, Ordering::SeqCst);
+    }
+
+    /// Wakes the worker if it sleeps or is about to; whether it did.
+    fn wakes(&self) -> bool {
+        let asleep = self.asleep.swap(false, Ordering::SeqCst);
+        if asleep {
+            self.parker.unpark();
+        }
+        asleep
+    }
+}
 
 /// A bell for the caller, and one for each worker.
 #[derive(Drop)]
 pub(crate) struct Bells {
     pub answer: Parker,
-    pub tasks: Vec<Parker>,
+    pub tasks: Vec<Bell>,
 }
 
 impl Bells {
@@ -16,7 +60,7 @@ impl Bells {
     pub fn new(alloc: Global, workers: u32) -> Result<Bells, Memory> {
         let mut tasks = Vec::with_capacity(alloc, workers as usize)?;
         'workers: for _ in 0..workers {
-            tasks.push(Parker::new())?;
+            tasks.push(Bell::new())?;
         }
         Ok(Bells {
             answer: Parker::new(),
@@ -24,10 +68,19 @@ impl Bells {
         })
     }
 
-    /// Wakes all workers. One that is awake isn't held up by it.
+    /// Wakes one worker that sleeps, for one task more. Where none does, each looks again by itself.
     pub fn ring(&self) {
         'workers: for bell in self.tasks.as_slice() {
-            bell.unpark();
+            if bell.wakes() {
+                return;
+            }
+        }
+    }
+
+    /// Wakes all workers.
+    pub fn ring_all(&self) {
+        'workers: for bell in self.tasks.as_slice() {
+            bell.parker.unpark();
         }
     }
 }

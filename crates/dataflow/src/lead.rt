@@ -14,20 +14,26 @@ use crate::task::{Answer, Pair, Task};
 use crate::team::Team;
 use bat_core::Operate;
 use cell_core::RunError;
+use crossbeam_utils::Backoff;
 use std::alloc::Global;
 use std::sync::Wait;
 
-/// Waits for an answer.
+/// Waits for an answer. It looks some times more before it sleeps, as a worker does.
 fn await_answer<K: Named, R: Wait>(rt: &R, team: &Team<K>, hands: &mut Hands) -> Answer
     requires { IsHandsOf K.basis team.now.queues hands.old }
     ensures ours { IsHandsOf K.basis team.now.queues hands.new }
     ensures answer { IsAnswer K.basis result }
 {
+    let backoff = Backoff::new();
     'takes: for _ in rt.forever() {
         if let Some(answer) = team.queues.take_answer(rt, hands) {
             return answer;
         }
-        team.bells.answer.park(rt);
+        if backoff.is_completed() {
+            team.bells.answer.park(rt);
+        } else {
+            backoff.snooze();
+        }
     }
     unreachable!()
 }

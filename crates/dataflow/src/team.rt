@@ -29,7 +29,7 @@ impl<K: Named> Team<K> {
     /// Tells the workers to end.
     pub fn end(&self) {
         self.ended.store(true, Ordering::SeqCst);
-        self.bells.ring();
+        self.bells.ring_all();
     }
 
     /// Whether the work is to end.

@@ -5,6 +5,7 @@ ghost use Rattle.dataflow.specs.Rules.{value_at, IsTask, IsAnswer};
 ghost use Rattle.dataflow.specs.Hands.{IsHandsOf};
 
 use crate::basis::Named;
+use crate::bells::Bell;
 use crate::queues::Hands;
 use crate::ready::run_job;
 use crate::task::{Answer, Task};
@@ -14,7 +15,6 @@ use cell_core::RunError;
 use crossbeam_utils::Backoff;
 use std::alloc::Global;
 use std::sync::Wait;
-use std::thread::Parker;
 
 /// The value of a task's instruction.
 fn run_task<K: Named, E: Operate>(alloc: Global, task: &Task, kernel: &E) -> Result<Obj, RunError>
@@ -60,29 +60,35 @@ fn deliver<K: Named, R: Wait>(rt: &R, team: &Team<K>, hands: &mut Hands, answer:
     }
 }
 
-/// Runs tasks until the work is to end.
+/// Runs tasks until the work is to end. It looks for a task some times more before it sleeps, since to
+/// wake a thread takes longer than most tasks.
 pub(crate) fn work<K: Named, R: Wait, E: Operate>(
     rt: &R,
     alloc: Global,
     kernel: &E,
     team: &Team<K>,
-    bell: &Parker,
+    bell: &Bell,
     hands: Hands,
 ) -> Hands
     requires { IsHandsOf K.basis team.now.queues hands }
     ensures { IsHandsOf K.basis team.now.queues result }
 {
     let mut hands = hands;
+    let backoff = Backoff::new();
     'takes: for _ in rt.forever() {
         if team.has_ended() {
             break;
         }
         match team.queues.take_task(rt, &mut hands) {
             Some(task) => {
+                bell.gets_up();
                 let answer = answer_to::<K, E>(alloc, task, kernel);
                 deliver(rt, team, &mut hands, answer);
+                backoff.reset();
             }
-            None => bell.park(rt),
+            None if !backoff.is_completed() => backoff.snooze(),
+            None if bell.lies_down() => {}
+            None => bell.sleep(rt),
         }
     }
     hands

@@ -1,3 +1,4 @@
+pub mod ExamplePlan
 pub mod NoneLemmas
 pub mod OrderLemmas
 pub mod SoundLemmas

@@ -1,5 +1,5 @@
 -- In a plan without a fault each variable names an earlier instruction.
-use Rattle.std.proofs.Common.{◌≡◌, ℕ, zero, suc, ◌+◌, ◌<◌, List, [], ◌∷◌, ◌++◌, length, true, Option, Some, None, Result, Ok, Err, refl, ap, sym, subst, ◌∙◌, arith, length-append}
+use Rattle.std.proofs.Common.{◌≡◌, ℕ, zero, suc, ◌+◌, ◌<◌, List, [], ◌∷◌, ◌++◌, length, true, Option, Some, None, Result, Ok, Err, refl, ap, subst, ◌∙◌, arith, length-append}
 use Rattle.std.specs.Prelude.{nat_lt, slice_get}
 use Rattle.std.specs.Option.{option_map, option_and_then}
 use Rattle.std.proofs.lemmas.Option.{slice_get_within}
@@ -10,7 +10,7 @@ use Rattle.cell_core.specs.declared.operator.Instr.{Instr}
 use Rattle.cell_core.specs.Kinds.{ValueType}
 use Rattle.mal_meaning.specs.declared.plan.Plan.{Plan}
 use Rattle.mal_check.specs.declared.error.PlanError.{PlanError}
-use Rattle.mal_check.specs.Checked.{arg_type, arg_types, type_over, instr_type, fault_or_else, types_from, instr_types, fault_with, plan_fault}
+use Rattle.mal_check.specs.Checked.{arg_type, arg_types, instr_type, fault_or_else, types_from, instr_types, fault_with, plan_fault}
 use Rattle.mal_check.proofs.ListTests.{and_both, some_is}
 use Rattle.mal_check.proofs.RunLemmas.{types_given}
 use Rattle.dataflow.specs.Plans.{has_all}

@@ -1,9 +1,9 @@
 -- What a run keeps when a value is put, what it hands out, and when it is whole.
-use Rattle.std.proofs.Common.{◌≡◌, ◌≢◌, ℕ, zero, suc, ◌+◌, ◌-◌, ◌<◌, ◌≤◌, List, [], ◌∷◌, ◌++◌, map, take, set, length, Bool, true, false, Option, Some, None, refl, ap, sym, subst, ◌∙◌, arith, ⊎_elim, length-append, length-set, ◌⊎◌, inl, inr}
-use Rattle.std.specs.Prelude.{◌&&◌, ◌||◌, not, nat_eq, nat_lt, is_some, IsSome, unwrap_or, slice_get, bytes_eq, codes, if◌then◌else◌}
+use Rattle.std.proofs.Common.{◌≡◌, ◌≢◌, ℕ, zero, suc, ◌+◌, ◌<◌, ◌≤◌, List, [], ◌∷◌, ◌++◌, map, take, set, length, Bool, true, false, Option, Some, None, refl, ap, sym, subst, ◌∙◌, arith, ⊎_elim, length-append, length-set}
+use Rattle.std.specs.Prelude.{◌&&◌, ◌||◌, not, nat_eq, nat_lt, is_some, IsSome, unwrap_or, slice_get, if◌then◌else◌}
 use Rattle.std.specs.Option.{option_map, option_map_or, option_and_then}
 use Rattle.std.specs.List.{list_all}
-use Rattle.std.proofs.lemmas.Option.{slice_get-map, slice_get_within, slice_get_past, slice_get_cases}
+use Rattle.std.proofs.lemmas.Option.{slice_get-map, slice_get_within}
 use Rattle.std.proofs.lemmas.Bool.Decides.{nat_tests, eqb_tells}
 use Rattle.std.proofs.lemmas.List.{length-map}
 use Rattle.std.proofs.lemmas.List.Folds.{list_any-append}
@@ -21,7 +21,7 @@ use Rattle.cell_core.specs.Kinds.{Fits}
 use Rattle.bat_core.specs.declared.shared.Obj.{Obj}
 use Rattle.bat_core.specs.Objects.{value_of, values_of}
 use Rattle.mal_meaning.specs.declared.plan.Plan.{Plan}
-use Rattle.mal_meaning.specs.Meaning.{arg_value, arg_values, bind_value, value_over, instr_value, values_from, plan_values}
+use Rattle.mal_meaning.specs.Meaning.{arg_value, arg_values, bind_value, value_over, instr_value, values_from}
 use Rattle.mal_check.specs.Runnable.{fits_column, fits_columns_of}
 use Rattle.mal_check.proofs.PointLemmas.{instrs_fit}
 use Rattle.mal_meaning.specs.Runs.{FitsHere}
@@ -31,7 +31,7 @@ use Rattle.dataflow.specs.declared.basis.Basis.{Basis}
 use Rattle.dataflow.specs.declared.task.Task.{Task}
 use Rattle.dataflow.specs.Jobs.{CanRun}
 use Rattle.dataflow.specs.Rules.{basis_values, value_at, IsTask}
-use Rattle.dataflow.specs.Plans.{has, has_all, Grows, is_out, NoneOut, NothingReady, IsWhole, IsHandedOut, IsIdle}
+use Rattle.dataflow.specs.Plans.{has, has_all, Grows, NoneOut, NothingReady, IsWhole, IsHandedOut, IsIdle}
 use Rattle.dataflow.proofs.TaskLemmas.{none_is, computed, IsComputed}
 use Rattle.flow_rows.specs.Sound.{no_tables, over_nothing, known_of, is_there, is_bind, is_column, is_known, are_known, start_value, is_job, IsRunnable, IsSound}
 use Rattle.flow_rows.specs.Ready.{IsReady, NoneReady}

@@ -1,5 +1,5 @@
 -- Which task is ready.
-use Rattle.std.specs.Prelude.{◌≡◌, ℕ, ◌<◌, List, false, Option, Some, None, slice_get}
+use Rattle.std.specs.Prelude.{◌≡◌, ℕ, ◌<◌, List, true, false, Option, Some, None, slice_get}
 use Rattle.cell_core.specs.declared.operator.Instr.{Instr}
 use Rattle.cell_core.specs.declared.operator.Value.{Value}
 use Rattle.bat_core.specs.Objects.{values_of}
@@ -21,3 +21,8 @@ pub record IsReady (instrs : List Instr) (known : List (Option Value)) (handed :
 abbrev pub NoneReady : List Instr → List (Option Value) → List ℕ → ℕ → Type 0
 NoneReady instrs known handed count =
     (i : ℕ) (instr : Instr) → i < count → slice_get instrs i ≡ Some instr → is_bind instr.op ≡ false → has handed i ≡ false → arg_values known instr.args ≡ None
+
+-- below a number, each instruction is a bind or handed out
+abbrev pub ArePassed : List Instr → List ℕ → ℕ → Type 0
+ArePassed instrs handed count =
+    (i : ℕ) (instr : Instr) → i < count → slice_get instrs i ≡ Some instr → is_bind instr.op ≡ false → has handed i ≡ true

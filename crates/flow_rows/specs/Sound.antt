@@ -1,26 +1,23 @@
 -- A plan over a database without tables, and what a run of it keeps.
-use Rattle.std.specs.Prelude.{◌≡◌, ◌≢◌, ℕ, ◌<◌, ◌^◌, List, [], ◌∷◌, length, map, take, Bool, true, false, ◌&&◌, ◌||◌, if◌then◌else◌, not, bytes_eq, codes, Option, Some, None, is_some, unwrap_or, slice_get}
+use Rattle.std.specs.Prelude.{◌≡◌, ℕ, ◌<◌, ◌^◌, List, [], ◌∷◌, length, map, Bool, true, false, ◌||◌, if◌then◌else◌, not, Option, Some, None, is_some, unwrap_or, slice_get}
 use Rattle.std.specs.Option.{option_map, option_map_or}
 use Rattle.std.specs.List.{list_all}
 use Rattle.cell_core.specs.declared.operator.Op.{Op}
 use Rattle.mal_check.specs.Checked.{plan_fault}
 use Rattle.cell_core.specs.declared.operator.Op.TheVariants as op
 use Rattle.cell_core.specs.declared.cell.Cell.TheVariants as cell
-use Rattle.cell_core.specs.declared.cell.Kind.TheVariants as kind
 use Rattle.cell_core.specs.declared.operator.Value.TheVariants.{Bat}
 use Rattle.cell_core.specs.declared.operator.Arg.{Arg}
-use Rattle.cell_core.specs.declared.operator.Arg.TheVariants.{Const, Var}
+use Rattle.cell_core.specs.declared.operator.Arg.TheVariants.{Const}
 use Rattle.cell_core.specs.declared.operator.Instr.{Instr}
 use Rattle.cell_core.specs.declared.operator.Value.{Value}
 use Rattle.cell_core.specs.declared.table.Db.{Db}
-use Rattle.cell_core.specs.Kinds.{Fits}
 use Rattle.bat_core.specs.declared.shared.Obj.{Obj}
 use Rattle.bat_core.specs.Objects.{value_of}
 use Rattle.mal_meaning.specs.declared.plan.Plan.{Plan}
-use Rattle.mal_meaning.specs.Meaning.{arg_values}
 use Rattle.dataflow.specs.declared.basis.Basis.{Basis}
-use Rattle.dataflow.specs.Rules.{basis_values, value_at}
-use Rattle.dataflow.specs.Plans.{has, has_all, Grows}
+use Rattle.dataflow.specs.Rules.{value_at}
+use Rattle.dataflow.specs.Plans.{has, Grows}
 
 -- a database without tables
 abbrev pub no_tables : Db

@@ -1,5 +1,5 @@
 //! The arguments of instructions among the values so far.
-ghost use Rattle.std.specs.Prelude.{◌≡◌, ℕ, ◌<◌, ◌^◌, length, map, true, false, slice_get, Some, None, IfOk, IfSome, IfNone};
+ghost use Rattle.std.specs.Prelude.{◌≡◌, ℕ, ◌<◌, ◌≤◌, ◌^◌, ◌||◌, length, map, true, false, slice_get, Some, None, IfOk, IfSome, IfNone};
 ghost use Rattle.std.specs.Option.{option_map};
 ghost use Rattle.cell_core.specs.declared.operator.Arg.TheVariants.{Var};
 ghost use Rattle.bat_core.specs.Objects.{value_of, values_of};
@@ -7,7 +7,7 @@ ghost use Rattle.mal_meaning.specs.Meaning.{arg_value, arg_values};
 ghost use Rattle.dataflow.specs.Plans.{has};
 ghost use Rattle.flow_rows.specs.Sound as sound;
 ghost use Rattle.flow_rows.specs.Sound.{known_of};
-ghost use Rattle.flow_rows.specs.Ready.{IsReady, NoneReady};
+ghost use Rattle.flow_rows.specs.Ready.{IsReady, NoneReady, ArePassed};
 
 use bat_core::Obj;
 use cell_core::{Arg, Instr, Memory, Op};
@@ -42,7 +42,8 @@ fn arg_at(values: &[Option<Obj>], arg: &Arg) -> Result<Option<Obj>, Memory>
 fn args_at(alloc: Global, values: &[Option<Obj>], args: &[Arg]) -> Result<Option<Vec<Obj>>, Memory>
     ensures { IfOk result (λ found. option_map (λ v. values_of v.items) found ≡ arg_values (known_of values.now) args.now) }
 {
-    let mut found = Vec::with_capacity(alloc, args.len())?;
+    // Nothing is allocated where the first argument has no value, as with most that wait.
+    let mut found = Vec::new(alloc);
     let mut rest = args;
     'parts: while let [arg, more @ ..] = rest {
         let Some(value) = arg_at(values, arg)? else {
@@ -72,28 +73,54 @@ fn job_at(
     ensures some { IfOk result (λ found. IfSome found (λ task. (task.instr ≡ number) × (sound.is_bind instr.now.op ≡ false) × (has handed.now number ≡ false) × (task.job.op ≡ instr.now.op) × (arg_values (known_of values.now) instr.now.args ≡ Some (values_of task.job.args.items)))) }
     ensures none { IfOk result (λ found. IfNone found (sound.is_bind instr.now.op ≡ false → has handed.now number ≡ false → arg_values (known_of values.now) instr.now.args ≡ None)) }
 {
-    if is_bind(instr.op) || handed.contains(&number) {
+    if is_bind(instr.op) {
         return Ok(None);
     }
     let Some(args) = args_at(alloc, values, instr.args.as_slice())? else {
         return Ok(None);
     };
+    if handed.contains(&number) {
+        return Ok(None);
+    }
     let job = Job { op: instr.op, args };
     Ok(Some(Task { instr: number, job }))
 }
 
-/// The first task that is ready.
+/// Whether an instruction needs no job from now on: it is a bind, or handed out.
+fn is_passed(instr: &Instr, number: u32, handed: &[u32]) -> bool
+    ensures { result ≡ (sound.is_bind instr.now.op || has handed.now number) }
+{
+    is_bind(instr.op) || handed.contains(&number)
+}
+
+/// The first instruction from a number on that is neither a bind nor handed out.
+pub(crate) fn first_left(instrs: &[Instr], handed: &[u32], from: usize) -> usize
+    requires short { length instrs.now < 2 ^ 32 }
+    requires passed { ArePassed instrs.now handed.now from }
+    ensures { ArePassed instrs.now handed.now result }
+{
+    'instrs: for i in from..instrs.len() {
+        if !is_passed(&instrs[i], i as u32, handed) {
+            return i;
+        }
+    }
+    instrs.len().max(from)
+}
+
+/// The first task that is ready, where all before a number are passed.
 pub(crate) fn ready(
     alloc: Global,
     instrs: &[Instr],
     values: &[Option<Obj>],
     handed: &[u32],
+    from: usize,
 ) -> Result<Option<Task>, Memory>
-    requires { length instrs.now < 2 ^ 32 }
+    requires short { length instrs.now < 2 ^ 32 }
+    requires passed { ArePassed instrs.now handed.now from }
     ensures some { IfOk result (λ found. IfSome found (λ task. IsReady instrs.now (known_of values.now) handed.now task)) }
     ensures none { IfOk result (λ found. IfNone found (NoneReady instrs.now (known_of values.now) handed.now (length instrs.now))) }
 {
-    'instrs: for i in 0..instrs.len() {
+    'instrs: for i in from..instrs.len() {
         let number = i as u32;
         if let Some(task) = job_at(alloc, &instrs[i], number, values, handed)? {
             return Ok(Some(task));

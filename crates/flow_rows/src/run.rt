@@ -4,10 +4,11 @@ ghost use Rattle.std.specs.Option.{option_map};
 ghost use Rattle.bat_core.specs.Objects.{value_of};
 ghost use Rattle.dataflow.specs.Rules.{value_at};
 ghost use Rattle.dataflow.specs.Plans.{has, Grows};
+ghost use Rattle.flow_rows.specs.Ready.{ArePassed};
 ghost use Rattle.flow_rows.specs.Sound as sound;
 ghost use Rattle.flow_rows.specs.Sound.{is_there, is_job, known_of, over_nothing, IsSound, IsRunnable};
 
-use crate::args::{is_bind, ready};
+use crate::args::{first_left, is_bind, ready};
 use bat_core::{Bat, Obj, Shared};
 use cell_core::{Arg, Cell, Instr, Memory};
 use dataflow::{Jobs, Task};
@@ -19,8 +20,8 @@ use std::sync::Wait;
 /// The most instructions of a plan that is run here.
 const MOST_INSTRS: usize = 1_000_000;
 
-/// A plan that is being run: the values of its instructions so far, those that were handed out, and those
-/// that are done.
+/// A plan that is being run: the values of its instructions so far, those that were handed out, those that
+/// are done, and a number before which nothing is left to hand out.
 #[derive(Drop)]
 pub struct Run {
     alloc: Global,
@@ -28,6 +29,8 @@ pub struct Run {
     values: Vec<Option<Obj>>,
     handed: Vec<u32>,
     finished: Vec<u32>,
+    first: usize,
+    ghost passed: { ArePassed plan.instrs handed.items first },
     ghost sound: { IsSound plan values.items handed.items finished.items },
 }
 
@@ -102,6 +105,7 @@ fn begin(alloc: Global, plan: Plan, values: Vec<Option<Obj>>) -> Run
         values,
         handed: Vec::new(alloc),
         finished: Vec::new(alloc),
+        first: 0,
     }
 }
 
@@ -166,11 +170,14 @@ impl Jobs for Run {
     }
 
     fn next<R: Wait>(&mut self, _rt: &R) -> Result<Option<Task>, Memory> {
+        let instrs = self.plan.instrs.as_slice();
+        self.first = first_left(instrs, self.handed.as_slice(), self.first);
         let Some(task) = ready(
             self.alloc,
-            self.plan.instrs.as_slice(),
+            instrs,
             self.values.as_slice(),
             self.handed.as_slice(),
+            self.first,
         )?
         else {
             return Ok(None);

@@ -7,6 +7,7 @@ pub invariant_of-self-2 : goal.invariant_of-self-2
 invariant_of-self-2 c =
     let more : c.push.new.self.items ≡ c.args.self.now.finished.items ++ c.args.instr ∷ [] = search rules in
     record {
+      passed = c.args.self.now.passed;
       sound = subst (λ done. IsSound c.args.self.now.plan (set c.args.self.now.values.items c.args.instr (Some c.args.value)) c.args.self.now.handed.items done) (sym more)
           (put_sound c.args.self.now.plan c.args.self.now.values.items c.args.self.now.handed.items c.args.self.now.finished.items c.args.instr c.args.value c.args.self.now.sound c.requires.out c.requires.value (omega arith));
     }

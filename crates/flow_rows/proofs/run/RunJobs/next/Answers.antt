@@ -1,4 +1,4 @@
-use Rattle.std.proofs.Common.{rules, arith, subst, length, ◌≡◌, ◌++◌, ◌∷◌, []}
+use Rattle.std.proofs.Common.{rules, length, ◌≡◌, ◌++◌, ◌∷◌, []}
 use Rattle.flow_rows.specs.Sound.{known_of}
 use Rattle.flow_rows.specs.Ready.{IsReady, NoneReady}
 use Rattle.flow_rows.proofs.SoundLemmas.{hands_out, idle}
