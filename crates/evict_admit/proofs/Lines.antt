@@ -1,19 +1,21 @@
 -- The rule's order of rows, and the least of them.
-use Rattle.std.proofs.Common.{◌≡◌, ℕ, ◌<◌, List, [], ◌∷◌, Bool, true, false, true≢false, Option, Some, None, ◌⊎◌, inl, inr, map, refl, ap, sym, ◌∙◌, subst, nat_eq}
+use Rattle.std.proofs.Common.{◌≡◌, ◌<◌, List, [], ◌∷◌, Bool, true, false, true≢false, Option, Some, None, ◌⊎◌, inl, inr, map, refl, ap, sym, ◌∙◌, nat_eq}
 use Rattle.std.specs.Prelude.{if◌then◌else◌, fold, ◌↔◌}
-use Rattle.std.specs.List.{Contains, IsDistinct}
+use Rattle.std.specs.List.{IsDistinct}
 use Rattle.std.specs.Option.{option_map_or}
 use Rattle.score_hook.specs.declared.stats.Stats.{Stats}
 use Rattle.score_hook.specs.declared.stats.Score.{Score}
 use Rattle.score_hook.proofs.Bounds.{bottom_some}
 use Rattle.cell_core.specs.Sorted.{first_by}
+use Rattle.subsume.proofs.Members.{In, in_from_contains, contains_from_in}
+use Rattle.subsume.proofs.LeastFirst.{least_first, IsLeastBeside}
 use Rattle.evict_admit.specs.declared.plan.Row.{Row}
 use Rattle.evict_admit.specs.Evictions.{goes_before}
 use Rattle.evict_admit.specs.Boards.{contender_for, row_at, no_row}
 use Rattle.evict_admit.specs.Laws.{IsLine, IsLeast, OneOrder}
 use Rattle.evict_admit.proofs.Contests.{is_or_not}
 use Rattle.evict_admit.proofs.Orders.{not_after, before_false, not_after_refl, not_after_trans, not_after_before, before_trans, before_total}
-use Rattle.evict_admit.proofs.Plans.{In, in_index, index_in, least_first, IsLeastBeside, apart_from_distinct, apart_by_place}
+use Rattle.evict_admit.proofs.Plans.{in_index, apart_from_distinct, apart_by_place}
 
 module _ (score : Stats → Score) (positive : (stats : Stats) → 0 < (score stats).bottom) where
   some : (a : Row) → 0 < (contender_for score a).score.bottom
@@ -72,12 +74,6 @@ module _ (score : Stats → Score) (positive : (stats : Stats) → 0 < (score st
             late = λ z i. elim i [ inl same ↦ ap (λ (r : Row). goes_before score r x) same ∙ late_trans y b x is b_late | inr there ↦ more.late z there ];
           }
 
-  from_contains : (rows : List Row) (row : Row) → Contains rows row → In row rows
-  from_contains rows row h = subst (λ (r : Row). In r rows) h.2 (index_in rows h.0 row h.1)
-
-  to_contains : (rows : List Row) (row : Row) → In row rows → Contains rows row
-  to_contains rows row i = let h = in_index rows row row i in (h.0, h.1, sym h.2)
-
   -- rows with one id are the same
   same_row : (rows : List Row) → IsDistinct nat_eq (map (λ (r : Row). r.id) rows) → (a b : Row) → In a rows → In b rows → a.id ≡ b.id → a ≡ b
   same_row rows distinct a b ia ib same =
@@ -92,20 +88,20 @@ module _ (score : Stats → Score) (positive : (stats : Stats) → 0 < (score st
       to : first_by (goes_before score) rows ≡ Some row → IsLeast (goes_before score) rows row
       to e =
           let h : Found None rows row = found rows None row e in record {
-            among = to_contains rows row (elim h.among [ inl never ↦ cc | inr there ↦ there ]);
+            among = contains_from_in rows row (elim h.among [ inl never ↦ cc | inr there ↦ there ]);
             least = λ other i differ. elim (line.apart row other (λ same. differ (sym same))) [
               | inl before ↦ before
-              | inr never ↦ absurd (true≢false (sym never ∙ h.late other (from_contains rows other i)))
+              | inr never ↦ absurd (true≢false (sym never ∙ h.late other (in_from_contains rows other i)))
             ];
           }
 
       from : IsLeast (goes_before score) rows row → first_by (goes_before score) rows ≡ Some row
-      from h = least_first (goes_before score) row rows None (inr (from_contains rows row h.among)) (λ y never. cc) others
+      from h = least_first (goes_before score) row rows None (inr (in_from_contains rows row h.among)) (λ y never. cc) others
         where
           others : (y : Row) → In y rows → IsLeastBeside (goes_before score) row y
           others y i = elim (is_or_not y.id row.id) [
-            | inl same ↦ inl (same_row rows distinct y row i (from_contains rows row h.among) same)
-            | inr differ ↦ let before = h.least y (to_contains rows y i) differ in inr (before, late_before row y before)
+            | inl same ↦ inl (same_row rows distinct y row i (in_from_contains rows row h.among) same)
+            | inr differ ↦ let before = h.least y (contains_from_in rows y i) differ in inr (before, late_before row y before)
           ]
 
 pub one_order_holds : OneOrder

@@ -1,8 +1,7 @@
 -- What is kept of each row while a plan is made, and what it says of the rows that are left.
 use Rattle.std.proofs.Common.{◌≡◌, ℕ, zero, suc, ◌+◌, ◌-◌, ◌<◌, ◌≤◌, List, [], ◌∷◌, ◌++◌, Bool, true, false, true≢false, not, ◌&&◌, ◌||◌, cond, Option, Some, None, ◌⊎◌, inl, inr, length, map, take, replicate, refl, ap, sym, ◌∙◌, subst, arith, nat_eq, append-nil, append_assoc}
-use Rattle.std.specs.Prelude.{if◌then◌else◌, ◌==◌, filter, fold, count_by, All, slice_index_or}
+use Rattle.std.specs.Prelude.{◌==◌, filter, count_by, All, slice_index_or}
 use Rattle.std.specs.List.{AllByRecursion, IsDistinct}
-use Rattle.std.specs.Option.{option_map_or}
 use Rattle.std.proofs.lemmas.List.{get_or_past, length-map}
 use Rattle.std.proofs.lemmas.List.Folds.{list_any-append}
 use Rattle.std.proofs.lemmas.List.Sums.{sum_by-cons}
@@ -14,6 +13,8 @@ use Rattle.score_hook.proofs.Bounds.{score_small}
 use Rattle.score_hook.specs.declared.stats.Evict.{Evict}
 use Rattle.score_hook.specs.declared.stats.Evict.TheVariants.{Weighted}
 use Rattle.cell_core.specs.Sorted.{first_by}
+use Rattle.subsume.proofs.Members.{In, in_at, in_filter, filter_in}
+use Rattle.subsume.proofs.LeastFirst.{least_first}
 use Rattle.evict_admit.specs.declared.plan.Row.{Row}
 use Rattle.evict_admit.specs.declared.contest.Contender.{Contender}
 use Rattle.evict_admit.specs.declared.names.Known.{Known}
@@ -27,37 +28,12 @@ use Rattle.evict_admit.proofs.Orders.{before_total}
 -- ## Lists
 
 module _ {X : Type 0} where
-  abbrev pub In : X → List X → Type 0
-  In x [] = ⊥
-  In x (y ∷ ys) = (x ≡ y) ⊎ In x ys
-
-  pub filter_in : (p : X → Bool) (xs : List X) (x : X) → In x (filter p xs) → In x xs
-  filter_in p [] x h = h
-  filter_in p (y ∷ ys) x h = elim (p y) as (λ b. In x (cond b (y ∷ filter p ys) (filter p ys)) → In x (y ∷ ys)) [
-    | true ↦ λ i. elim i [ inl e ↦ inl e | inr more ↦ inr (filter_in p ys x more) ]
-    | false ↦ λ i. inr (filter_in p ys x i)
-  ] h
-
   filter_both : (p q : X → Bool) (xs : List X) → filter (λ x. p x && q x) xs ≡ filter q (filter p xs)
   filter_both p q [] = refl
   filter_both p q (x ∷ xs) = elim (p x) as (λ b. filter (λ x. p x && q x) xs ≡ filter q (filter p xs) → cond (b && q x) (x ∷ filter (λ x. p x && q x) xs) (filter (λ x. p x && q x) xs) ≡ filter q (cond b (x ∷ filter p xs) (filter p xs))) [
     | true ↦ λ e. ap (λ zs. cond (q x) (x ∷ zs) zs) e
     | false ↦ λ e. e
   ] (filter_both p q xs)
-
-  in_filter : (p : X → Bool) (xs : List X) (x : X) → In x xs → p x ≡ true → In x (filter p xs)
-  in_filter p [] x h e = absurd h
-  in_filter p (y ∷ ys) x (inl is) e = subst (λ b. In x (cond b (y ∷ filter p ys) (filter p ys))) (sym (sym (ap p is) ∙ e)) (inl is)
-  in_filter p (y ∷ ys) x (inr more) e = elim (p y) as (λ b. In x (cond b (y ∷ filter p ys) (filter p ys))) [ true ↦ inr (in_filter p ys x more e) | false ↦ in_filter p ys x more e ]
-
-  pub passes : (p : X → Bool) (xs : List X) (x : X) → In x (filter p xs) → p x ≡ true
-  passes p [] x h = absurd h
-  passes p (y ∷ ys) x h = go (passes p ys x) (p y) refl h
-    where
-      go : (In x (filter p ys) → p x ≡ true) → (b : Bool) → p y ≡ b → In x (cond b (y ∷ filter p ys) (filter p ys)) → p x ≡ true
-      go rest true e (inl is) = ap p is ∙ e
-      go rest true e (inr more) = rest more
-      go rest false e more = rest more
 
   -- where no element passes, none is kept
   none_passes : (p : X → Bool) (xs : List X) → ((x : X) → In x xs → p x ≡ false) → filter p xs ≡ []
@@ -68,54 +44,6 @@ module _ {X : Type 0} where
   in_index [] x d h = absurd h
   in_index (y ∷ ys) x d (inl is) = (0, omega arith, is)
   in_index (y ∷ ys) x d (inr more) = let h = in_index ys x d more in (suc h.0, omega (arith, h.1), h.2)
-
-  pub index_in : (xs : List X) (p : ℕ) (d : X) → p < length xs → In (slice_index_or xs p d) xs
-  index_in [] p d low = absurd (omega arith)
-  index_in (y ∷ ys) zero d low = inl refl
-  index_in (y ∷ ys) (suc p) d low = inr (index_in ys p d (omega arith))
-
-  -- the first comes before the second, unless they are the same
-  abbrev pub IsLeastBeside : (X → X → Bool) → X → X → Type 0
-  IsLeastBeside before x z = (z ≡ x) ⊎ ((before x z ≡ true) × (before z x ≡ false))
-
-  abbrev Rest : (X → X → Bool) → X → List X → Type 0
-  Rest before x ys = (b : X) → ((Some b ≡ Some x) ⊎ In x ys) → ((z : X) → Some b ≡ Some z → IsLeastBeside before x z) → fold (λ best x. Some (option_map_or (λ b. if before x b then x else b) best x)) (Some b) ys ≡ Some x
-
-  -- the one that comes before all others is found, in whatever order they stand
-  pub least_first : (before : X → X → Bool) (x : X) (xs : List X) (best : Option X) → ((best ≡ Some x) ⊎ In x xs)
-      → ((y : X) → best ≡ Some y → (y ≡ x) ⊎ ((before x y ≡ true) × (before y x ≡ false)))
-      → ((y : X) → In y xs → (y ≡ x) ⊎ ((before x y ≡ true) × (before y x ≡ false)))
-      → fold (λ best x. Some (option_map_or (λ b. if before x b then x else b) best x)) best xs ≡ Some x
-  least_first before x [] best (inl is) hb hs = is
-  least_first before x [] best (inr never) hb hs = absurd never
-  least_first before x (y ∷ ys) None h hb hs = least_first before x ys (Some y) there (λ z e. let is : z ≡ y = cc in elim (hs y (inl refl)) [ inl same ↦ inl (is ∙ same) | inr two ↦ inr (ap (before x) is ∙ two.0, ap (λ w. before w x) is ∙ two.1) ]) (λ z i. hs z (inr i))
-    where
-      there : (Some y ≡ Some x) ⊎ In x ys
-      there = elim h [ inl never ↦ cc | inr i ↦ elim i [ inl is ↦ inl (ap (λ z. Some z) (sym is)) | inr more ↦ inr more ] ]
-  least_first before x (y ∷ ys) (Some b) h hb hs = step (λ b there hb. least_first before x ys (Some b) there hb (λ z i. hs z (inr i))) (before y b) refl
-    where
-      all : (z : X) → IsLeastBeside before x z → (w : X) → Some z ≡ Some w → IsLeastBeside before x w
-      all z h w e = let is : z ≡ w = cc in subst (IsLeastBeside before x) is h
-
-      step : Rest before x ys → (r : Bool) → before y b ≡ r → fold (λ best x. Some (option_map_or (λ b. if before x b then x else b) best x)) (Some (if before y b then y else b)) ys ≡ Some x
-      step rest true e = ap (λ r. fold (λ best x. Some (option_map_or (λ b. if before x b then x else b) best x)) (Some (if r then y else b)) ys) e ∙ rest y (here h) (all y (hs y (inl refl)))
-        where
-          here : ((Some b ≡ Some x) ⊎ In x (y ∷ ys)) → (Some y ≡ Some x) ⊎ In x ys
-          here (inl is) = elim (hs y (inl refl)) [
-            | inl same ↦ inl (ap (λ z. Some z) same)
-            | inr two ↦ let same : b ≡ x = cc in let no_more : before y x ≡ true = ap (before y) (sym same) ∙ e in absurd (true≢false (sym no_more ∙ two.1))
-          ]
-          here (inr (inl is)) = inl (ap (λ z. Some z) (sym is))
-          here (inr (inr more)) = inr more
-      step rest false e = ap (λ r. fold (λ best x. Some (option_map_or (λ b. if before x b then x else b) best x)) (Some (if r then y else b)) ys) e ∙ rest b (here h) hb
-        where
-          here : ((Some b ≡ Some x) ⊎ In x (y ∷ ys)) → (Some b ≡ Some x) ⊎ In x ys
-          here (inl is) = inl is
-          here (inr (inl is)) = elim (hb b refl) [
-            | inl same ↦ inl (ap (λ z. Some z) same)
-            | inr two ↦ let no_more : before x b ≡ false = ap (λ z. before z b) is ∙ e in absurd (true≢false (sym two.0 ∙ no_more))
-          ]
-          here (inr (inr more)) = inr more
 
 -- ## Rows that are left
 
@@ -153,7 +81,7 @@ AreApart (row ∷ rows) = ((other : Row) → In other rows → (other.id == row.
 pub apart_filter : (p : Row → Bool) (rows : List Row) → AreApart rows → AreApart (filter p rows)
 apart_filter p [] h = h
 apart_filter p (row ∷ rows) h = elim (p row) as (λ b. AreApart (cond b (row ∷ filter p rows) (filter p rows))) [
-  | true ↦ (λ other i. h.0 other (filter_in p rows other i), apart_filter p rows h.1)
+  | true ↦ (λ other i. h.0 other (filter_in p rows other i).0, apart_filter p rows h.1)
   | false ↦ apart_filter p rows h.1
 ]
 
@@ -228,8 +156,8 @@ apart_from_distinct (row ∷ rows) h = (λ other i. swapped other.id row.id ∙ 
 pub apart_by_place : (rows : List Row) → AreApart rows → (p q : ℕ) → p < length rows → q < length rows → (row_at rows p).id ≡ (row_at rows q).id → p ≡ q
 apart_by_place [] h p q a b e = absurd (omega arith)
 apart_by_place (row ∷ rows) h zero zero a b e = refl
-apart_by_place (row ∷ rows) h zero (suc q) a b e = absurd (true≢false (sym ((Decides-eqb (row_at rows q).id row.id).1 (sym e)) ∙ h.0 (row_at rows q) (index_in rows q no_row (omega arith))))
-apart_by_place (row ∷ rows) h (suc p) zero a b e = absurd (true≢false (sym ((Decides-eqb (row_at rows p).id row.id).1 e) ∙ h.0 (row_at rows p) (index_in rows p no_row (omega arith))))
+apart_by_place (row ∷ rows) h zero (suc q) a b e = absurd (true≢false (sym ((Decides-eqb (row_at rows q).id row.id).1 (sym e)) ∙ h.0 (row_at rows q) (in_at rows q no_row (omega arith))))
+apart_by_place (row ∷ rows) h (suc p) zero a b e = absurd (true≢false (sym ((Decides-eqb (row_at rows p).id row.id).1 e) ∙ h.0 (row_at rows p) (in_at rows p no_row (omega arith))))
 apart_by_place (row ∷ rows) h (suc p) (suc q) a b e = ap suc (apart_by_place rows h.1 p q (omega arith) (omega arith) e)
 
 pub apart_from_places : (rows : List Row) → ((p q : ℕ) → p < length rows → q < length rows → (row_at rows p).id ≡ (row_at rows q).id → p ≡ q) → AreApart rows
@@ -327,7 +255,7 @@ module _ (known : Known) (is_known : IsKnown known) (out : List ℕ) (lefts : Li
 
     -- the row that is chosen is left
     pub chosen_in : In (row_at known.rows.now w) (still out known.rows.now)
-    chosen_in = in_filter (λ (row : Row). not (is_gone out row)) known.rows.now (row_at known.rows.now w) (index_in known.rows.now w no_row chosen_low) (both_left _ _ chosen.1)
+    chosen_in = in_filter (λ (row : Row). not (is_gone out row)) known.rows.now (row_at known.rows.now w) (in_at known.rows.now w no_row chosen_low) (both_left _ _ chosen.1)
 
     pub chosen_next : (score : Stats → Score) → known.contenders.now ≡ map (contender_for score) known.rows.now → next_of score (still out known.rows.now) ≡ Some (row_at known.rows.now w)
     chosen_next score scored =
@@ -357,10 +285,10 @@ module _ (known : Known) (is_known : IsKnown known) (out : List ℕ) (lefts : Li
         others : (y : Row) → In y (filter (can_go (still out known.rows.now)) (still out known.rows.now))
             → (y ≡ row_at known.rows.now w) ⊎ ((goes_before score (row_at known.rows.now w) y ≡ true) × (goes_before score y (row_at known.rows.now w) ≡ false))
         others y i =
-            let left : In y (still out known.rows.now) = filter_in (can_go (still out known.rows.now)) (still out known.rows.now) y i in
-            let can : can_go (still out known.rows.now) y ≡ true = passes (can_go (still out known.rows.now)) (still out known.rows.now) y i in
-            let stays : not (is_gone out y) ≡ true = passes (λ (row : Row). not (is_gone out row)) known.rows.now y left in
-            let place = in_index known.rows.now y no_row (filter_in (λ (row : Row). not (is_gone out row)) known.rows.now y left) in
+            let left : In y (still out known.rows.now) = (filter_in (can_go (still out known.rows.now)) (still out known.rows.now) y i).0 in
+            let can : can_go (still out known.rows.now) y ≡ true = (filter_in (can_go (still out known.rows.now)) (still out known.rows.now) y i).1 in
+            let stays : not (is_gone out y) ≡ true = (filter_in (λ (row : Row). not (is_gone out row)) known.rows.now y left).1 in
+            let place = in_index known.rows.now y no_row (filter_in (λ (row : Row). not (is_gone out row)) known.rows.now y left).0 in
             let both : may_go y (left_of out known.rows.now y) ≡ true = ap (λ b. b && can_go (still out known.rows.now) y) stays ∙ can in
             at_place y place.0 place.1 place.2 (ap (λ (r : Row). may_go r (left_of out known.rows.now r)) (sym place.2) ∙ both)
 
@@ -370,8 +298,8 @@ module _ (known : Known) (is_known : IsKnown known) (out : List ℕ) (lefts : Li
     where
       never : (y : Row) → In y (still out known.rows.now) → can_go (still out known.rows.now) y ≡ false
       never y left =
-          let stays : not (is_gone out y) ≡ true = passes (λ (row : Row). not (is_gone out row)) known.rows.now y left in
-          let place = in_index known.rows.now y no_row (filter_in (λ (row : Row). not (is_gone out row)) known.rows.now y left) in
+          let stays : not (is_gone out y) ≡ true = (filter_in (λ (row : Row). not (is_gone out row)) known.rows.now y left).1 in
+          let place = in_index known.rows.now y no_row (filter_in (λ (row : Row). not (is_gone out row)) known.rows.now y left).0 in
           let under : place.0 < length known.contenders.now = let low = place.1 in omega (arith, is_known.same, low) in
           let empty : ready place.0 ≡ false = seat_none (ready place.0) place.0 (sym (seats place.0 under) ∙ first_none known.contenders.now (all_some known.contenders.now is_known.small) winners seated.whole is place.0 under) in
           ap (λ b. b && can_go (still out known.rows.now) y) (sym stays) ∙ ap (λ (r : Row). may_go r (left_of out known.rows.now r)) place.2 ∙ empty

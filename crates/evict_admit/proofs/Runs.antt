@@ -1,18 +1,17 @@
 -- A plan is what the function gives, and what it leaves.
-use Rattle.std.proofs.Common.{◌≡◌, ℕ, zero, suc, ◌+◌, ◌-◌, ◌≤◌, ◌<◌, List, [], ◌∷◌, Bool, true, false, not, ◌&&◌, ◌||◌, cond, Option, Some, None, ◌⊎◌, inl, inr, refl, ap, sym, ◌∙◌, subst, arith, length, map}
-use Rattle.std.specs.Prelude.{filter, fold, ◌==◌, if◌then◌else◌, count_by, sum_by}
-use Rattle.std.specs.Option.{option_map_or}
-use Rattle.std.specs.List.{Contains}
+use Rattle.std.proofs.Common.{◌≡◌, ℕ, zero, suc, ◌+◌, ◌-◌, ◌≤◌, List, [], ◌∷◌, Bool, true, false, not, ◌&&◌, ◌||◌, cond, Option, Some, None, inl, inr, refl, ap, sym, ◌∙◌, subst, arith, length}
+use Rattle.std.specs.Prelude.{filter, ◌==◌, count_by, sum_by}
 use Rattle.std.specs.Cmp.{first_so, second_so}
 use Rattle.std.proofs.lemmas.Bool.Decides.{Decides-eqb}
 use Rattle.std.proofs.lemmas.List.Sums.{sum_by-cons}
 use Rattle.score_hook.specs.declared.stats.Stats.{Stats}
 use Rattle.score_hook.specs.declared.stats.Score.{Score}
-use Rattle.cell_core.specs.Sorted.{first_by}
+use Rattle.subsume.proofs.Members.{In, in_from_contains, contains_from_in, filter_in}
+use Rattle.subsume.proofs.LeastFirst.{first_in}
 use Rattle.evict_admit.specs.declared.plan.Row.{Row}
 use Rattle.evict_admit.specs.Evictions.{GivesUp, is_parent, can_go, goes_before, is_enough, next_of, without}
 use Rattle.evict_admit.specs.Runs.{Run, run_step, run_of, given_up, is_one_of, left, row_bytes, LeavesWhole, RunsAreFunctions}
-use Rattle.evict_admit.proofs.Plans.{In, filter_in, passes, in_index, index_in, none_left, shorter}
+use Rattle.evict_admit.proofs.Plans.{none_left, shorter}
 
 module _ {X : Type 0} where
   keep_all : (p : X → Bool) (xs : List X) → ((x : X) → p x ≡ true) → filter p xs ≡ xs
@@ -36,32 +35,9 @@ module _ {X : Type 0} where
         | false ↦ omega (arith, rest, all)
       ]
 
-  -- the first by a test is one of the elements
-  fold_in : (before : X → X → Bool) (xs : List X) (best : Option X) (x : X) → fold (λ best x. Some (option_map_or (λ b. if before x b then x else b) best x)) best xs ≡ Some x → (best ≡ Some x) ⊎ In x xs
-  fold_in before [] best x e = inl e
-  fold_in before (y ∷ ys) None x e = elim (fold_in before ys (Some y) x e) [ inl is ↦ (let same : x ≡ y = cc in inr (inl same)) | inr more ↦ inr (inr more) ]
-  fold_in before (y ∷ ys) (Some b) x e = elim (fold_in before ys (Some (if before y b then y else b)) x e) [ inl is ↦ go (before y b) is | inr more ↦ inr (inr more) ]
-    where
-      go : (r : Bool) → Some (if r then y else b) ≡ Some x → (Some b ≡ Some x) ⊎ In x (y ∷ ys)
-      go true is = let same : x ≡ y = cc in inr (inl same)
-      go false is = inl is
-
-  first_in : (before : X → X → Bool) (xs : List X) (x : X) → first_by before xs ≡ Some x → In x xs
-  first_in before xs x e = elim (fold_in before xs None x e) [ inl never ↦ cc | inr h ↦ h ]
-
-module _ {X : Type 0} where
-  kept_in : (p : X → Bool) (xs : List X) (x : X) → In x (filter p xs) → In x xs × (p x ≡ true)
-  kept_in p xs x h = (filter_in p xs x h, passes p xs x h)
-
-  from_contains : (xs : List X) (x : X) → Contains xs x → In x xs
-  from_contains xs x h = subst (λ (y : X). In y xs) h.2 (index_in xs h.0 x h.1)
-
-  to_contains : (xs : List X) (x : X) → In x xs → Contains xs x
-  to_contains xs x i = let h = in_index xs x x i in (h.0, h.1, sym h.2)
-
 -- what goes next is one of the rows, and may go
 next_in : (score : Stats → Score) (rows : List Row) (row : Row) → next_of score rows ≡ Some row → In row rows × (can_go rows row ≡ true)
-next_in score rows row e = kept_in (can_go rows) rows row (first_in (goes_before score) (filter (can_go rows) rows) row e)
+next_in score rows row e = filter_in (can_go rows) rows row (first_in (goes_before score) (filter (can_go rows) rows) row e)
 
 -- ## The run is the function
 
@@ -181,7 +157,7 @@ keeps_parents [] score rows bytes places enough known row h id i = absurd i
 keeps_parents (first ∷ ids) score rows bytes places enough known row h id i =
     let gone = known.1.0 in
     let later : In row (left ids (without first rows)) = subst (λ rs. In row rs) (left_more first ids rows) h in
-    let among : In row rows = (kept_in (λ (r : Row). not (is_one_of (first ∷ ids) r.id)) rows row h).0 in
+    let among : In row rows = (filter_in (λ (r : Row). not (is_one_of (first ∷ ids) r.id)) rows row h).0 in
     let free = second_so gone.free (count_by (is_parent gone.id) rows == 0) (next_in score rows gone known.1.1).1 in
     let childless : count_by (is_parent gone.id) rows ≡ 0 = (Decides-eqb (count_by (is_parent gone.id) rows) 0).0 free in
     elim i [
@@ -198,7 +174,7 @@ were_free (first ∷ ids) score rows bytes places enough known id i =
     elim i [
       | inl e ↦ (gone, next.0, known.1.2 ∙ sym e, first_so gone.free (count_by (is_parent gone.id) rows == 0) next.1)
       | inr more ↦ let h = were_free ids score (without first rows) (bytes - gone.bytes) (places - 1) enough known.1.3 id more in
-          (h.0, (kept_in (λ (r : Row). not (r.id == first)) rows h.0 h.1).0, h.2, h.3)
+          (h.0, (filter_in (λ (r : Row). not (r.id == first)) rows h.0 h.1).0, h.2, h.3)
     ]
 
 -- ## The law
@@ -210,8 +186,8 @@ whole : (score : Stats → Score) (rows : List Row) (bytes places : ℕ) (ids : 
 whole score rows bytes places ids enough known = record {
   bytes_freed = λ e. (frees ids score rows bytes places (subst (GivesUp score rows bytes places ids) e known)).0;
   places_freed = λ e. (frees ids score rows bytes places (subst (GivesUp score rows bytes places ids) e known)).1;
-  keeps_parents = λ row i id j. keeps_parents ids score rows bytes places enough known row (from_contains (left ids rows) row i) id (from_contains ids id j);
-  were_free = λ id j. let h = were_free ids score rows bytes places enough known id (from_contains ids id j) in (h.0, to_contains rows h.0 h.1, h.2, h.3);
+  keeps_parents = λ row i id j. keeps_parents ids score rows bytes places enough known row (in_from_contains (left ids rows) row i) id (in_from_contains ids id j);
+  were_free = λ id j. let h = were_free ids score rows bytes places enough known id (in_from_contains ids id j) in (h.0, contains_from_in rows h.0 h.1, h.2, h.3);
 }
 
 pub runs_are_functions_hold : RunsAreFunctions

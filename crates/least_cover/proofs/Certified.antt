@@ -1,15 +1,15 @@
 -- The numbers of a certificate show that no cover costs less.
-use Rattle.std.proofs.Common.{◌≡◌, ℕ, zero, suc, ◌+◌, ◌<◌, ◌≤◌, List, [], ◌∷◌, Bool, true, false, true≢false, cond, ◌⊎◌, inl, inr, refl, ap, sym, ◌∙◌, subst, arith, length, map}
-use Rattle.std.specs.Prelude.{All, filter, sum_by, count_by, slice_index, if◌then◌else◌}
+use Rattle.std.proofs.Common.{◌≡◌, ℕ, zero, suc, ◌+◌, ◌<◌, ◌≤◌, List, [], ◌∷◌, true, false, cond, inl, inr, refl, ap, sym, ◌∙◌, subst, arith, length, map}
+use Rattle.std.specs.Prelude.{sum_by, slice_index, if◌then◌else◌}
 use Rattle.std.specs.List.{list_all, list_any}
 use Rattle.std.specs.Cmp.{first_so, second_so}
 use Rattle.std.proofs.lemmas.List.Sums.{sum_by-cons}
 use Rattle.cell_core.specs.declared.cut.Cut.{Cut}
 use Rattle.cell_core.specs.declared.cut.Span.{Span}
-use Rattle.cell_core.specs.Cuts.{is_cut_below, lies_in, stops, covers}
+use Rattle.cell_core.specs.Cuts.{is_cut_below, lies_in, stops}
 use Rattle.least_cover.specs.Covers.{Priced, rows_at, span_at, cost_of, stop_at, is_stop, end_of, IsCover, IsCertificate, IsLeastCost}
-use Rattle.least_cover.proofs.Members.{In, list_all_in, in_from_list_any, in_filter, in_map, map_in, all_in}
-use Rattle.least_cover.proofs.Covering.{cut_order, never, below_up_to, begins, ends, holds}
+use Rattle.subsume.proofs.Members.{In, list_all_in, in_from_list_any, in_filter, in_map, map_in, all_in}
+use Rattle.subsume.proofs.CutOrder.{cut_order, never, below_up_to, begins, ends, holds}
 
 module _ (spans : List Priced) (target : Span) where
   abbrev high_at : ℕ → Cut

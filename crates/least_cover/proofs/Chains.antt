@@ -1,5 +1,5 @@
 -- The order of chains, and the chain that is chosen from a cut on.
-use Rattle.std.proofs.Common.{◌≡◌, ◌≢◌, ℕ, zero, suc, ◌+◌, ◌<◌, ◌≤◌, List, [], ◌∷◌, Bool, true, false, true≢false, Option, Some, None, ◌⊎◌, inl, inr, refl, ap, sym, ◌∙◌, subst, arith, length, map, slice_index_or}
+use Rattle.std.proofs.Common.{◌≡◌, ℕ, suc, ◌+◌, ◌<◌, ◌≤◌, List, [], ◌∷◌, false, true≢false, refl, ap, sym, ◌∙◌, arith, length}
 use Rattle.std.specs.Ordering.{nat_cmp, ordering_then, ordering_reverse, is_lt, MatchOrdering}
 use Rattle.std.specs.declared.cmp.Ordering.{Ordering}
 use Rattle.std.specs.declared.cmp.Ordering.TheVariants.{Less, Equal, Greater}
@@ -10,7 +10,8 @@ use Rattle.std.proofs.lemmas.List.MinMax.{ranks_by}
 use Rattle.std.proofs.lemmas.List.Sums.{sum_by-cons}
 use Rattle.cell_core.specs.declared.cut.Cut.{Cut}
 use Rattle.cell_core.specs.declared.cut.Span.{Span}
-use Rattle.cell_core.specs.Cuts.{is_cut_below, lies_in}
+use Rattle.cell_core.specs.Cuts.{is_cut_below}
+use Rattle.subsume.proofs.Orderings.{second_equal, same_number}
 use Rattle.least_cover.specs.Covers.{Priced, rows_at, span_at, cost_of, IsChain, chain_cmp, comes_before, IsChosen}
 
 -- ## Orderings
@@ -31,14 +32,6 @@ one_more x y = sym (nat_cmp_is (suc x) (suc y) (nat_cmp x y) (go (nat_cmp x y) (
     go Equal h = ap suc h
     go Greater h = omega (arith, h)
 
-pub same_number : (m n : ℕ) → nat_cmp m n ≡ Equal → m ≡ n
-same_number m n e = go (nat_cmp m n) e (ranked m n (nat_cmp m n) refl)
-  where
-    go : (r : Ordering) → r ≡ Equal → MatchOrdering r (m < n) (m ≡ n) (n < m) → m ≡ n
-    go Less e h = cc
-    go Equal e h = h
-    go Greater e h = cc
-
 itself_equal : (n : ℕ) → nat_cmp n n ≡ Equal
 itself_equal n = sym (nat_cmp_is n n Equal refl)
 
@@ -57,11 +50,6 @@ neither_less Equal s e h k = refl
 neither_less Greater Less e h k = cc
 neither_less Greater Equal e h k = cc
 neither_less Greater Greater e h k = cc
-
-second_equal : (r s : Ordering) → ordering_then r s ≡ Equal → s ≡ Equal
-second_equal Less s e = cc
-second_equal Equal s e = e
-second_equal Greater s e = cc
 
 first_equal : (r s : Ordering) → ordering_then r s ≡ Equal → r ≡ Equal
 first_equal Less s e = e
@@ -102,15 +90,19 @@ module _ (spans : List Priced) where
   pub alike : (place : ℕ) (a b : List ℕ) → comes_before spans a b ≡ false → comes_before spans (place ∷ a) (place ∷ b) ≡ false
   alike place a b e = ap is_lt (begun_alike place a b) ∙ e
 
+  -- chains of which neither comes before the other are the same
+  pub same_chain : (a b : List ℕ) → comes_before spans a b ≡ false → comes_before spans b a ≡ false → a ≡ b
+  same_chain a b h k =
+      let equal = neither_less (chain_cmp spans a b) (chain_cmp spans b a) (chain_total.antisymm a b) h k in
+      same_list a b (second_equal (nat_cmp (length a) (length b)) (slice_cmp nat_cmp a b) (second_equal (nat_cmp (cost_of spans a) (cost_of spans b)) (ordering_then (nat_cmp (length a) (length b)) (slice_cmp nat_cmp a b)) equal))
+
   module _ (target : Span) where
     -- the chain that is chosen costs no more than another
     pub chosen_costs : (cut : Cut) (chain other : List ℕ) → IsChosen spans target cut chain → IsChain spans target cut other → cost_of spans chain ≤ cost_of spans other
     chosen_costs cut chain other h is = not_less (cost_of spans other) (cost_of spans chain) _ (h.1 other is)
 
     pub one_chosen : (cut : Cut) (a b : List ℕ) → IsChosen spans target cut a → IsChosen spans target cut b → a ≡ b
-    one_chosen cut a b ha hb =
-        let equal = neither_less (chain_cmp spans a b) (chain_cmp spans b a) (chain_total.antisymm a b) (hb.1 a ha.0) (ha.1 b hb.0) in
-        same_list a b (second_equal (nat_cmp (length a) (length b)) (slice_cmp nat_cmp a b) (second_equal (nat_cmp (cost_of spans a) (cost_of spans b)) (ordering_then (nat_cmp (length a) (length b)) (slice_cmp nat_cmp a b)) equal))
+    one_chosen cut a b ha hb = same_chain a b (hb.1 a ha.0) (ha.1 b hb.0)
 
     -- where the target ends, the chain is empty
     pub ended : (cut : Cut) → is_cut_below cut target.high ≡ false → IsChosen spans target cut []
@@ -119,3 +111,10 @@ module _ (spans : List Priced) where
         others : (other : List ℕ) → IsChain spans target cut other → comes_before spans other [] ≡ false
         others [] h = refl
         others (place ∷ places) h = absurd (true≢false (sym h.0 ∙ e))
+
+    -- what follows the first span of a chosen chain is chosen where that span ends
+    pub tail_chosen : (cut : Cut) (place : ℕ) (more : List ℕ) → IsChosen spans target cut (place ∷ more) → IsChosen spans target (span_at spans place).high more
+    tail_chosen cut place more h = (h.0.3, λ other is. sym (ap is_lt (begun_alike place other more)) ∙ h.1 (place ∷ other) (h.0.0, h.0.1, h.0.2, is))
+
+    pub one_cost : (cut : Cut) (a b : List ℕ) → IsChosen spans target cut a → IsChosen spans target cut b → cost_of spans a ≡ cost_of spans b
+    one_cost cut a b ha hb = ap (cost_of spans) (one_chosen cut a b ha hb)

@@ -1,65 +1,15 @@
 -- A chain is a cover, and where a stop is held by no span, there is none.
-use Rattle.std.proofs.Common.{◌≡◌, ◌≢◌, ℕ, zero, suc, ◌+◌, ◌<◌, ◌≤◌, List, [], ◌∷◌, Bool, true, false, true≢false, not, ◌&&◌, ◌⊎◌, inl, inr, refl, ap, sym, ◌∙◌, subst, arith, length, map, nat_eq, slice_index_or}
-use Rattle.std.specs.Prelude.{All, filter}
+use Rattle.std.proofs.Common.{◌≡◌, ℕ, zero, suc, ◌<◌, List, [], ◌∷◌, Bool, true, false, true≢false, inl, inr, refl, ap, sym, ◌∙◌, arith, length, map, nat_eq}
+use Rattle.std.specs.Prelude.{All}
 use Rattle.std.specs.List.{AllByRecursion, IsDistinct, list_all, list_any}
-use Rattle.std.specs.Ordering.{is_lt, is_le, ordering_reverse}
-use Rattle.std.specs.declared.cmp.Ordering.{Ordering}
-use Rattle.std.specs.declared.cmp.Ordering.TheVariants.{Less, Equal, Greater}
-use Rattle.std.specs.Cmp.{IsStrictWeakOrder, first_so, second_so}
-use Rattle.std.proofs.lemmas.List.MinMax.{ranks_by}
+use Rattle.std.specs.Cmp.{second_so}
 use Rattle.std.proofs.lemmas.Bool.Decides.{Decides-eqb}
 use Rattle.cell_core.specs.declared.cut.Cut.{Cut}
 use Rattle.cell_core.specs.declared.cut.Span.{Span}
-use Rattle.cell_core.specs.Cuts.{cut_cmp, cut_cmp_total, is_cut_below, is_cut_up_to, lies_in, stops, covers}
+use Rattle.cell_core.specs.Cuts.{is_cut_below, lies_in, stops, covers}
+use Rattle.subsume.proofs.CutOrder.{cut_order, never, up_to_below, both, holds, begins, ends}
 use Rattle.least_cover.specs.Covers.{Priced, priced_at, span_at, IsChain, IsCover}
-use Rattle.least_cover.proofs.Members.{In, in_at, list_all_in, list_all_from_in, list_any_from_in, in_from_list_any, in_filter, filter_in, in_map, map_in}
-
--- ## Cuts
-
-pub cut_order : IsStrictWeakOrder is_cut_below
-cut_order = ranks_by cut_cmp_total (λ cut. cut)
-
-pub never : (c : Cut) → is_cut_below c c ≡ false
-never c = elim (is_cut_below c c) as (λ r. is_cut_below c c ≡ r → is_cut_below c c ≡ false) [ true ↦ λ e. cut_order.one_way c c e | false ↦ λ e. e ] refl
-
-le_reversed : (r s : Ordering) → r ≡ ordering_reverse s → is_le r ≡ not (is_lt s)
-le_reversed r Less e = ap is_le e
-le_reversed r Equal e = ap is_le e
-le_reversed r Greater e = ap is_le e
-
-up_to_is : (a b : Cut) → is_cut_up_to a b ≡ not (is_cut_below b a)
-up_to_is a b = le_reversed (cut_cmp a b) (cut_cmp b a) (cut_cmp_total.antisymm a b)
-
--- below, then not above
-pub below_up_to : (a b c : Cut) → is_cut_below a b ≡ true → is_cut_below c b ≡ false → is_cut_below a c ≡ true
-below_up_to a b c low up = elim (is_cut_below a c) as (λ r. is_cut_below a c ≡ r → r ≡ true) [
-  | true ↦ λ e. refl
-  | false ↦ λ e. sym (cut_order.chain a c b e up) ∙ low
-] refl
-
--- not above, then below
-pub up_to_below : (a b c : Cut) → is_cut_below b a ≡ false → is_cut_below b c ≡ true → is_cut_below a c ≡ true
-up_to_below a b c up low = elim (is_cut_below a c) as (λ r. is_cut_below a c ≡ r → r ≡ true) [
-  | true ↦ λ e. refl
-  | false ↦ λ e. sym (cut_order.chain b a c up e) ∙ low
-] refl
-
-pub both : (p q : Bool) → p ≡ true → q ≡ true → (p && q) ≡ true
-both p q a b = ap (λ r. r && q) a ∙ b
-
-unnot : (b : Bool) → not b ≡ true → b ≡ false
-unnot true e = sym e
-unnot false e = refl
-
--- a cut lies in a span where the span doesn't begin behind it, and ends behind it
-pub holds : (span : Span) (cut : Cut) → is_cut_below cut span.low ≡ false → is_cut_below cut span.high ≡ true → lies_in span cut ≡ true
-holds span cut low high = both (is_cut_up_to span.low cut) (is_cut_below cut span.high) (up_to_is span.low cut ∙ ap not low) high
-
-pub begins : (span : Span) (cut : Cut) → lies_in span cut ≡ true → is_cut_below cut span.low ≡ false
-begins span cut e = unnot (is_cut_below cut span.low) (sym (up_to_is span.low cut) ∙ first_so (is_cut_up_to span.low cut) (is_cut_below cut span.high) e)
-
-pub ends : (span : Span) (cut : Cut) → lies_in span cut ≡ true → is_cut_below cut span.high ≡ true
-ends span cut e = second_so (is_cut_up_to span.low cut) (is_cut_below cut span.high) e
+use Rattle.subsume.proofs.Members.{In, in_at, list_all_in, list_all_from_in, list_any_from_in, in_from_list_any, in_filter, filter_in, in_map}
 
 module _ (spans : List Priced) (target : Span) where
   abbrev pub all_spans : List Span
@@ -134,22 +84,26 @@ module _ (spans : List Priced) (target : Span) where
   pub chain_covers_all : (chain : List ℕ) → is_cut_below target.low target.high ≡ true → IsChain spans target target.low chain → covers target all_spans ≡ true
   chain_covers_all chain low h = chain_covers chain all_spans low h (λ p i within. span_among p within)
 
-  -- ## A stop that no span holds
+  -- ## Stops
+
+  somewhere : (es : List Priced) (s : Span) → In s (map (λ (e : Priced). e.1) es) → (p : ℕ) × (p < length es) × (s ≡ span_at es p)
+  somewhere [] s h = absurd h
+  somewhere (e ∷ es) s (inl is) = (0, omega arith, is)
+  somewhere (e ∷ es) s (inr more) = let h = somewhere es s more in (suc h.0, omega (arith, h.1), h.2)
+
+  -- where the spans cover the target, one of them holds each stop
+  pub stop_held : covers target all_spans ≡ true → (c : Cut) → In c (stops target all_spans) → (p : ℕ) × (p < length spans) × (lies_in (span_at spans p) c ≡ true)
+  stop_held e c stop =
+      let held = list_all_in (λ stop. list_any (λ s. lies_in s stop) all_spans) (stops target all_spans) c (second_so (is_cut_below target.low target.high) (list_all (λ stop. list_any (λ s. lies_in s stop) all_spans) (stops target all_spans)) e) stop in
+      let found = in_from_list_any (λ s. lies_in s c) all_spans held in
+      let place = somewhere spans found.0 found.1 in
+      (place.0, place.1, ap (λ (s : Span). lies_in s c) (sym place.2) ∙ found.2)
 
   pub uncovered : (c : Cut) → In c (stops target all_spans) → ((p : ℕ) → p < length spans → lies_in (span_at spans p) c ≡ false) → covers target all_spans ≡ false
   uncovered c stop none = elim (covers target all_spans) as (λ b. covers target all_spans ≡ b → b ≡ false) [
-    | true ↦ λ e.
-        let held = list_all_in (λ stop. list_any (λ s. lies_in s stop) all_spans) (stops target all_spans) c (second_so (is_cut_below target.low target.high) (list_all (λ stop. list_any (λ s. lies_in s stop) all_spans) (stops target all_spans)) e) stop in
-        let found = in_from_list_any (λ s. lies_in s c) all_spans held in
-        let place = somewhere spans found.0 found.1 in
-        absurd (true≢false (sym found.2 ∙ ap (λ (s : Span). lies_in s c) place.2 ∙ none place.0 place.1))
+    | true ↦ λ e. let held = stop_held e c stop in absurd (true≢false (sym held.2 ∙ none held.0 held.1))
     | false ↦ λ e. refl
   ] refl
-    where
-      somewhere : (es : List Priced) (s : Span) → In s (map (λ (e : Priced). e.1) es) → (p : ℕ) × (p < length es) × (s ≡ span_at es p)
-      somewhere [] s h = absurd h
-      somewhere (e ∷ es) s (inl is) = (0, omega arith, is)
-      somewhere (e ∷ es) s (inr more) = let h = somewhere es s more in (suc h.0, omega (arith, h.1), h.2)
 
   pub high_stops : (p : ℕ) → p < length spans → is_cut_below target.low (span_at spans p).high ≡ true → is_cut_below (span_at spans p).high target.high ≡ true → In (span_at spans p).high (stops target all_spans)
   high_stops p low above below =

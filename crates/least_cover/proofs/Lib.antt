@@ -1,8 +1,14 @@
-pub mod Members
 pub mod Chains
 pub mod Covering
 pub mod Certified
 pub mod ExampleCovers
-pub mod Nearest
 pub mod Solved
 pub mod Through
+pub mod Chosen
+pub mod Pieces
+pub mod Followed
+pub mod Numbered
+pub mod Queues
+pub mod Ready
+pub mod Passes
+pub mod Ordered

@@ -1,27 +1,23 @@
 -- What is known of single spans, and the chain that the nearest begins.
-use Rattle.std.proofs.Common.{◌≡◌, ◌≢◌, ℕ, zero, suc, ◌+◌, ◌<◌, ◌≤◌, List, [], ◌∷◌, Bool, true, false, true≢false, ◌&&◌, cond, Option, Some, None, ◌⊎◌, inl, inr, refl, ap, sym, ◌∙◌, subst, arith, length, map, slice_index_or, get_or-set_same, get_or-set_other}
-use Rattle.std.specs.Prelude.{◌*◌, ◌^◌, All, count_by, slice_set}
-use Rattle.std.specs.Option.{option_map_or}
+use Rattle.std.proofs.Common.{◌≡◌, ℕ, ◌+◌, ◌<◌, ◌≤◌, List, [], ◌∷◌, true, false, true≢false, Option, Some, None, inl, inr, refl, ap, sym, ◌∙◌, subst, arith, length, get_or-set_same, get_or-set_other}
+use Rattle.std.specs.Prelude.{◌*◌, ◌^◌, All, slice_set}
 use Rattle.std.specs.Ordering.{nat_cmp, ordering_then, is_lt}
 use Rattle.std.specs.declared.cmp.Ordering.{Ordering}
 use Rattle.std.specs.declared.cmp.Ordering.TheVariants.{Less, Equal, Greater}
-use Rattle.std.specs.Cmp.{IsStrictWeakOrder, first_so, second_so}
 use Rattle.std.specs.Cmp.Lexicographic.{slice_cmp}
 use Rattle.std.proofs.lemmas.Cmp.{nat_list_cmp_total}
 use Rattle.std.proofs.lemmas.List.MinMax.{ranks_by}
-use Rattle.std.proofs.lemmas.List.Sums.{sum_by-cons}
 use Rattle.std.proofs.lemmas.Bool.Decides.{eqb_tells}
 use Rattle.cell_core.specs.declared.cut.Cut.{Cut}
 use Rattle.cell_core.specs.declared.cut.Span.{Span}
 use Rattle.cell_core.specs.Cuts.{is_cut_below, lies_in, covers}
 use Rattle.least_cover.specs.declared.best.Best.{Best}
 use Rattle.least_cover.specs.Covers.{Priced, rows_at, span_at, cost_of, IsChain, comes_before, IsChosen}
-use Rattle.least_cover.specs.Best.{AreSolved, AreFarthest, AreNear, AreShort, GoesOn, IsFarthest, IsSolved, IsNearest, best_at, best_cmp, first_of, is_open, is_unknown}
-use Rattle.least_cover.proofs.Chains.{chain_order, cost_cons, alike, ended, one_chosen, same_number}
-use Rattle.least_cover.proofs.Covering.{all_spans, below_up_to, up_to_below, begins, ends, uncovered, high_stops, cut_order}
-
-never_itself : {X : Type 0} {lt : X → X → Bool} → IsStrictWeakOrder lt → (x : X) → lt x x ≡ false
-never_itself {X} {lt} order x = elim (lt x x) as (λ b. lt x x ≡ b → lt x x ≡ false) [ true ↦ λ e. order.one_way x x e | false ↦ λ e. e ] refl
+use Rattle.least_cover.specs.Best.{AreSolved, AreShort, GoesOn, IsSolved, IsNearest, best_at, best_cmp}
+use Rattle.least_cover.proofs.Chains.{chain_order, cost_cons, alike, ended, one_chosen}
+use Rattle.subsume.proofs.Orderings.{never_itself, same_number}
+use Rattle.subsume.proofs.CutOrder.{ends}
+use Rattle.least_cover.proofs.Covering.{all_spans, uncovered, high_stops}
 
 -- a longer comparison is no less, where the shorter is no less, and what is added is none where it counts
 longer : (a b c d : Ordering) → is_lt (ordering_then a (ordering_then b c)) ≡ false → (c ≡ Equal → is_lt d ≡ false) → is_lt (ordering_then a (ordering_then b (ordering_then c d))) ≡ false
@@ -71,35 +67,19 @@ module _ (spans : List Priced) (target : Span) where
 
 -- ## One more span is known
 
-some_all : {X : Type 0} (o : Option X) → option_map_or (λ x. false) o true ≡ true → o ≡ None
-some_all None e = refl
-some_all (Some x) e = absurd (true≢false (sym e))
-
 module _ (spans : List Priced) (target : Span) (bests : List (Option Best)) where
   abbrev high_at : ℕ → Cut
   high_at p = (span_at spans p).high
 
-  pub open_unknown : (p : ℕ) → is_open spans target bests p ≡ true → (is_cut_below target.low (high_at p) ≡ true) × (best_at bests p ≡ None)
-  open_unknown p e = (first_so (is_cut_below target.low (high_at p)) (option_map_or (λ b. false) (best_at bests p) true) e, some_all (best_at bests p) (second_so (is_cut_below target.low (high_at p)) (option_map_or (λ b. false) (best_at bests p) true) e))
+  -- all spans are known that reach farther
+  abbrev pub Reaches : ℕ → Type 0
+  Reaches place = (p : ℕ) → p < length spans → is_cut_below (high_at place) (high_at p) ≡ true → (b : Best) × (best_at bests p ≡ Some b)
 
-  -- a span that reaches beyond the farthest open one is known
-  pub beyond_known : (place : ℕ) → IsFarthest spans target bests (length spans) place → (other : ℕ) → other < length spans → lies_in (span_at spans other) (high_at place) ≡ true → (b : Best) × (best_at bests other ≡ Some b)
-  beyond_known place far other low lies = go (best_at bests other) refl
-    where
-      beyond : is_cut_below (high_at place) (high_at other) ≡ true
-      beyond = ends (span_at spans other) (high_at place) lies
-
-      above : is_cut_below target.low (high_at other) ≡ true
-      above = below_up_to target.low (high_at place) (high_at other) (open_unknown place far.open_).0 (cut_order.one_way (high_at place) (high_at other) beyond)
-
-      go : (o : Option Best) → best_at bests other ≡ o → (b : Best) × (best_at bests other ≡ Some b)
-      go (Some b) e = (b, e)
-      go None e =
-          let opened : is_open spans target bests other ≡ true = ap (λ r. r && option_map_or (λ b. false) (best_at bests other) true) above ∙ ap (λ (o : Option Best). option_map_or (λ b. false) o true) e in
-          absurd (true≢false (sym beyond ∙ far.first other low opened))
+  beyond_known : (place : ℕ) → Reaches place → (other : ℕ) → other < length spans → lies_in (span_at spans other) (high_at place) ≡ true → (b : Best) × (best_at bests other ≡ Some b)
+  beyond_known place reach other low lies = reach other low (ends (span_at spans other) (high_at place) lies)
 
   -- how it goes on is the chain that is chosen
-  pub goes_solved : AreSolved spans target bests → (place : ℕ) (best : Best) → IsFarthest spans target bests (length spans) place → GoesOn spans target bests place (Some best) → IsSolved spans target place best
+  pub goes_solved : AreSolved spans target bests → (place : ℕ) (best : Best) → Reaches place → GoesOn spans target bests place (Some best) → IsSolved spans target place best
   goes_solved solved place best far (inl h) = record {
     rest = [];
     chosen = ended spans target (high_at place) h.0;
@@ -120,9 +100,9 @@ module _ (spans : List Priced) (target : Span) (bests : List (Option Best)) wher
       }
 
   -- where it doesn't go on, the target isn't covered
-  pub stuck : (place : ℕ) → IsFarthest spans target bests (length spans) place → GoesOn spans target bests place None → covers target (all_spans spans target) ≡ false
-  stuck place far h = uncovered spans target (high_at place) (high_stops spans target place far.low (open_unknown place far.open_).0 h.0) (λ p low. elim (lies_in (span_at spans p) (high_at place)) as (λ r. lies_in (span_at spans p) (high_at place) ≡ r → r ≡ false) [
-    | true ↦ λ lies. let b = beyond_known place far p low lies in sym lies ∙ h.1 p b.0 low b.1
+  pub stuck : (place : ℕ) → place < length spans → is_cut_below target.low (high_at place) ≡ true → Reaches place → GoesOn spans target bests place None → covers target (all_spans spans target) ≡ false
+  stuck place low above reach h = uncovered spans target (high_at place) (high_stops spans target place low above h.0) (λ p low. elim (lies_in (span_at spans p) (high_at place)) as (λ r. lies_in (span_at spans p) (high_at place) ≡ r → r ≡ false) [
+    | true ↦ λ lies. let b = beyond_known place reach p low lies in sym lies ∙ h.1 p b.0 low b.1
     | false ↦ λ _. refl
   ] refl)
 
@@ -134,40 +114,6 @@ module _ (spans : List Priced) (target : Span) (bests : List (Option Best)) wher
         subst (λ (x : Best). IsSolved spans target other x) eq (subst (λ p. IsSolved spans target p best) (sym same.1) one)
     | inr differ ↦ solved other b (sym (get_or-set_other bests place other (Some best) None differ.1) ∙ is)
   ]
-
-abbrev counted : Option Best → ℕ
-counted o = cond (is_unknown o) 1 0
-
-pub count_set : (bests : List (Option Best)) (place : ℕ) (best : Best) → place < length bests → best_at bests place ≡ None → count_by is_unknown (slice_set bests place (Some best)) + 1 ≡ count_by is_unknown bests
-count_set [] place best low none = absurd (omega arith)
-count_set (x ∷ xs) zero best low none =
-    let old = sum_by-cons counted x xs in
-    let new = sum_by-cons counted (Some best) xs in
-    let one : counted x ≡ 1 = ap counted none in
-    omega (arith, old, new, one)
-count_set (x ∷ xs) (suc place) best low none =
-    let old = sum_by-cons counted x xs in
-    let new = sum_by-cons counted x (slice_set xs place (Some best)) in
-    let rest = count_set xs place best (omega arith) none in
-    omega (arith, old, new, rest)
-
-pub blank_count : (bests : List (Option Best)) → ((p : ℕ) → best_at bests p ≡ None) → count_by is_unknown bests ≡ length bests
-blank_count [] none = refl
-blank_count (x ∷ xs) none =
-    let old = sum_by-cons counted x xs in
-    let one : counted x ≡ 1 = ap counted (none 0) in
-    let rest = blank_count xs (λ p. none (suc p)) in
-    omega (arith, old, one, rest)
-
--- where none is unknown, all are known
-pub none_unknown : (bests : List (Option Best)) → count_by is_unknown bests ≡ 0 → (p : ℕ) → p < length bests → (b : Best) × (best_at bests p ≡ Some b)
-none_unknown [] e p low = absurd (omega arith)
-none_unknown (x ∷ xs) e (suc p) low = none_unknown xs (let old = sum_by-cons counted x xs in omega (arith, old, e)) p (omega arith)
-none_unknown (x ∷ xs) e zero low = go x (let old = sum_by-cons counted x xs in omega (arith, old, e))
-  where
-    go : (x : Option Best) → counted x ≡ 0 → (b : Best) × (x ≡ Some b)
-    go (Some b) h = (b, refl)
-    go None h = cc
 
 module _ (bests : List (Option Best)) (none : (p : ℕ) → best_at bests p ≡ None) where
   pub blank_short : (most : ℕ) → AreShort most bests

@@ -1,5 +1,5 @@
 -- What is known of all spans tells the chain through the target.
-use Rattle.std.proofs.Common.{◌≡◌, ℕ, zero, suc, ◌<◌, List, [], ◌∷◌, Bool, true, false, true≢false, ◌&&◌, Option, Some, None, inl, inr, refl, ap, sym, ◌∙◌, subst, arith, length, take, replicate}
+use Rattle.std.proofs.Common.{◌≡◌, ℕ, zero, suc, ◌<◌, List, [], ◌∷◌, true, false, ◌&&◌, Option, Some, None, inl, refl, ap, sym, ◌∙◌, arith, length, take, replicate}
 use Rattle.std.specs.Prelude.{slice_index_or}
 use Rattle.std.specs.List.{list_all, list_any}
 use Rattle.std.proofs.lemmas.List.{get_or_past}
@@ -7,8 +7,9 @@ use Rattle.cell_core.specs.declared.cut.Span.{Span}
 use Rattle.cell_core.specs.Cuts.{is_cut_below, lies_in, covers, stops}
 use Rattle.least_cover.specs.declared.best.Best.{Best}
 use Rattle.least_cover.specs.Covers.{Priced, span_at, cost_of, IsChosen}
-use Rattle.least_cover.specs.Best.{AreNear, IsNearest, Solves, best_at}
-use Rattle.least_cover.proofs.Covering.{all_spans, ends, uncovered, chain_covers_all}
+use Rattle.least_cover.specs.Best.{AreNear, IsNearest, Solves, best_at, first_of}
+use Rattle.subsume.proofs.CutOrder.{ends}
+use Rattle.least_cover.proofs.Covering.{all_spans, uncovered, chain_covers_all}
 use Rattle.least_cover.proofs.Solved.{nearest_chosen}
 
 pub empty_uncovered : (spans : List Priced) (target : Span) → is_cut_below target.low target.high ≡ false → covers target (all_spans spans target) ≡ false
@@ -28,6 +29,11 @@ module _ (spans : List Priced) (target : Span) (bests : List (Option Best)) (sol
       → (chain : List ℕ) × IsChosen spans target target.low chain × (best.cost ≡ cost_of spans chain)
   chain_through w best some near =
       (w ∷ (solves.0 w best near.known).rest, nearest_chosen spans target bests solves.0 target.low w best some near known, (solves.0 w best near.known).cost)
+
+  pub through_first : (w : ℕ) (best : Best) (some : is_cut_below target.low target.high ≡ true) (near : IsNearest spans bests target.low (length spans) w best)
+      → Some w ≡ first_of (chain_through w best some near).0
+  unfolding chain_through
+  through_first w best some near = refl
 
   pub some_through : (w : ℕ) (best : Best) → is_cut_below target.low target.high ≡ true → IsNearest spans bests target.low (length spans) w best → covers target (all_spans spans target) ≡ true
   some_through w best some near = let found = chain_through w best some near in chain_covers_all spans target found.0 some found.1.0

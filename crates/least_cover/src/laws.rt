@@ -1,5 +1,6 @@
 ghost use Rattle.std.specs.Prelude.{ℕ, List};
 ghost use Rattle.cell_core.specs.declared.cut.Span.{Span};
+ghost use Rattle.least_cover.specs.Chosen.{CheapestCutsUp, ChosenIsFunction};
 ghost use Rattle.least_cover.specs.Covers.{IsCertificate, IsLeastCost, OneChosen, Priced};
 
 /// The numbers of a certificate show that no cover costs less.
@@ -12,4 +13,16 @@ pub fn certificates_bound()
 /// any other; and no two chains are chosen from one cut on.
 pub fn one_chosen()
     ensures { (spans : List Priced) (target : Span) → OneChosen spans target }
+{}
+
+/// The chain that is chosen is a function of the spans, which lists all chains and takes the least;
+/// there is none exactly where the spans don't cover the target.
+pub fn chosen_is_function()
+    ensures { ChosenIsFunction }
+{}
+
+/// The pieces of the cheapest cover follow each other through the target, each from the selection of
+/// its id; there are none exactly where the selections don't cover the target.
+pub fn cheapest_cuts_up()
+    ensures { CheapestCutsUp }
 {}

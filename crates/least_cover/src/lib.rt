@@ -1,16 +1,28 @@
 //! The cheapest way to cover a range by the ranges of pooled selections.
 //!
-//! It stands on `cell_core` for cuts and spans. A cover is a list of distinct places whose spans leave
-//! nothing of a target out, and its cost is their rows. A chain goes from a target's low to its high,
-//! span by span; the chain that is chosen is the least by cost, then by length, then by its places.
-//! `chosen_cost` finds its cost. `one_chosen` says that there is one, and that chains are covers.
-//! `certificates_bound` says that the numbers of a certificate show that no cover costs less. The call
-//! that hands out the chain and such numbers is not here yet.
+//! It stands on `cell_core` for cuts and spans, and on `subsume` for pieces. A cover is a list of
+//! distinct places whose spans leave nothing of a target out, and its cost is their rows. A chain goes
+//! from a target's low to its high, span by span; the chain that is chosen is the least by cost, then
+//! by length, then by its places.
+//!
+//! `cheapest` finds it, with a certificate: numbers which show that no cover costs less, as
+//! `certificates_bound` says. `one_chosen` says that one chain is chosen and that chains are covers.
+//! `chosen_is_function` and `cheapest_cuts_up` give it, and the pieces that it cuts out of the target,
+//! as functions.
+//!
+//! Inside, spans are solved one after the other (`solve`), those first that reach farthest (`order`).
+//! The solved ones wait in a queue (`queue`), the nearest last; then the chain is listed (`chain`) and
+//! its stops are numbered (`labels`).
 #![tactic(auto)]
 
 mod best;
+mod chain;
+mod labels;
 mod laws;
 mod least;
+mod order;
+mod queue;
+mod solve;
 
-pub use laws::{certificates_bound, one_chosen};
-pub use least::{MOST_SPANS, chosen_cost};
+pub use laws::{certificates_bound, cheapest_cuts_up, chosen_is_function, one_chosen};
+pub use least::{MOST_SPANS, cheapest};

@@ -1,19 +1,18 @@
 -- The selections over pieces that follow each other, merged by heads, are the plain selection.
 use Rattle.std.proofs.Common.{◌≡◌, Bool, true, false, not, ◌&&◌, List, [], ◌∷◌, ◌++◌, map, cond, ◌⊎◌, inl, inr, refl, ap, sym, ◌∙◌, subst, append_assoc}
 use Rattle.std.specs.Prelude.{filter, flat_map}
-use Rattle.std.specs.List.{AllByRecursion}
 use Rattle.std.specs.Cmp.{first_so, second_so, IsStrictWeakOrder}
 use Rattle.std.proofs.lemmas.List.MinMax.{ranks_by}
 use Rattle.cell_core.specs.declared.cell.Cell.{Cell}
 use Rattle.cell_core.specs.declared.cut.Cut.{Cut}
-use Rattle.cell_core.specs.declared.cut.Cut.TheVariants.{Low, Before, After, High}
+use Rattle.cell_core.specs.declared.cut.Cut.TheVariants.{Before}
 use Rattle.cell_core.specs.declared.cut.Span.{Span}
 use Rattle.cell_core.specs.Order.{cell_cmp_total}
 use Rattle.cell_core.specs.Cuts.{is_cut_below, is_cut_up_to, lies_in}
 use Rattle.cell_core.specs.Pairs.{Pairs, is_nil}
 use Rattle.cell_core.specs.Sorted.{sorted_by}
 use Rattle.subsume.specs.Cutting.{Entry, IsPartition}
-use Rattle.subsume.proofs.CutOrder.{cut_order, up_to_is, below_up_to, up_to_below}
+use Rattle.subsume.proofs.CutOrder.{cut_order, up_to_is, below_up_to, up_to_below, unnot}
 use Rattle.reuse_laws.specs.Reuse.{holds, picked, by_head, merged, Rises}
 use Rattle.reuse_laws.proofs.Merge.{IsFirst, first_left, first_out}
 
@@ -23,10 +22,6 @@ head_order = ranks_by cell_cmp_total (λ (p : Cell × Cell). p.0)
 -- the span between two cuts
 abbrev pub between : Cut → Cut → Span
 between from to = record { low = from; high = to }
-
-unnot : (b : Bool) → not b ≡ true → b ≡ false
-unnot true e = sym e
-unnot false e = refl
 
 -- between two cuts of which the second isn't behind the first lies no cut
 none_between : (from to cut : Cut) → is_cut_below from to ≡ false → lies_in (between from to) cut ≡ false

@@ -1,20 +1,20 @@
 -- A selection by four bounds keeps what lies in their span, and each span that a selection asks for has its bounds.
-use Rattle.std.proofs.Common.{◌≡◌, Bool, true, false, not, ◌&&◌, ◌||◌, List, [], ◌∷◌, cond, refl, ap, sym, ◌∙◌}
+use Rattle.std.proofs.Common.{◌≡◌, Bool, true, false, not, ◌&&◌, ◌||◌, List, [], ◌∷◌, cond, refl, ap, ◌∙◌}
 use Rattle.std.specs.Prelude.{filter, if◌then◌else◌}
 use Rattle.std.specs.Cmp.{first_so, second_so}
 use Rattle.std.specs.Ordering.{is_lt, is_le, ordering_then}
 use Rattle.std.specs.declared.cmp.Ordering.{Ordering}
 use Rattle.std.specs.declared.cmp.Ordering.TheVariants.{Less, Equal, Greater}
 use Rattle.cell_core.specs.declared.cell.Cell.{Cell}
-use Rattle.cell_core.specs.declared.cell.Cell.TheVariants.{Nil, Bit}
 use Rattle.cell_core.specs.declared.cut.Cut.{Cut}
 use Rattle.cell_core.specs.declared.cut.Cut.TheVariants.{Low, Before, After, High}
 use Rattle.cell_core.specs.declared.cut.Span.{Span}
 use Rattle.cell_core.specs.Order.{cell_cmp}
-use Rattle.cell_core.specs.Cuts.{is_cut_below, is_cut_up_to, lies_in}
+use Rattle.cell_core.specs.Cuts.{is_cut_below, is_cut_up_to}
 use Rattle.cell_core.specs.Pairs.{Pairs, is_nil, is_true}
 use Rattle.cell_core.specs.Relations.{is_ordered, is_within as is_in_range, selected}
 use Rattle.lineage_key.specs.Spans.{low_cut, high_cut}
+use Rattle.subsume.proofs.CutOrder.{unnot}
 use Rattle.reuse_laws.specs.Reuse.{holds, picked, span_for, low_bound, high_bound, is_low_end, is_high_end, is_askable, selected_in}
 
 le_then_equal : (r : Ordering) → is_le r ≡ is_le (ordering_then r Equal)
@@ -77,10 +77,6 @@ selected_is low high li hi b =
     filter_same (λ p. is_in_range low high (is_true li) (is_true hi) p.1) (λ p. holds (span_for low high li hi) p.1) (λ p. in_range_is low high li hi p.1) b
 
 -- ## The other way
-
-unnot : (b : Bool) → not b ≡ true → b ≡ false
-unnot true e = sym e
-unnot false e = refl
 
 low_back : (cut : Cut) → is_low_end cut ≡ true → low_cut (low_bound cut).0 (low_bound cut).1 ≡ cut
 low_back Low e = refl

@@ -1,7 +1,7 @@
 -- Selections of the rows 3, 4, 6 and 9: from 2 to 8, plainly, from a containing selection, and from two that cover it.
-use Rattle.std.proofs.Common.{◌≡◌, ℕ, List, [], ◌∷◌, true, false, pos, refl}
+use Rattle.std.proofs.Common.{◌≡◌, ℕ, [], ◌∷◌, true, pos, refl}
 use Rattle.cell_core.specs.declared.cell.Cell.{Cell}
-use Rattle.cell_core.specs.declared.cell.Cell.TheVariants.{Int, Oid, Bit}
+use Rattle.cell_core.specs.declared.cell.Cell.TheVariants.{Int, Oid}
 use Rattle.cell_core.specs.declared.cut.Cut.TheVariants.{Before, After}
 use Rattle.cell_core.specs.declared.cut.Span.{Span}
 use Rattle.cell_core.specs.Pairs.{Pairs}

@@ -1,5 +1,5 @@
 -- What a session computes from pooled selections is the plain selection.
-use Rattle.std.proofs.Common.{◌≡◌, ℕ, Bool, true, false, not, ◌&&◌, List, [], ◌∷◌, map, cond, refl, ap, sym, ◌∙◌, subst}
+use Rattle.std.proofs.Common.{◌≡◌, ℕ, true, false, List, [], ◌∷◌, map, refl, ap, sym, ◌∙◌}
 use Rattle.std.specs.Prelude.{Contains, if◌then◌else◌}
 use Rattle.std.specs.List.{AllByRecursion}
 use Rattle.std.specs.Cmp.{first_so, second_so}
@@ -7,40 +7,19 @@ use Rattle.cell_core.specs.declared.cell.Cell.{Cell}
 use Rattle.cell_core.specs.declared.cut.Cut.{Cut}
 use Rattle.cell_core.specs.declared.cut.Cut.TheVariants.{Low, Before, After, High}
 use Rattle.cell_core.specs.declared.cut.Span.{Span}
-use Rattle.cell_core.specs.Cuts.{is_cut_below, is_cut_up_to, lies_in}
+use Rattle.cell_core.specs.Cuts.{is_cut_below}
 use Rattle.cell_core.specs.Pairs.{Pairs, is_true}
 use Rattle.cell_core.specs.Relations.{selected}
-use Rattle.subsume.specs.Cutting.{Entry, is_contained, least_cut, piece_of, IsBest, IsCutting, IsPartition}
-use Rattle.subsume.proofs.CutOrder.{cut_order, up_to_is}
-use Rattle.subsume.proofs.Cuttings.{cutting_parts}
-use Rattle.reuse_laws.specs.Reuse.{picked, merged, Rises, span_for, selected_in, is_low_end, is_high_end, is_askable}
-use Rattle.reuse_laws.specs.Laws.{IsOfEntry, SelectionsAcross, CuttingsServe}
-use Rattle.reuse_laws.proofs.Bridge.{selected_is, selected_in_is, filter_same}
-use Rattle.reuse_laws.proofs.Within.{picked_within, both}
+use Rattle.subsume.specs.Cutting.{Entry, is_contained, least_cut, IsCutUp, IsOfEntry}
+use Rattle.subsume.proofs.CutOrder.{both}
+use Rattle.subsume.proofs.Cuttings.{cut_up, parts_follow, parts_within}
+use Rattle.reuse_laws.specs.Reuse.{picked, merged, span_for, selected_in, is_low_end, is_high_end, is_askable}
+use Rattle.reuse_laws.specs.Laws.{SelectionsAcross, CuttingsServe, PiecesServe}
+use Rattle.reuse_laws.proofs.Bridge.{selected_is, selected_in_is}
+use Rattle.reuse_laws.proofs.Within.{picked_within}
 use Rattle.reuse_laws.proofs.Across.{merged_across}
 
 -- ## Pieces
-
-least_in : (a b : Cut) → is_cut_up_to (least_cut a b) a ≡ true
-least_in a b = up_to_is (least_cut a b) a ∙ ap not (elim (is_cut_below b a) as (λ r. is_cut_below b a ≡ r → is_cut_below a (if r then b else a) ≡ false) [
-  | true ↦ λ e. cut_order.one_way b a e
-  | false ↦ λ _. never a
-] refl)
-  where
-    never : (c : Cut) → is_cut_below c c ≡ false
-    never c = elim (is_cut_below c c) as (λ r. is_cut_below c c ≡ r → is_cut_below c c ≡ false) [ true ↦ λ e. cut_order.one_way c c e | false ↦ λ e. e ] refl
-
-piece_within : (target : Span) (cut : Cut) (entry : Entry) → lies_in entry.1 cut ≡ true → is_contained (piece_of target cut entry).1 entry.1 ≡ true
-piece_within target cut entry here =
-    both (is_cut_up_to entry.1.low cut) (is_cut_up_to (least_cut entry.1.high target.high) entry.1.high)
-    (first_so (is_cut_up_to entry.1.low cut) (is_cut_below cut entry.1.high) here) (least_in entry.1.high target.high)
-
-pub pieces_within : (target : Span) (entries : List Entry) (cut : Cut) (pieces : List Entry) → IsCutting target entries cut pieces → AllByRecursion (IsOfEntry entries) pieces
-pieces_within target entries cut [] known = tt
-pieces_within target entries cut (piece ∷ pieces) known =
-    let entry = known.1.0 in
-    let is = known.1.2 in
-    ((entry, known.1.1.0, ap (λ (p : Entry). p.0) is, ap (λ (p : Entry). is_contained p.1 entry.1) is ∙ piece_within target cut entry known.1.1.1), pieces_within target entries piece.1.high pieces known.2)
 
 -- a cut at which a selection may end, and which another cut is behind, is one at which one may begin
 begins_on : (cut other : Cut) → is_high_end cut ≡ true → is_cut_below cut other ≡ true → is_low_end cut ≡ true
@@ -55,7 +34,7 @@ begins_on High High e low = cc
 least_ends : (a b : Cut) → is_high_end a ≡ true → is_high_end b ≡ true → is_high_end (least_cut a b) ≡ true
 least_ends a b x y = elim (is_cut_below b a) as (λ r. is_high_end (if r then b else a) ≡ true) [ true ↦ y | false ↦ x ]
 
-pub pieces_ask : (target : Span) (entries : List Entry) (cut : Cut) (pieces : List Entry) → is_high_end target.high ≡ true → ((e : Entry) → Contains entries e → is_high_end e.1.high ≡ true) → (is_cut_below cut target.high ≡ true → is_low_end cut ≡ true) → IsCutting target entries cut pieces → AllByRecursion (λ (piece : Entry). is_askable piece.1 ≡ true) pieces
+pub pieces_ask : (target : Span) (entries : List Entry) (cut : Cut) (pieces : List Entry) → is_high_end target.high ≡ true → ((e : Entry) → Contains entries e → is_high_end e.1.high ≡ true) → (is_cut_below cut target.high ≡ true → is_low_end cut ≡ true) → IsCutUp target entries cut pieces → AllByRecursion (λ (piece : Entry). is_askable piece.1 ≡ true) pieces
 pieces_ask target entries cut [] ends all begun known = tt
 pieces_ask target entries cut (piece ∷ pieces) ends all begun known =
     let entry = known.1.0 in
@@ -94,11 +73,14 @@ reused_across target entries value b pieces values up parts of ask =
     ap merged (same_parts entries value b pieces values of ask) ∙ merged_across target pieces b parts up
 
 -- those of a greedy cutting are such
-pub cuttings_serve : CuttingsServe
-cuttings_serve target entries pieces ask all known =
+pub pieces_serve : PiecesServe
+pieces_serve target entries pieces ask all known =
     let low = first_so (is_low_end target.low) (is_high_end target.high) ask in
     let high = second_so (is_low_end target.low) (is_high_end target.high) ask in (
-      cutting_parts target entries target.low pieces known,
-      pieces_within target entries target.low pieces known,
+      parts_follow target entries target.low pieces known,
+      parts_within target entries target.low pieces known,
       pieces_ask target entries target.low pieces high (λ e c. second_so (is_low_end e.1.low) (is_high_end e.1.high) (all e c)) (λ _. low) known,
     )
+
+pub cuttings_serve : CuttingsServe
+cuttings_serve target entries pieces ask all known = pieces_serve target entries pieces ask all (cut_up target entries target.low pieces known)

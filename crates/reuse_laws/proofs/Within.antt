@@ -1,24 +1,16 @@
 -- A selection from a selection over a containing span is the plain selection.
-use Rattle.std.proofs.Common.{◌≡◌, Bool, true, false, not, ◌&&◌, List, [], ◌∷◌, cond, refl, ap, sym, ◌∙◌}
+use Rattle.std.proofs.Common.{◌≡◌, Bool, true, false, not, List, [], ◌∷◌, cond, refl, ap, sym, ◌∙◌}
 use Rattle.std.specs.Prelude.{filter}
 use Rattle.std.specs.Cmp.{first_so, second_so}
 use Rattle.cell_core.specs.declared.cell.Cell.{Cell}
-use Rattle.cell_core.specs.declared.cell.Cell.TheVariants.{Nil, Bit}
 use Rattle.cell_core.specs.declared.cut.Cut.{Cut}
-use Rattle.cell_core.specs.declared.cut.Cut.TheVariants.{Low, Before, After, High}
+use Rattle.cell_core.specs.declared.cut.Cut.TheVariants.{Before}
 use Rattle.cell_core.specs.declared.cut.Span.{Span}
 use Rattle.cell_core.specs.Cuts.{is_cut_below, is_cut_up_to, lies_in}
 use Rattle.cell_core.specs.Pairs.{Pairs, is_nil}
 use Rattle.subsume.specs.Cutting.{is_contained}
-use Rattle.subsume.proofs.CutOrder.{cut_order, up_to_is, below_up_to, up_to_below}
+use Rattle.subsume.proofs.CutOrder.{cut_order, up_to_is, below_up_to, both, unnot}
 use Rattle.reuse_laws.specs.Reuse.{holds, picked}
-
-pub unnot : (b : Bool) → not b ≡ true → b ≡ false
-unnot true e = sym e
-unnot false e = refl
-
-pub both : (p q : Bool) → p ≡ true → q ≡ true → (p && q) ≡ true
-both p q a b = ap (λ r. r && q) a ∙ b
 
 -- not strictly above
 pub up_to : (a b : Cut) → is_cut_up_to a b ≡ true → is_cut_below b a ≡ false

@@ -1,5 +1,5 @@
 -- What a selection keeps by cuts, and how the plain selection comes back from results that are reused.
-use Rattle.std.specs.Prelude.{◌≡◌, List, [], ◌∷◌, Bool, true, false, not, ◌&&◌, map, filter, flat_map}
+use Rattle.std.specs.Prelude.{◌≡◌, List, [], ◌∷◌, Bool, true, false, not, ◌&&◌, filter, flat_map}
 use Rattle.std.specs.List.{AllByRecursion}
 use Rattle.std.specs.Ordering.{is_lt}
 use Rattle.cell_core.specs.declared.cell.Cell.{Cell}
@@ -13,7 +13,6 @@ use Rattle.cell_core.specs.Pairs.{Pairs, is_nil, is_true}
 use Rattle.cell_core.specs.Relations.{selected}
 use Rattle.cell_core.specs.Sorted.{sorted_by}
 use Rattle.lineage_key.specs.Spans.{low_cut, high_cut}
-use Rattle.subsume.specs.Cutting.{Entry, is_contained, IsCutting}
 
 -- a cell lies in a span where it is no Nil and the cut before it lies there
 abbrev pub holds : Span → Cell → Bool

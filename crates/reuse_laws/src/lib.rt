@@ -6,7 +6,7 @@
 //! their heads, order included.
 #![tactic(auto)]
 
-ghost use Rattle.reuse_laws.specs.Laws.{BoundsAreSpans, CuttingsServe, SelectionsAcross, SelectionsWithin};
+ghost use Rattle.reuse_laws.specs.Laws.{BoundsAreSpans, CuttingsServe, PiecesServe, SelectionsAcross, SelectionsWithin};
 
 /// A selection by four bounds keeps exactly what lies in the span of these bounds, and a span that
 /// some selection asks for has its bounds.
@@ -20,8 +20,10 @@ pub fn selections_within()
 {}
 
 /// Selections of pieces that follow each other through a target, each from a selection that contains
-/// it, merged by heads that rise, are the plain selection. The pieces of a greedy cutting are such.
+/// it, merged by heads that rise, are the plain selection. Pieces that cut up the target are such, and
+/// so those of a greedy cutting.
 pub fn selections_across()
     ensures across { SelectionsAcross }
+    ensures pieces { PiecesServe }
     ensures cuttings { CuttingsServe }
 {}

@@ -4,7 +4,7 @@ use Rattle.std.specs.Prelude.{if◌then◌else◌}
 use Rattle.std.specs.List.Sorted.{IsSortedBy}
 use Rattle.std.proofs.lemmas.List.Sorted.{sorted_far}
 use Rattle.std.proofs.lemmas.List.MinMax.{ranks_by}
-use Rattle.std.specs.List.{list_all, list_any}
+use Rattle.std.specs.List.{AllByRecursion, list_all, list_any}
 use Rattle.std.specs.Cmp.{first_so, second_so, IsStrictWeakOrder}
 use Rattle.std.specs.Ordering.{is_lt, nat_cmp, ordering_then}
 use Rattle.std.specs.declared.cmp.Ordering.{Ordering}
@@ -13,13 +13,11 @@ use Rattle.std.specs.Option.{option_map, option_and_then}
 use Rattle.cell_core.specs.declared.cut.Cut.{Cut}
 use Rattle.cell_core.specs.declared.cut.Span.{Span}
 use Rattle.cell_core.specs.Cuts.{cut_cmp, cut_cmp_total, is_cut_below, is_cut_up_to, lies_in, stops, covers}
-use Rattle.subsume.specs.Cutting.{Entry, is_better, is_lower, least_cut, piece_of, IsBest, IsCutting, IsPartition}
-use Rattle.subsume.proofs.CutOrder.{cut_order, entry_order, up_to_is, below_up_to, up_to_below}
+use Rattle.subsume.specs.Cutting.{Entry, is_better, is_lower, least_cut, piece_of, IsBest, IsCutting, IsPartition, is_contained, IsCutUp, IsOfEntry}
+use Rattle.subsume.proofs.Orderings.{never_itself}
+use Rattle.subsume.proofs.CutOrder.{cut_order, entry_order, never, up_to_is, below_up_to, up_to_below, both, holds, begins, ends}
 use Rattle.subsume.proofs.Members.{In, in_from_contains, contains_from_in, all_from_in, list_all_in, list_all_from_in, list_any_from_in, in_from_list_any, in_filter, filter_in, in_map, map_in}
 use Rattle.subsume.proofs.Sweep.{better_of, swept}
-
-never_itself : {X : Type 0} {lt : X → X → Bool} → IsStrictWeakOrder lt → (x : X) → lt x x ≡ false
-never_itself {X} {lt} order x = elim (lt x x) as (λ b. lt x x ≡ b → lt x x ≡ false) [ true ↦ λ e. order.one_way x x e | false ↦ λ e. e ] refl
 
 first_not : (r s : Ordering) → is_lt (ordering_then r s) ≡ false → is_lt r ≡ false
 first_not Less s e = e
@@ -29,23 +27,6 @@ first_not Greater s e = refl
 -- an entry that isn't better reaches no farther
 no_farther : (a b : Entry) → is_better a b ≡ false → is_cut_below b.1.high a.1.high ≡ false
 no_farther a b e = first_not (cut_cmp b.1.high a.1.high) (nat_cmp a.0 b.0) e
-
-both : (p q : Bool) → p ≡ true → q ≡ true → (p && q) ≡ true
-both p q a b = ap (λ r. r && q) a ∙ b
-
--- a cut lies in a span where the span doesn't begin behind it, and ends behind it
-holds : (span : Span) (cut : Cut) → is_cut_below cut span.low ≡ false → is_cut_below cut span.high ≡ true → lies_in span cut ≡ true
-holds span cut low high = both (is_cut_up_to span.low cut) (is_cut_below cut span.high) (up_to_is span.low cut ∙ ap not low) high
-
-begins : (span : Span) (cut : Cut) → lies_in span cut ≡ true → is_cut_below cut span.low ≡ false
-begins span cut e = unnot (is_cut_below cut span.low) (sym (up_to_is span.low cut) ∙ first_so (is_cut_up_to span.low cut) (is_cut_below cut span.high) e)
-  where
-    unnot : (b : Bool) → not b ≡ true → b ≡ false
-    unnot true e = sym e
-    unnot false e = refl
-
-ends : (span : Span) (cut : Cut) → lies_in span cut ≡ true → is_cut_below cut span.high ≡ true
-ends span cut e = second_so (is_cut_up_to span.low cut) (is_cut_below cut span.high) e
 
 begins_behind : (span : Span) (cut : Cut) → is_cut_below cut span.low ≡ true → lies_in span cut ≡ false
 begins_behind span cut e = ap (λ b. b && is_cut_below cut span.high) (up_to_is span.low cut ∙ ap not e)
@@ -77,6 +58,19 @@ least_not c a b up low = elim (is_cut_below b a) as (λ r. is_cut_below b a ≡ 
   where
     not_back : (c b : Cut) → is_cut_below c b ≡ true → is_cut_below b c ≡ false
     not_back c b e = cut_order.one_way c b e
+
+-- the lesser of two cuts is up to the first
+least_in : (a b : Cut) → is_cut_up_to (least_cut a b) a ≡ true
+least_in a b = up_to_is (least_cut a b) a ∙ ap not (elim (is_cut_below b a) as (λ r. is_cut_below b a ≡ r → is_cut_below a (if r then b else a) ≡ false) [
+  | true ↦ λ e. cut_order.one_way b a e
+  | false ↦ λ _. never a
+] refl)
+
+-- the piece of an entry lies in its span
+pub piece_within : (target : Span) (cut : Cut) (entry : Entry) → lies_in entry.1 cut ≡ true → is_contained (piece_of target cut entry).1 entry.1 ≡ true
+piece_within target cut entry here =
+    both (is_cut_up_to entry.1.low cut) (is_cut_up_to (least_cut entry.1.high target.high) entry.1.high)
+    (first_so (is_cut_up_to entry.1.low cut) (is_cut_below cut entry.1.high) here) (least_in entry.1.high target.high)
 
 module _ (target : Span) (entries : List Entry) where
   abbrev pub spans : List Span
@@ -295,16 +289,30 @@ module _ (target : Span) (entries : List Entry) where
       each c (inr more) = let lies = (filter_in (lies_in target) (map (λ (s : Span). s.high) spans) c more).1 in at c (begins target c lies) (ends target c lies)
 
   -- the pieces of a cutting follow each other
-  pub cutting_parts : (from : Cut) (pieces : List Entry) → IsCutting target entries from pieces → IsPartition from target.high pieces
-  cutting_parts from [] h = h
-  cutting_parts from (piece ∷ pieces) h =
+  pub cut_up : (from : Cut) (pieces : List Entry) → IsCutting target entries from pieces → IsCutUp target entries from pieces
+  cut_up from [] h = h
+  cut_up from (piece ∷ pieces) h = (h.0, (h.1.0, (h.1.1.0, h.1.1.1), h.1.2), cut_up piece.1.high pieces h.2)
+
+  pub parts_follow : (from : Cut) (pieces : List Entry) → IsCutUp target entries from pieces → IsPartition from target.high pieces
+  parts_follow from [] h = h
+  parts_follow from (piece ∷ pieces) h =
       let entry = h.1.0 in
       let is : piece ≡ piece_of target from entry = h.1.2 in (
         ap (λ (p : Entry). p.1.low) is,
         ap (λ (p : Entry). is_cut_below from p.1.high) is ∙ least_above from entry.1.high target.high (ends entry.1 from h.1.1.1) h.0,
         ap (λ (p : Entry). is_cut_below target.high p.1.high) is ∙ least_up_to entry.1.high target.high,
-        cutting_parts piece.1.high pieces h.2,
+        parts_follow piece.1.high pieces h.2,
       )
+
+  pub cutting_parts : (from : Cut) (pieces : List Entry) → IsCutting target entries from pieces → IsPartition from target.high pieces
+  cutting_parts from pieces h = parts_follow from pieces (cut_up from pieces h)
+
+  pub parts_within : (from : Cut) (pieces : List Entry) → IsCutUp target entries from pieces → AllByRecursion (IsOfEntry entries) pieces
+  parts_within from [] h = tt
+  parts_within from (piece ∷ pieces) h =
+      let entry = h.1.0 in
+      let is = h.1.2 in
+      ((entry, h.1.1.0, ap (λ (p : Entry). p.0) is, ap (λ (p : Entry). is_contained p.1 entry.1) is ∙ piece_within target from entry h.1.1.1), parts_within piece.1.high pieces h.2)
 
 -- a pass over entries in the order of their lows, none of them before
 module _ (target : Span) (entries : List Entry) (some : is_cut_below target.low target.high ≡ true) (ascends : Ascends target entries entries) where

@@ -1,3 +1,5 @@
+pub mod Orderings
+pub mod LeastFirst
 pub mod CutOrder
 pub mod Cuttings
 pub mod Sweep
@@ -5,3 +7,4 @@ pub mod Members
 pub mod Permuted
 pub mod IndexLemmas
 pub mod Functions
+pub mod Beyond

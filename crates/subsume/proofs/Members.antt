@@ -1,6 +1,6 @@
 -- Members of a list, by recursion.
-use Rattle.std.proofs.Common.{◌≡◌, ℕ, zero, suc, ◌<◌, List, [], ◌∷◌, Bool, true, false, ◌&&◌, ◌||◌, cond, ◌⊎◌, inl, inr, refl, ap, sym, ◌∙◌, subst, arith, length, slice_index_or, map}
-use Rattle.std.specs.Prelude.{All, Contains, filter}
+use Rattle.std.proofs.Common.{◌≡◌, ℕ, zero, suc, ◌<◌, List, [], ◌∷◌, ◌++◌, Bool, true, false, ◌&&◌, ◌||◌, cond, ◌⊎◌, inl, inr, refl, ap, sym, ◌∙◌, subst, arith, length, slice_index_or, map}
+use Rattle.std.specs.Prelude.{All, Contains, filter, flat_map}
 use Rattle.std.specs.List.{list_all, list_any}
 use Rattle.std.specs.Cmp.{first_so, second_so}
 
@@ -74,3 +74,31 @@ pub map_in : {X Y : Type 0} (f : X → Y) (xs : List X) (y : Y) → In y (map f 
 map_in f [] y h = absurd h
 map_in f (x ∷ xs) y (inl e) = (x, inl refl, e)
 map_in f (x ∷ xs) y (inr h) = let found = map_in f xs y h in (found.0, inr found.1, found.2)
+
+module _ {X : Type 0} where
+  in_left : (xs ys : List X) (x : X) → In x xs → In x (xs ++ ys)
+  in_left [] ys x h = absurd h
+  in_left (y ∷ xs) ys x (inl e) = inl e
+  in_left (y ∷ xs) ys x (inr h) = inr (in_left xs ys x h)
+
+  in_right : (xs ys : List X) (x : X) → In x ys → In x (xs ++ ys)
+  in_right [] ys x h = h
+  in_right (y ∷ xs) ys x h = inr (in_right xs ys x h)
+
+  in_either : (xs ys : List X) (x : X) → In x (xs ++ ys) → In x xs ⊎ In x ys
+  in_either [] ys x h = inr h
+  in_either (y ∷ xs) ys x (inl e) = inl (inl e)
+  in_either (y ∷ xs) ys x (inr h) = elim (in_either xs ys x h) [ inl i ↦ inl (inr i) | inr i ↦ inr i ]
+
+module _ {X Y : Type 0} (f : X → List Y) where
+  pub in_flat_map : (xs : List X) (x : X) (y : Y) → In x xs → In y (f x) → In y (flat_map f xs)
+  in_flat_map [] x y h i = absurd h
+  in_flat_map (z ∷ xs) x y (inl e) i = in_left (f z) (flat_map f xs) y (subst (λ w. In y (f w)) e i)
+  in_flat_map (z ∷ xs) x y (inr h) i = in_right (f z) (flat_map f xs) y (in_flat_map xs x y h i)
+
+  pub flat_map_in : (xs : List X) (y : Y) → In y (flat_map f xs) → (x : X) × In x xs × In y (f x)
+  flat_map_in [] y h = absurd h
+  flat_map_in (z ∷ xs) y h = elim (in_either (f z) (flat_map f xs) y h) [
+    | inl i ↦ (z, inl refl, i)
+    | inr more ↦ let found = flat_map_in xs y more in (found.0, inr found.1, found.2)
+  ]

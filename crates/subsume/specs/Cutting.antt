@@ -1,5 +1,6 @@
 -- When a span lies in another, and the greedy cutting of a target by spans with ids.
 use Rattle.std.specs.Prelude.{◌≡◌, ℕ, List, [], ◌∷◌, Bool, true, false, ◌&&◌, if◌then◌else◌, All, Contains}
+use Rattle.std.specs.List.{AllByRecursion}
 use Rattle.std.specs.Ordering.{nat_cmp, ordering_then, is_lt}
 use Rattle.std.specs.declared.cmp.Ordering.{Ordering}
 use Rattle.cell_core.specs.declared.cut.Cut.{Cut}
@@ -46,9 +47,30 @@ IsCutting target entries cut (piece ∷ pieces) =
     (is_cut_below cut target.high ≡ true) × ((entry : Entry) × IsBest entries cut entry × (piece ≡ piece_of target cut entry))
     × IsCutting target entries piece.1.high pieces
 
+-- pieces cut up a target from a cut on: each is that of some entry which holds the place where the one before ends, up to the target's high
+abbrev pub IsCutUp : Span → List Entry → Cut → List Entry → Type 0
+IsCutUp target entries cut [] = is_cut_below cut target.high ≡ false
+IsCutUp target entries cut (piece ∷ pieces) =
+    (is_cut_below cut target.high ≡ true) × ((entry : Entry) × (Contains entries entry × (lies_in entry.1 cut ≡ true)) × (piece ≡ piece_of target cut entry))
+    × IsCutUp target entries piece.1.high pieces
+
 -- pieces follow each other without gap from a cut to another, and none of them is empty
 abbrev pub IsPartition : Cut → Cut → List Entry → Type 0
 IsPartition from to [] = is_cut_below from to ≡ false
 IsPartition from to (piece ∷ pieces) =
     (piece.1.low ≡ from) × (is_cut_below from piece.1.high ≡ true) × (is_cut_below to piece.1.high ≡ false)
     × IsPartition piece.1.high to pieces
+
+-- the piece lies in the span of an entry with its id
+abbrev pub IsOfEntry : List Entry → Entry → Type 0
+IsOfEntry entries piece = (entry : Entry) × Contains entries entry × (piece.0 ≡ entry.0) × (is_contained piece.1 entry.1 ≡ true)
+
+-- ## Laws
+
+-- the pieces of a greedy cutting cut up its target
+abbrev pub CuttingsCutUp : Type 0
+CuttingsCutUp = (target : Span) (entries pieces : List Entry) (cut : Cut) → IsCutting target entries cut pieces → IsCutUp target entries cut pieces
+
+-- pieces that cut up a target follow each other through it, and each lies in the span of its entry
+abbrev pub PiecesFollow : Type 0
+PiecesFollow = (target : Span) (entries pieces : List Entry) → IsCutUp target entries target.low pieces → IsPartition target.low target.high pieces × AllByRecursion (IsOfEntry entries) pieces

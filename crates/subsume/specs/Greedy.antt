@@ -1,5 +1,5 @@
 -- The greedy cutting as a function: its steps are counted, since each takes a span that reaches farther.
-use Rattle.std.specs.Prelude.{◌≡◌, ◌↔◌, ℕ, zero, suc, List, [], ◌∷◌, length, map, filter, Bool, true, false, if◌then◌else◌, Option, Some, None}
+use Rattle.std.specs.Prelude.{◌≡◌, ◌↔◌, ℕ, zero, suc, List, [], ◌∷◌, length, map, filter, true, false, if◌then◌else◌, Option, Some, None}
 use Rattle.std.specs.List.{Contains}
 use Rattle.std.specs.Option.{option_map, option_and_then}
 use Rattle.cell_core.specs.declared.cut.Cut.{Cut}

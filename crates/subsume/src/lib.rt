@@ -14,4 +14,4 @@ mod tests;
 
 pub use index::CutIndex;
 pub use item::CutItem;
-pub use pieces::{cover, cuttings_are_functions, cuttings_are_partitions, within};
+pub use pieces::{cover, cuttings_are_functions, cuttings_are_partitions, pieces_follow, within};

@@ -4,7 +4,7 @@ ghost use Rattle.std.specs.List.Sorted.{IsSortedBy, IsPermutation};
 ghost use Rattle.std.specs.Option.{option_copied, option_and_then, option_map_or};
 ghost use Rattle.cell_core.specs.declared.cut.Span.{Span};
 ghost use Rattle.cell_core.specs.Cuts.{covers, is_cut_below, is_cut_up_to};
-ghost use Rattle.subsume.specs.Cutting.{is_contained, is_better, piece_of, least_cut, is_lower, Entry, IsCutting, IsPartition};
+ghost use Rattle.subsume.specs.Cutting.{is_contained, is_better, piece_of, least_cut, is_lower, Entry, IsCutting, IsPartition, CuttingsCutUp, PiecesFollow};
 ghost use Rattle.subsume.specs.Greedy.{CuttingsAreFunctions};
 
 use cell_core::{Cut, Memory, Span, compare_cuts};
@@ -72,6 +72,13 @@ pub fn cover(
 pub fn cuttings_are_partitions()
     ensures { (target : Span) (entries pieces : List Entry)
         → IsCutting target entries target.low pieces → IsPartition target.low target.high pieces }
+{}
+
+/// The same holds of all pieces that cut up a target, however each span was chosen, and each of them
+/// lies in its span. The greedy cutting cuts up its target.
+pub fn pieces_follow()
+    ensures greedy { CuttingsCutUp }
+    ensures follow { PiecesFollow }
 {}
 
 /// Of spans with different ids, the cutting of a target that isn't empty is a function of them: `cover`

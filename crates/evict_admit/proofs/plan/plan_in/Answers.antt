@@ -2,7 +2,8 @@ use Rattle.std.proofs.Common.{◌≡◌, ◌+◌, ◌-◌, ◌<◌, ◌≤◌, L
 use Rattle.evict_admit.specs.declared.plan.Row.{Row}
 use Rattle.evict_admit.specs.Evictions.{next_of}
 use Rattle.evict_admit.specs.Boards.{left_of, once_gone, row_at, still, is_gone}
-use Rattle.evict_admit.proofs.Plans.{still_none, still_more, IsPlanned, AreApart, In, begins, ends, grows, none_left, none_next, chosen_in, chosen_next, once_is, apart_known, apart_filter, shorter}
+use Rattle.subsume.proofs.Members.{In}
+use Rattle.evict_admit.proofs.Plans.{still_none, still_more, IsPlanned, AreApart, begins, ends, grows, none_left, none_next, chosen_in, chosen_next, once_is, apart_known, apart_filter, shorter}
 use Rattle.evict_admit.proofs.plan.plan_in.Goals as goal
 
 pub rounds-init : goal.rounds-init

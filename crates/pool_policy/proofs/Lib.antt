@@ -1,0 +1,25 @@
+pub mod Lists
+pub mod Play
+mod ExampleSessions
+pub mod Faces
+pub mod Credits
+pub mod Kept
+pub mod Leaving
+pub mod NewEntry
+pub mod Given
+pub mod AdmitGiven
+pub mod Touches
+pub mod Empty
+pub mod Rising
+pub mod Reuses
+pub mod Growths
+pub mod Returns
+pub mod Written
+pub mod WrittenKeys
+pub mod WrittenPool
+pub mod WriteRun
+pub mod WriteEnds
+pub mod Ends
+pub mod VersionLaws
+pub mod ColumnLaws
+pub mod Fitting

@@ -1,0 +1,12 @@
+pub mod Pool
+pub mod Keyed
+pub mod Looks
+pub mod Admits
+pub mod Writes
+pub mod Keeps
+pub mod Worths
+pub mod Laws
+pub mod WriteLaws
+pub mod Versions
+pub mod Columns
+pub mod Fits
