@@ -1,0 +1,16 @@
+pub mod ExampleTables
+pub mod ExampleJoin
+pub mod ExampleGroups
+pub mod ExampleDistinct
+pub mod ColumnLemmas
+pub mod TestLemmas
+pub mod DistinctLemmas
+pub mod ItemLemmas
+pub mod ShownLemmas
+pub mod GroupValueLemmas
+pub mod GroupItemLemmas
+pub mod WholeLemmas
+pub mod AnswerLemmas
+pub mod PlanAnswers
+pub mod QueryLemmas
+pub mod LawLemmas

@@ -1,0 +1,282 @@
+//! The values of items and of tests, over rows, over all of them, or over their groups.
+ghost use Rattle.std.specs.Prelude.{◌≡◌, IfOk};
+ghost use Rattle.cell_core.specs.declared.operator.Arg.TheVariants.{Var};
+ghost use Rattle.sql_tree.specs.Tree.{expr_tree, cond_tree};
+ghost use Rattle.mal_emit.specs.Phrases.{variables};
+ghost use Rattle.rows_to_mal.specs.Conjuncts.{comparison_of};
+ghost use Rattle.group_to_mal.specs.Values.{total_of, sub_of, first_of, argument as argument_of, whole_value as whole_value_of, group_value as group_value_of, is_grouped as is_grouped_tree, both_by, test_by, test_bat};
+ghost use Rattle.group_to_mal.specs.Forms.{value_over, is_bat_over};
+
+use crate::columns::{ItemValue, spread};
+use cell_core::{Arg, Cell, Instr, Memory, Op, Sequence};
+use mal_emit::emit;
+use rows_to_mal::{Tables, is_alone};
+use sql_tree::{AggOp, CmpOp, Cond, Expr};
+use std::alloc::Global;
+
+/// What values are over.
+#[derive(Debug, Drop)]
+pub enum Form {
+    /// Each row so far.
+    Rows,
+    /// All rows so far at once.
+    Whole,
+    /// The groups of the rows.
+    Groups {
+        /// The groups' numbers.
+        groups: Arg,
+        /// Their first rows.
+        heads: u32,
+    },
+}
+
+/// The aggregate of all values of a BAT.
+fn total(f: AggOp) -> Op
+    ensures { result ≡ total_of f }
+{
+    match f {
+        AggOp::Count => Op::Count,
+        AggOp::Sum => Op::Sum,
+        AggOp::Min => Op::Min,
+        AggOp::Max => Op::Max,
+    }
+}
+
+/// The aggregate of the values of each group.
+fn sub(f: AggOp) -> Op
+    ensures { result ≡ sub_of f }
+{
+    match f {
+        AggOp::Count => Op::Subcount,
+        AggOp::Sum => Op::Subsum,
+        AggOp::Min => Op::Submin,
+        AggOp::Max => Op::Submax,
+    }
+}
+
+/// The operator that compares two values.
+fn comparison(operator: CmpOp) -> Op
+    ensures { result ≡ comparison_of operator }
+{
+    match operator {
+        CmpOp::Eq => Op::Eq,
+        CmpOp::Ne => Op::Ne,
+        CmpOp::Lt => Op::Lt,
+        CmpOp::Le => Op::Le,
+        CmpOp::Gt => Op::Gt,
+        CmpOp::Ge => Op::Ge,
+    }
+}
+
+/// The oids of the first table's rows.
+pub(crate) fn first_rows(rows: &[u32]) -> Arg
+    ensures { result ≡ first_of (variables rows.now) }
+{
+    match rows.get(0) {
+        Some(row) => Arg::Var(*row),
+        None => Arg::Const(Cell::Nil),
+    }
+}
+
+/// Adds an aggregate's argument, with a cell for each row so far.
+fn argument(
+    alloc: Global,
+    instrs: &mut Sequence<Instr>,
+    tables: &Tables<'_>,
+    rows: &[u32],
+    of: &Expr,
+) -> Result<Arg, Memory>
+    ensures { IfOk result (λ arg. (instrs.new, arg) ≡ (argument_of tables.now (variables rows.now) (expr_tree of.now)).run instrs.old) }
+{
+    let arg = tables.expr_value(alloc, instrs, rows, of)?;
+    let value = ItemValue {
+        arg,
+        is_bat: !is_alone(of),
+    };
+    spread(alloc, instrs, first_rows(rows), value)
+}
+
+/// Adds a value over all rows so far.
+fn whole_value(
+    alloc: Global,
+    instrs: &mut Sequence<Instr>,
+    tables: &Tables<'_>,
+    rows: &[u32],
+    expr: &Expr,
+) -> Result<Arg, Memory>
+    ensures { IfOk result (λ arg. (instrs.new, arg) ≡ (whole_value_of tables.now (variables rows.now) (expr_tree expr.now)).run instrs.old) }
+{
+    match expr {
+        Expr::Agg { of: None, .. } => {
+            let number = emit(instrs, Op::Count, vec![in alloc; first_rows(rows)]?)?;
+            Ok(Arg::Var(number))
+        }
+        Expr::Agg { f, of: Some(of) } => {
+            let arg = argument(alloc, instrs, tables, rows, of)?;
+            let number = emit(instrs, total(*f), vec![in alloc; arg]?)?;
+            Ok(Arg::Var(number))
+        }
+        Expr::Lit(_) | Expr::Col(_) | Expr::Arith { .. } => {
+            tables.expr_value(alloc, instrs, rows, expr)
+        }
+    }
+}
+
+/// Adds a value over each group.
+fn group_value(
+    alloc: Global,
+    instrs: &mut Sequence<Instr>,
+    tables: &Tables<'_>,
+    rows: &[u32],
+    groups: &Arg,
+    heads: u32,
+    expr: &Expr,
+) -> Result<Arg, Memory>
+    ensures { IfOk result (λ arg. (instrs.new, arg) ≡ (group_value_of tables.now (variables rows.now) groups.now (Var heads) (expr_tree expr.now)).run instrs.old) }
+{
+    match expr {
+        Expr::Agg { of: None, .. } => {
+            let args = vec![in alloc; first_rows(rows), groups.share()?]?;
+            let number = emit(instrs, Op::Subcount, args)?;
+            Ok(Arg::Var(number))
+        }
+        Expr::Agg { f, of: Some(of) } => {
+            let arg = argument(alloc, instrs, tables, rows, of)?;
+            let number = emit(instrs, sub(*f), vec![in alloc; arg, groups.share()?]?)?;
+            Ok(Arg::Var(number))
+        }
+        Expr::Lit(_) | Expr::Col(_) | Expr::Arith { .. } => {
+            let arg = tables.expr_value(alloc, instrs, rows, expr)?;
+            if is_alone(expr) {
+                return Ok(arg);
+            }
+            let number = emit(instrs, Op::Join, vec![in alloc; Arg::Var(heads), arg]?)?;
+            Ok(Arg::Var(number))
+        }
+    }
+}
+
+/// Whether an expression over groups has a cell for each of them.
+fn is_grouped(expr: &Expr) -> bool
+    ensures { result ≡ is_grouped_tree (expr_tree expr.now) }
+{
+    match expr {
+        Expr::Agg { of: None, .. } => true,
+        Expr::Agg { of: Some(_), .. } => true,
+        Expr::Lit(_) | Expr::Col(_) | Expr::Arith { .. } => !is_alone(expr),
+    }
+}
+
+impl Form {
+    /// Adds the value of an expression.
+    pub(crate) fn value(
+        &self,
+        alloc: Global,
+        instrs: &mut Sequence<Instr>,
+        tables: &Tables<'_>,
+        rows: &[u32],
+        expr: &Expr,
+    ) -> Result<Arg, Memory>
+        ensures { IfOk result (λ arg. (instrs.new, arg) ≡ (value_over tables.now (variables rows.now) self.now (expr_tree expr.now)).run instrs.old) }
+    {
+        match self {
+            Form::Rows => tables.expr_value(alloc, instrs, rows, expr),
+            Form::Whole => whole_value(alloc, instrs, tables, rows, expr),
+            Form::Groups { groups, heads } => {
+                group_value(alloc, instrs, tables, rows, groups, *heads, expr)
+            }
+        }
+    }
+
+    /// Whether the value of an expression is a BAT.
+    pub(crate) fn is_bat(&self, expr: &Expr) -> bool
+        ensures { result ≡ is_bat_over self.now (expr_tree expr.now) }
+    {
+        match self {
+            Form::Rows => !is_alone(expr),
+            Form::Whole => false,
+            Form::Groups { .. } => is_grouped(expr),
+        }
+    }
+
+    /// Adds two values, and an operator of them.
+    fn both(
+        &self,
+        alloc: Global,
+        instrs: &mut Sequence<Instr>,
+        tables: &Tables<'_>,
+        rows: &[u32],
+        operator: Op,
+        left: &Expr,
+        right: &Expr,
+    ) -> Result<Arg, Memory>
+        ensures { IfOk result (λ arg. (instrs.new, arg) ≡ (both_by (value_over tables.now (variables rows.now) self.now) (expr_tree left.now) (expr_tree right.now) operator).run instrs.old) }
+    {
+        let x = self.value(alloc, instrs, tables, rows, left)?;
+        let y = self.value(alloc, instrs, tables, rows, right)?;
+        let number = emit(instrs, operator, vec![in alloc; x, y]?)?;
+        Ok(Arg::Var(number))
+    }
+
+    /// Adds the truth of a condition.
+    pub(crate) fn test(
+        &self,
+        alloc: Global,
+        instrs: &mut Sequence<Instr>,
+        tables: &Tables<'_>,
+        rows: &[u32],
+        cond: &Cond,
+    ) -> Result<Arg, Memory>
+        ensures { IfOk result (λ arg. (instrs.new, arg) ≡ (test_by (value_over tables.now (variables rows.now) self.now) (cond_tree cond.now)).run instrs.old) }
+    {
+        match cond {
+            Cond::Cmp { op, left, right } => {
+                self.both(alloc, instrs, tables, rows, comparison(*op), left, right)
+            }
+            Cond::Between { of, low, high } => {
+                let a = self.both(alloc, instrs, tables, rows, Op::Ge, of, low)?;
+                let b = self.both(alloc, instrs, tables, rows, Op::Le, of, high)?;
+                let number = emit(instrs, Op::And, vec![in alloc; a, b]?)?;
+                Ok(Arg::Var(number))
+            }
+            Cond::IsNull(of) => {
+                let x = self.value(alloc, instrs, tables, rows, of)?;
+                let number = emit(instrs, Op::IsNil, vec![in alloc; x]?)?;
+                Ok(Arg::Var(number))
+            }
+            Cond::Not(of) => {
+                let x = self.test(alloc, instrs, tables, rows, of)?;
+                let number = emit(instrs, Op::Not, vec![in alloc; x]?)?;
+                Ok(Arg::Var(number))
+            }
+            Cond::And(left, right) => {
+                let x = self.test(alloc, instrs, tables, rows, left)?;
+                let y = self.test(alloc, instrs, tables, rows, right)?;
+                let number = emit(instrs, Op::And, vec![in alloc; x, y]?)?;
+                Ok(Arg::Var(number))
+            }
+            Cond::Or(left, right) => {
+                let x = self.test(alloc, instrs, tables, rows, left)?;
+                let y = self.test(alloc, instrs, tables, rows, right)?;
+                let number = emit(instrs, Op::Or, vec![in alloc; x, y]?)?;
+                Ok(Arg::Var(number))
+            }
+        }
+    }
+
+    /// Whether the truth of a condition is a BAT.
+    pub(crate) fn is_test_bat(&self, cond: &Cond) -> bool
+        ensures { result ≡ test_bat (is_bat_over self.now) (cond_tree cond.now) }
+    {
+        match cond {
+            Cond::Cmp { left, right, .. } => self.is_bat(left) || self.is_bat(right),
+            Cond::Between { of, low, high } => {
+                (self.is_bat(of) || self.is_bat(low)) || (self.is_bat(of) || self.is_bat(high))
+            }
+            Cond::IsNull(of) => self.is_bat(of),
+            Cond::Not(of) => self.is_test_bat(of),
+            Cond::And(left, right) => self.is_test_bat(left) || self.is_test_bat(right),
+            Cond::Or(left, right) => self.is_test_bat(left) || self.is_test_bat(right),
+        }
+    }
+}

@@ -1,0 +1,18 @@
+//! From a query to its plan: items, aggregates, groups, HAVING, DISTINCT, order and limit.
+//!
+//! The plan is told as a pure definition (`specs/QueryPlan`), over the rows that the condition keeps
+//! (`rows_to_mal`): items are values for each row, or for each group of them, or scalars over all rows.
+//! Whatever the form, columns are values over picks that have one cell for each pick, or one for all:
+//! the first becomes a BAT where none is one, HAVING keeps some picks, and DISTINCT keeps the first of
+//! each group of equal rows. `specs/Laws` says what that means: over each database that has the tables
+//! of a checked query, the plan's meaning is the query's answer, an overflow included.
+#![tactic(auto)]
+
+mod columns;
+mod form;
+mod items;
+mod laws;
+
+pub use columns::ItemValue;
+pub use form::Form;
+pub use laws::plans_mean_answers;

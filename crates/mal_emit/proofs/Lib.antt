@@ -1,0 +1,5 @@
+pub mod GatherLemmas
+pub mod GivesLemmas
+pub mod MachineLemmas
+pub mod PlanLemmas
+pub mod TypeLemmas

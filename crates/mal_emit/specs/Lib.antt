@@ -1,0 +1,3 @@
+pub mod Emitters
+pub mod Machines
+pub mod Phrases

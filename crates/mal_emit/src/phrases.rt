@@ -1,0 +1,69 @@
+//! Phrases of several instructions.
+ghost use Rattle.std.specs.Prelude.{◌≡◌, IfOk};
+ghost use Rattle.cell_core.specs.declared.operator.Arg.TheVariants.{Var};
+ghost use Rattle.mal_emit.specs.Phrases.{variables, counted as counted_of, gather as gather_of, selects as selects_of, keep as keep_of};
+
+use crate::instruction::emit;
+use cell_core::{Arg, Cell, Instr, Memory, Op, Sequence};
+use std::alloc::Global;
+
+/// Adds the heads of a BAT beside a count from 0.
+pub fn counted(alloc: Global, instrs: &mut Sequence<Instr>, of: u32) -> Result<u32, Memory>
+    ensures { IfOk result (λ number. (instrs.new, Var number) ≡ (counted_of (Var of)).run instrs.old) }
+{
+    let zero = Arg::Const(Cell::Oid(0));
+    let marked = emit(instrs, Op::MarkT, vec![in alloc; Arg::Var(of), zero]?)?;
+    emit(instrs, Op::Reverse, vec![in alloc; Arg::Var(marked)]?)
+}
+
+/// Adds each of these BATs by the places that the tails of one name.
+pub fn gather(
+    alloc: Global,
+    instrs: &mut Sequence<Instr>,
+    by: u32,
+    rows: &[u32],
+) -> Result<Vec<u32>, Memory>
+    ensures { IfOk result (λ numbers. (instrs.new, variables numbers.items) ≡ (gather_of (Var by) (variables rows.now)).run instrs.old) }
+{
+    let mut gathered = Vec::new(alloc);
+    for row in rows {
+        let args = vec![in alloc; Arg::Var(by), Arg::Var(*row)]?;
+        let number = emit(instrs, Op::Join, args)?;
+        gathered.push(number)?;
+    }
+    Ok(gathered)
+}
+
+/// Adds the pairs of a BAT whose tail lies in a range.
+pub fn selects(
+    alloc: Global,
+    instrs: &mut Sequence<Instr>,
+    of: u32,
+    low: Arg,
+    high: Arg,
+    low_included: bool,
+    high_included: bool,
+) -> Result<u32, Memory>
+    ensures { IfOk result (λ number. (instrs.new, Var number) ≡ (selects_of (Var of) low high low_included high_included).run instrs.old) }
+{
+    let li = Arg::Const(Cell::Bit(low_included));
+    let hi = Arg::Const(Cell::Bit(high_included));
+    let args = vec![in alloc; Arg::Var(of), low, high, li, hi]?;
+    emit(instrs, Op::Select, args)
+}
+
+/// Adds these BATs at the places where a value is true, counted from 0.
+pub fn keep(
+    alloc: Global,
+    instrs: &mut Sequence<Instr>,
+    value: u32,
+    rows: &[u32],
+) -> Result<Vec<u32>, Memory>
+    ensures { IfOk result (λ numbers. (instrs.new, variables numbers.items) ≡ (keep_of (Var value) (variables rows.now)).run instrs.old) }
+{
+    let low = Arg::Const(Cell::Bit(true));
+    let high = Arg::Const(Cell::Bit(true));
+    let kept = selects(alloc, instrs, value, low, high, true, true)?;
+    let by = counted(alloc, instrs, kept)?;
+    gather(alloc, instrs, by, rows)
+}

@@ -1,0 +1,9 @@
+pub mod ListLemmas
+pub mod NumberLemmas
+pub mod HeadLemmas
+pub mod SpreadLemmas
+pub mod KeepLemmas
+pub mod ShapeLemmas
+pub mod GroupLemmas
+pub mod GroupNumbers
+pub mod ExamplePicks

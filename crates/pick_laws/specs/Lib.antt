@@ -1,0 +1,4 @@
+pub mod Picks
+pub mod Shapes
+pub mod Numbers
+pub mod Laws

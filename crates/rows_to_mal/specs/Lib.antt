@@ -1,0 +1,9 @@
+pub mod Candidates
+pub mod Choices
+pub mod Conjuncts
+pub mod Joins
+pub mod Laws
+pub mod Parts
+pub mod Reading
+pub mod Rows
+pub mod Writes
