@@ -1,0 +1,57 @@
+-- What an admission is known by, from what its parts answer.
+use Rattle.std.proofs.Common.{◌≡◌, ℕ, ◌+◌, ◌-◌, ◌^◌, ◌≤◌, ◌<◌, List, [], ◌∷◌, ◌++◌, Bool, true, false, Option, Some, None, length-append, ap, sym, ◌∙◌, subst, arith, length}
+use Rattle.std.specs.Prelude.{if◌then◌else◌}
+use Rattle.std.specs.Option.{option_map_or}
+use Rattle.lineage_key.specs.declared.shape.Shape.{Shape}
+use Rattle.lineage_key.specs.Parents.{parents_of}
+use Rattle.evict_admit.specs.Runs.{Run, given_up}
+use Rattle.pool_policy.specs.declared.entry.Who.{Who}
+use Rattle.pool_policy.specs.declared.entry.PoolEntry.{PoolEntry}
+use Rattle.pool_policy.specs.Pool.{pool_bytes, has_credits, score_at}
+use Rattle.pool_policy.specs.Keyed.{shape_in}
+use Rattle.pool_policy.specs.Admits.{Offer, evictions_for, number_from, offer_bytes, rows_of}
+use Rattle.pool_policy.proofs.Fitting.{pools_fit_all}
+use Rattle.recycle_pool.specs.declared.pool.Pool.TheInside.{Inside}
+use Rattle.recycle_pool.specs.Usable.{IsNew, IsPlannable, credit_with, shapes_with}
+use Rattle.recycle_pool.specs.Views.{pool_shown, IsKept}
+use Rattle.recycle_pool.proofs.Answered.{IsShaped}
+
+-- a plan can be made
+pub plannable : (now : ℕ) (p : Inside) (shown : List PoolEntry) → IsKept p → now < 2 ^ 30 → shown ≡ p.entries.items → IsPlannable now shown
+plannable now p shown known early same =
+    let fit = pools_fit_all (pool_shown p) now known.pool known.few known.budget known.moment early in
+    subst (IsPlannable now) (sym same) (record { few = omega (arith, known.pool.places, known.few); ids = fit.ids; apart = fit.apart; range = fit.range; bytes = omega (arith, known.pool.bytes, known.budget) })
+
+-- the plan is that of the policy
+pub run_from : (now : ℕ) (p : Inside) (offer : Offer) (shown : List PoolEntry) (bytes : ℕ) (run : Run) → shown ≡ p.entries.items → bytes ≡ offer_bytes offer
+    → run ≡ given_up (score_at p.options now) (rows_of (parents_of offer.key) shown) (pool_bytes shown + bytes - p.options.budget) (length shown + 1 - p.options.places) → run ≡ evictions_for now offer (pool_shown p)
+run_from now p offer shown bytes run same bytes_is is =
+    is ∙ ap (λ (es : List PoolEntry). given_up (score_at p.options now) (rows_of (parents_of offer.key) es) (pool_bytes es + bytes - p.options.budget) (length es + 1 - p.options.places)) same
+    ∙ ap (λ n. given_up (score_at p.options now) (rows_of (parents_of offer.key) p.entries.items) (pool_bytes p.entries.items + n - p.options.budget) (length p.entries.items + 1 - p.options.places)) bytes_is
+
+-- the shape has its number
+pub shaped_from : (who : Who) (now : ℕ) (offer : Offer) (p : Inside) (shown : List PoolEntry) (n : ℕ) (shapes : List Shape) (credit : List ℕ) → IsKept p → shown ≡ p.entries.items → IsNew offer (pool_shown p)
+    → shapes ≡ (if has_credits p.options then shapes_with (shape_in shown offer.key) p.shapes.items else p.shapes.items)
+    → credit ≡ (if has_credits p.options then credit_with (shape_in shown offer.key) p.shapes.items p.ledger.start p.ledger.each else p.ledger.each)
+    → n ≡ option_map_or (λ n. n) (number_from 1 (shape_in shown offer.key) shapes) 0 → IsShaped who now offer (pool_shown p) p.ledger.start n shapes credit
+shaped_from who now offer p shown n shapes credit known same new shapes_is credit_is number_is = record {
+  new = new;
+  start_is = known.start;
+  shapes_is = shapes_is ∙ ap (λ (es : List PoolEntry). if has_credits p.options then shapes_with (shape_in es offer.key) p.shapes.items else p.shapes.items) same;
+  credit_is = credit_is ∙ ap (λ (es : List PoolEntry). if has_credits p.options then credit_with (shape_in es offer.key) p.shapes.items p.ledger.start p.ledger.each else p.ledger.each) same;
+  number_is = number_is ∙ ap (λ (es : List PoolEntry). option_map_or (λ n. n) (number_from 1 (shape_in es offer.key) shapes) 0) same;
+}
+
+-- there are few shapes
+pub few_shapes : (p : Inside) (now : ℕ) (shape : Shape) (on : Bool) (shapes : List Shape) → IsKept p → p.moment < now → shapes ≡ (if on then shapes_with shape p.shapes.items else p.shapes.items) → length shapes ≤ now
+few_shapes p now shape on shapes known later is =
+    let same = ap (λ (ss : List Shape). length ss) is in
+    let few = go on in omega (arith, same, few, later, known.shapes)
+  where
+    by_number : (o : Option ℕ) → length (option_map_or (λ n. p.shapes.items) o (p.shapes.items ++ shape ∷ [])) ≤ length p.shapes.items + 1
+    by_number (Some n) = omega arith
+    by_number None = let l = length-append p.shapes.items (shape ∷ []) in omega (arith, l)
+
+    go : (b : Bool) → length (if b then shapes_with shape p.shapes.items else p.shapes.items) ≤ length p.shapes.items + 1
+    go true = by_number (number_from 1 shape p.shapes.items)
+    go false = omega arith

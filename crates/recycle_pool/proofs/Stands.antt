@@ -1,0 +1,23 @@
+-- What is kept beside the state of a pool.
+use Rattle.std.proofs.Common.{◌≡◌, ◌+◌, ◌*◌, ◌^◌, ◌≤◌, ◌<◌, ap, sym, ◌∙◌, arith, length}
+use Rattle.std.specs.Vec.{vec_capacity}
+use Rattle.pool_policy.specs.declared.options.PoolOptions.{PoolOptions}
+use Rattle.pool_policy.specs.Keeps.{IsPool}
+use Rattle.recycle_pool.specs.declared.pool.Pool.TheInside.{Inside}
+use Rattle.recycle_pool.specs.Views.{pool_shown, IsKept}
+
+-- a step that leaves a pool, with no less room, and adds few ids and shapes
+pub kept_on : (old new : Inside) → IsKept old → IsPool (pool_shown new) → new.options ≡ old.options → new.ledger.start ≡ old.ledger.start → new.moment < 2 ^ 30
+    → new.next ≤ 1024 * new.moment + 1 → length new.shapes.items ≤ new.moment → vec_capacity old.entries ≤ vec_capacity new.entries → IsKept new
+kept_on old new known pool options start moment next shapes room =
+    let places = ap (λ (o : PoolOptions). o.places) options in
+    let budget = ap (λ (o : PoolOptions). o.budget) options in record {
+      pool = pool;
+      few = omega (arith, places, known.few);
+      budget = omega (arith, budget, known.budget);
+      start = start ∙ known.start ∙ ap (λ (o : PoolOptions). o.credits) (sym options);
+      moment = moment;
+      next = next;
+      shapes = shapes;
+      room = omega (arith, places, room, known.room);
+    }

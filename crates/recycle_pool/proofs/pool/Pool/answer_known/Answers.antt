@@ -1,0 +1,25 @@
+use Rattle.std.proofs.Common.{◌<◌, [], ◌∷◌, List, ap, sym, ◌∙◌, refl, arith, subst}
+use Rattle.pool_policy.specs.declared.entry.PoolEntry.{PoolEntry}
+use Rattle.pool_policy.specs.Pool.{PoolState}
+use Rattle.pool_policy.specs.Admits.{admit_of}
+use Rattle.pool_policy.specs.Keeps.{IsPool}
+use Rattle.pool_policy.proofs.NewEntry.{moment_keeps}
+use Rattle.pool_policy.proofs.Kept.{pins_keep}
+use Rattle.recycle_pool.specs.Answers.{offer_in}
+use Rattle.recycle_pool.specs.Views.{pool_shown}
+use Rattle.recycle_pool.proofs.Answered.{there_shown}
+use Rattle.recycle_pool.proofs.Stands.{kept_on}
+use Rattle.recycle_pool.proofs.pool.Pool.answer_known.Goals as goal
+
+pub invariant_of-self : goal.invariant_of-self
+invariant_of-self c =
+    let later : c.self.inside.moment < c.args.now = let m = ap (λ (p : PoolState). p.moment) c.self.view_is in omega (arith, m, c.requires.later) in
+    let at : PoolState = record (pool_shown c.self.inside) { moment = c.args.now } in
+    let kept = pins_keep c.args.who (c.index.result.now.id ∷ []) at (moment_keeps c.args.now (pool_shown c.self.inside) later c.self.invariant.pool) in
+    kept_on c.self.inside _ c.self.invariant (subst (λ (es : List PoolEntry). IsPool (record at { entries = es })) (sym c.pin_id.ensures.entries) kept)
+    refl refl c.requires.early (omega (arith, later, c.self.invariant.next)) (omega (arith, later, c.self.invariant.shapes)) (omega (arith, c.pin_id.ensures.room))
+
+pub returns-in-Some-clause-some : goal.returns-in-Some-clause-some
+returns-in-Some-clause-some c =
+    there_shown c.args.who c.args.now (offer_in c.args.offered.now) (pool_shown c.self.inside) c.as_slice.result.now c.in-Some.place c.index.result.now c.pin_id.new.entries.items c.as_slice.ensures.value c.in-Some.ensures.found c.in-Some.ensures.within c.index.ensures c.pin_id.ensures.entries
+    ∙ ap (admit_of c.args.who c.args.now (offer_in c.args.offered.now)) c.self.view_is

@@ -1,0 +1,41 @@
+-- A look leaves what the policy says.
+use Rattle.std.proofs.Common.{◌<◌, List, ap, sym, ◌∙◌, subst, refl, arith}
+use Rattle.std.specs.Prelude.{filter, ◌&&◌}
+use Rattle.evict_admit.specs.Runs.{is_one_of}
+use Rattle.pool_policy.specs.declared.entry.PoolEntry.{PoolEntry}
+use Rattle.pool_policy.specs.Pool.{PoolState}
+use Rattle.pool_policy.specs.Looks.{Finding, after_look, found_of, ids_used, paid_back, pays_back}
+use Rattle.pool_policy.specs.Keeps.{IsPool}
+use Rattle.pool_policy.proofs.Kept.{look_keeps}
+use Rattle.recycle_pool.specs.Answers.{told}
+use Rattle.recycle_pool.specs.Views.{pool_shown}
+use Rattle.recycle_pool.proofs.Looked.{lookable, looked, owed, usable}
+use Rattle.recycle_pool.proofs.Stands.{kept_on}
+use Rattle.recycle_pool.proofs.pool.Pool.look.Goals as goal
+
+pub find_whole-requires-clause-lookable : goal.find_whole-requires-clause-lookable
+find_whole-requires-clause-lookable c = lookable c.self.inside c.as_slice.result.now c.self.invariant c.as_slice.ensures.value
+
+pub pay_uses-requires : goal.pay_uses-requires
+pay_uses-requires c = owed c.self.inside c.as_slice-2.result.now c.self.invariant c.as_slice-2.ensures.value
+
+pub use_all-requires : goal.use_all-requires
+use_all-requires c = usable c.self.inside c.self.invariant
+
+pub invariant_of-self : goal.invariant_of-self
+invariant_of-self c =
+    let found : Finding = told c.in_ok-found.found c.as_slice-used.result.now in
+    let is = ap (told c.in_ok-found.found) c.as_slice-used.ensures.value ∙ c.in_ok-found.ensures.found ∙ ap (λ (es : List PoolEntry). found_of es c.args.key.now) c.as_slice.ensures.value in
+    let paid = c.pay_uses.ensures.each ∙ ap (λ (es : List PoolEntry). paid_back c.self.inside.ledger.each (filter (λ (e : PoolEntry). is_one_of (ids_used found) e.id && pays_back c.args.who e) es)) c.as_slice-2.ensures.value in
+    let done = looked c.args.who c.args.now c.args.key.now (pool_shown c.self.inside) found c.use_all.new.entries.items c.pin_found.new.entries.items c.pay_uses.new.ledger.each is c.use_all.ensures.entries (c.pin_found.ensures.entries c.as_slice-used.result.now) paid in
+    let later : c.self.inside.moment < c.args.now = let m = ap (λ (p : PoolState). p.moment) c.self.view_is in omega (arith, m, c.requires.later) in
+    kept_on c.self.inside _ c.self.invariant (subst IsPool (sym done) (look_keeps c.args.who c.args.now c.args.key.now (pool_shown c.self.inside) later c.self.invariant.pool))
+    refl c.pay_uses.ensures.start c.requires.early (omega (arith, later, c.self.invariant.next)) (omega (arith, later, c.self.invariant.shapes)) (omega (arith, c.use_all.ensures.room, c.pin_found.ensures.room))
+
+pub returns-clause-pool : goal.returns-clause-pool
+returns-clause-pool c =
+    let found : Finding = told c.in_ok-found.found c.as_slice-used.result.now in
+    let is = ap (told c.in_ok-found.found) c.as_slice-used.ensures.value ∙ c.in_ok-found.ensures.found ∙ ap (λ (es : List PoolEntry). found_of es c.args.key.now) c.as_slice.ensures.value in
+    let paid = c.pay_uses.ensures.each ∙ ap (λ (es : List PoolEntry). paid_back c.self.inside.ledger.each (filter (λ (e : PoolEntry). is_one_of (ids_used found) e.id && pays_back c.args.who e) es)) c.as_slice-2.ensures.value in
+    looked c.args.who c.args.now c.args.key.now (pool_shown c.self.inside) found c.use_all.new.entries.items c.pin_found.new.entries.items c.pay_uses.new.ledger.each is c.use_all.ensures.entries (c.pin_found.ensures.entries c.as_slice-used.result.now) paid
+    ∙ ap (after_look c.args.who c.args.now c.args.key.now) c.self.view_is

@@ -1,0 +1,7 @@
+use Rattle.std.proofs.Common.{◌≡◌, take}
+use Rattle.lineage_key.specs.Parents.{parents_of}
+use Rattle.pool_policy.specs.Admits.{rows_of}
+use Rattle.recycle_pool.proofs.room.fill_rows.Given as goal
+
+abbrev pub invariant-rows : goal.invariant-rows
+invariant-rows l = l.rows.items ≡ rows_of (parents_of l.key) (take l.i l.entries)

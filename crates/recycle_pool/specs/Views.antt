@@ -1,0 +1,20 @@
+-- What a pool shows, and what it keeps beside.
+use Rattle.std.specs.Prelude.{◌≡◌, ◌+◌, ◌*◌, ◌≤◌, ◌<◌, ◌^◌, length}
+use Rattle.std.specs.Vec.{vec_capacity}
+use Rattle.pool_policy.specs.Pool.{PoolState}
+use Rattle.pool_policy.specs.Keeps.{IsPool}
+use Rattle.recycle_pool.specs.declared.pool.Pool.TheInside.{Inside}
+
+abbrev pub pool_shown : Inside → PoolState
+pool_shown p = record { options = p.options; entries = p.entries.items; next = p.next; moment = p.moment; shapes = p.shapes.items; credit = p.ledger.each }
+
+-- it is a pool, each shape starts with the credit of the options, all places are taken at the start, and there are few ids and shapes for its moment
+pub record IsKept (p : Inside) : Type 0 where
+  pub pool : IsPool (pool_shown p)
+  pub few : p.options.places ≤ 1024
+  pub budget : p.options.budget ≤ 2 ^ 40
+  pub start : p.ledger.start ≡ p.options.credits
+  pub moment : p.moment < 2 ^ 30
+  pub next : p.next ≤ 1024 * p.moment + 1
+  pub shapes : length p.shapes.items ≤ p.moment
+  pub room : p.options.places ≤ vec_capacity p.entries

@@ -1,0 +1,158 @@
+ghost use Rattle.std.specs.Prelude.{◌≡◌, ◌<◌, ◌^◌, IfNone, IfOk, IfSome, None, OnErr, OnOk};
+ghost use Rattle.pool_policy.specs.declared.entry.Who.{Who as WhoValue};
+ghost use Rattle.pool_policy.specs.Keyed.{entry_of_key};
+ghost use Rattle.pool_policy.specs.Admits.{admit_of};
+ghost use Rattle.pool_policy.specs.Keeps.{IsOffer};
+ghost use Rattle.recycle_pool.specs.Answers.{offer_in};
+ghost use Rattle.recycle_pool.specs.Usable.{IsNew};
+
+use crate::offer::{Offered, bytes_of, first_missing, is_stale, new_entry};
+use crate::pool::Pool;
+use crate::room::{enter, is_spent, leave, left_bytes, pay, plan_room};
+use crate::shapes::give_number;
+use crate::uses::pin_id;
+use cell_core::Memory;
+use pool_policy::{Admitted, Who, place_of_key};
+use score_hook::Scorer;
+
+impl Pool {
+    /// Afterwards at least so many shapes can be added. Nothing else changes.
+    pub fn reserve(&mut self, shapes: u64) -> Result<(), Memory>
+        ensures { self.new ≡ self.old }
+    {
+        self.shapes.reserve(shapes as usize)?;
+        self.ledger.reserve(shapes)?;
+        Ok(())
+    }
+
+    /// Keeps a result, where the policy admits it. What goes to make room is scored by the scorer that
+    /// is lent, which is of the kind of the options. Memory leaves all as it was.
+    pub fn admit(
+        &mut self,
+        scorer: &Scorer,
+        who: Who,
+        now: u64,
+        offered: Offered,
+    ) -> Result<Admitted, Memory>
+        requires kind { scorer.now.kind ≡ self.old.options.evict }
+        requires weights { scorer.now.weights.items ≡ self.old.options.weights }
+        requires session { who.session < 17 }
+        requires later { self.old.moment < now }
+        requires early { now < 2 ^ 30 }
+        requires fits { IsOffer self.old (offer_in offered) }
+        ensures done { IfOk result (λ said. (said, self.new) ≡ admit_of who now (offer_in offered) self.old) }
+        ensures options { self.new.options ≡ self.old.options }
+        ensures moment { OnOk result (self.new.moment ≡ now) }
+        ensures err { OnErr result (self.new ≡ self.old) }
+    {
+        match self.answer_known(who, now, &offered) {
+            Some(said) => Ok(said),
+            None => self.admit_new(scorer, who, now, offered),
+        }
+    }
+
+    /// The answer to an offer that is pooled already, or that can't be.
+    fn answer_known(&mut self, who: Who, now: u64, offered: &Offered) -> Option<Admitted>
+        requires session { who.session < 17 }
+        requires later { self.old.moment < now }
+        requires early { now < 2 ^ 30 }
+        ensures some { IfSome result (λ said. (said, self.new) ≡ admit_of who now (offer_in offered.now) self.old) }
+        ensures options { self.new.options ≡ self.old.options }
+        ensures moment { IfSome result (λ said. self.new.moment ≡ now) }
+        ensures none { IfNone result (IsNew (offer_in offered.now) self.old) }
+        ensures same { IfNone result (self.new ≡ self.old) }
+    {
+        match place_of_key(self.entries.as_slice(), &offered.key) {
+            None => self.refuse(now, offered),
+            Some(place) => {
+                let id = self.entries[place].id;
+                pin_id(&mut self.entries, id, who);
+                self.moment = now;
+                Some(Admitted::There(id))
+            }
+        }
+    }
+
+    /// The answer to an offer that can't be pooled.
+    fn refuse(&mut self, now: u64, offered: &Offered) -> Option<Admitted>
+        requires later { self.old.moment < now }
+        requires early { now < 2 ^ 30 }
+        requires fresh { None ≡ entry_of_key offered.now.key self.old.entries }
+        ensures some { IfSome result (λ said. (who : WhoValue) → (said, self.new) ≡ admit_of who now (offer_in offered.now) self.old) }
+        ensures options { self.new.options ≡ self.old.options }
+        ensures moment { IfSome result (λ said. self.new.moment ≡ now) }
+        ensures none { IfNone result (IsNew (offer_in offered.now) self.old) }
+        ensures same { IfNone result (self.new ≡ self.old) }
+    {
+        if is_stale(&offered.key, offered.present) {
+            self.moment = now;
+            return Some(Admitted::Stale(offered.present));
+        }
+        match first_missing(self.entries.as_slice(), &offered.key) {
+            None => None,
+            Some(id) => {
+                self.moment = now;
+                Some(Admitted::Orphan(id))
+            }
+        }
+    }
+
+    /// Keeps a result that can be, where its shape has a credit and there is room.
+    fn admit_new(
+        &mut self,
+        scorer: &Scorer,
+        who: Who,
+        now: u64,
+        offered: Offered,
+    ) -> Result<Admitted, Memory>
+        requires kind { scorer.now.kind ≡ self.old.options.evict }
+        requires weights { scorer.now.weights.items ≡ self.old.options.weights }
+        requires session { who.session < 17 }
+        requires later { self.old.moment < now }
+        requires early { now < 2 ^ 30 }
+        requires fits { IsOffer self.old (offer_in offered) }
+        requires new { IsNew (offer_in offered) self.old }
+        ensures done { IfOk result (λ said. (said, self.new) ≡ admit_of who now (offer_in offered) self.old) }
+        ensures options { self.new.options ≡ self.old.options }
+        ensures moment { OnOk result (self.new.moment ≡ now) }
+        ensures err { OnErr result (self.new ≡ self.old) }
+    {
+        let alloc = *self.entries.allocator();
+        let bytes = bytes_of(&offered.key, &offered.value);
+        let plan = plan_room(
+            alloc,
+            self.entries.as_slice(),
+            &self.options,
+            scorer,
+            now,
+            &offered.key,
+            bytes,
+        )?;
+        let shape = give_number(
+            &mut self.shapes,
+            &mut self.ledger,
+            &self.options,
+            self.entries.as_slice(),
+            &offered.key,
+        )?;
+        self.moment = now;
+        if is_spent(&self.ledger, shape) {
+            return Ok(Admitted::NoCredit(shape));
+        }
+        if !plan.enough {
+            let left = left_bytes(self.entries.as_slice(), plan.gone.as_slice());
+            return Ok(Admitted::NoRoom(left));
+        }
+        let id = self.next;
+        let entry = new_entry(id, shape, offered, bytes, who, now);
+        leave(&mut self.entries, &mut self.ledger, plan.gone.as_slice());
+        pay(&mut self.ledger, shape);
+        enter(&mut self.entries, entry);
+        self.next = id + 1;
+        Ok(Admitted::Taken {
+            id,
+            bytes,
+            gone: plan.gone.len() as u64,
+        })
+    }
+}

@@ -1,0 +1,90 @@
+//! What a look finds among the entries, by the first rule that applies.
+ghost use Rattle.std.specs.Prelude.{◌≡◌, [], IfOk, OnErr};
+ghost use Rattle.lineage_key.specs.Spans.{span_asked};
+ghost use Rattle.pool_policy.specs.Keyed.{first_parent as parent_in};
+ghost use Rattle.pool_policy.specs.Looks.{across_found, container_of, cover_of, found_of, target_found, within_found};
+ghost use Rattle.recycle_pool.specs.Answers.{HandsOut, told};
+ghost use Rattle.recycle_pool.specs.Usable.{IsLookable};
+
+use crate::covers::{find_cover, value_at};
+use crate::found::{Found, Part};
+use crate::selections::{container, first_parent, selections_of};
+use cell_core::{Memory, Span};
+use lineage_key::{Key, span_of};
+use pool_policy::{PoolEntry, place_of_key};
+
+/// What serves a selection of a target: one whose range contains it, or pieces that cover it.
+fn find_selection(
+    entries: &[PoolEntry],
+    parent: u64,
+    target: &Span,
+    parts: &mut Vec<Part>,
+) -> Result<Found, Memory>
+    requires lookable { IsLookable entries.now }
+    requires empty { parts.old.items ≡ [] }
+    ensures found { IfOk result (λ found. told found parts.new.items ≡ within_found (container_of parent target.now entries.now) (across_found (cover_of parent target.now entries.now))) }
+    ensures values { IfOk result (λ found. HandsOut entries.now found parts.new.items) }
+{
+    let selections = selections_of(*parts.allocator(), entries, parent)?;
+    match container(selections.as_slice(), target) {
+        Some(selection) => {
+            let value = value_at(entries, selection.0)?;
+            Ok(Found::Within(selection.0, value))
+        }
+        None => find_cover(entries, parent, target, selections.as_slice(), parts),
+    }
+}
+
+/// What serves a key that no entry has.
+fn find_range(entries: &[PoolEntry], key: &Key, parts: &mut Vec<Part>) -> Result<Found, Memory>
+    requires lookable { IsLookable entries.now }
+    requires empty { parts.old.items ≡ [] }
+    ensures found { IfOk result (λ found. told found parts.new.items ≡ target_found (parent_in key.now) entries.now (span_asked key.now)) }
+    ensures values { IfOk result (λ found. HandsOut entries.now found parts.new.items) }
+{
+    match span_of(key)? {
+        None => Ok(Found::Miss),
+        Some(target) => find_selection(entries, first_parent(key), &target, parts),
+    }
+}
+
+/// What a look finds: an entry with the key, or what serves its range; nothing where a parent isn't
+/// pooled.
+pub(crate) fn find(entries: &[PoolEntry], key: &Key, parts: &mut Vec<Part>) -> Result<Found, Memory>
+    requires lookable { IsLookable entries.now }
+    requires empty { parts.old.items ≡ [] }
+    ensures found { IfOk result (λ found. told found parts.new.items ≡ found_of entries.now key.now) }
+    ensures values { IfOk result (λ found. HandsOut entries.now found parts.new.items) }
+{
+    if key.names(0) {
+        return Ok(Found::Miss);
+    }
+    match place_of_key(entries, key) {
+        None => find_range(entries, key, parts),
+        Some(place) => {
+            let value = entries[place].value.share()?;
+            Ok(Found::Exact(entries[place].id, value))
+        }
+    }
+}
+
+/// The same; where memory runs out, there are no parts.
+pub(crate) fn find_whole(
+    entries: &[PoolEntry],
+    key: &Key,
+    parts: &mut Vec<Part>,
+) -> Result<Found, Memory>
+    requires lookable { IsLookable entries.now }
+    requires empty { parts.old.items ≡ [] }
+    ensures found { IfOk result (λ found. told found parts.new.items ≡ found_of entries.now key.now) }
+    ensures values { IfOk result (λ found. HandsOut entries.now found parts.new.items) }
+    ensures err { OnErr result (parts.new.items ≡ []) }
+{
+    match find(entries, key, parts) {
+        Ok(found) => Ok(found),
+        Err(memory) => {
+            parts.clear();
+            Err(memory)
+        }
+    }
+}

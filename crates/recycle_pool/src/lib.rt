@@ -1,0 +1,28 @@
+//! The pool of results: what is kept is found again, admitted and given up by the policy.
+//!
+//! It stands on `pool_policy`, whose functions say all that a pool does: contracts see a `Pool` as the
+//! state that these speak of, and each call answers and leaves exactly what they give. It stands on
+//! `lineage_key` for keys, on `subsume` and `least_cover` for ranges, and on `evict_admit` for credits and
+//! for what goes to make room. What the entries mean, and that results from them are the plain ones, is
+//! told by the laws of `pool_policy`.
+//!
+//! Entries are found by a look at each of them.
+#![tactic(auto)]
+
+mod admit;
+mod covers;
+mod finding;
+mod found;
+mod look;
+mod offer;
+mod pool;
+mod room;
+mod selections;
+mod shapes;
+#[cfg(test)]
+mod tests;
+mod uses;
+
+pub use found::{Found, Part};
+pub use offer::Offered;
+pub use pool::Pool;

@@ -1,0 +1,124 @@
+//! What is asked of an offer before there is room for it.
+ghost use Rattle.std.specs.Prelude.{◌≡◌, ◌<◌, ◌^◌};
+ghost use Rattle.std.specs.List.{filter_map, find};
+ghost use Rattle.lineage_key.specs.Parents.{id_in, parents_of};
+ghost use Rattle.pool_policy.specs.Keyed.{class_of, is_missing, is_pooled};
+ghost use Rattle.pool_policy.specs.Admits.{is_other_version, new_entry as entry_of, offer_bytes, stated_bytes};
+ghost use Rattle.recycle_pool.specs.Answers.{offer_in};
+
+use bat_core::Shared;
+use cell_core::Op;
+use lineage_key::{Key, KeyArg};
+use pool_policy::{PoolEntry, Who};
+use score_hook::Stats;
+
+/// A result that is to be admitted.
+#[derive(Drop)]
+pub struct Offered {
+    /// What names it.
+    pub key: Key,
+    /// Its value.
+    pub value: Shared,
+    /// The stated work of its instruction, below 2^62.
+    pub work: u64,
+    /// The present version of its column, where it is a bind.
+    pub present: u64,
+}
+
+/// Whether an entry has this id.
+fn is_there(entries: &[PoolEntry], id: u64) -> bool
+    ensures { result ≡ is_pooled entries.now id }
+{
+    let mut rest = entries;
+    'entries: while let [entry, more @ ..] = rest {
+        if entry.id == id {
+            return true;
+        }
+        rest = more;
+    }
+    false
+}
+
+/// The first parent of the key that isn't pooled.
+pub(crate) fn first_missing(entries: &[PoolEntry], key: &Key) -> Option<u64>
+    ensures { result ≡ find (is_missing entries.now) (parents_of key.now) }
+{
+    missing_among(entries, key.args.as_slice())
+}
+
+fn missing_among(entries: &[PoolEntry], args: &[KeyArg]) -> Option<u64>
+    ensures { result ≡ find (is_missing entries.now) (filter_map id_in args.now) }
+{
+    let mut rest = args;
+    'arguments: while let [arg, more @ ..] = rest {
+        if let KeyArg::Id(id) = arg {
+            if !is_there(entries, *id) {
+                return Some(*id);
+            }
+        }
+        rest = more;
+    }
+    None
+}
+
+/// The stated bytes of a result.
+pub(crate) fn bytes_of(key: &Key, value: &Shared) -> u64
+    ensures bytes { result ≡ stated_bytes key.now value.now }
+    ensures small { result < 2 ^ 62 }
+{
+    if key.is_bind() {
+        64
+    } else {
+        value.bat().bytes()
+    }
+}
+
+/// Whether the key is a bind of another version than the present one.
+pub(crate) fn is_stale(key: &Key, present: u64) -> bool
+    ensures { result ≡ is_other_version key.now present }
+{
+    key.is_bind() && key.version != present
+}
+
+/// The class of an operator.
+fn class(op: Op) -> u32
+    ensures { result ≡ class_of op }
+{
+    op as u32
+}
+
+/// The entry of an offer.
+pub(crate) fn new_entry(
+    id: u64,
+    shape: u32,
+    offered: Offered,
+    bytes: u64,
+    who: Who,
+    now: u64,
+) -> PoolEntry
+    requires session { who.session < 17 }
+    requires bytes { bytes ≡ offer_bytes (offer_in offered) }
+    ensures { result ≡ entry_of who now id shape (offer_in offered) }
+{
+    let mut pins = [false; 17];
+    pins[who.session as usize] = true;
+    PoolEntry {
+        id,
+        bytes,
+        stats: Stats {
+            class: class(offered.key.op),
+            work: offered.work,
+            reuses: 0,
+            others: 0,
+            admitted_at: now,
+            used_at: now,
+        },
+        key: offered.key,
+        value: offered.value,
+        by: who,
+        shape,
+        is_paid: false,
+        is_foreign: false,
+        pins,
+    }
+}

@@ -1,0 +1,161 @@
+//! Room for a new entry: which entries go, and what their leaving pays back.
+ghost use Rattle.std.specs.Prelude.{◌≡◌, ◌≢◌, ◌==◌, ◌&&◌, ◌++◌, ◌∷◌, ◌-◌, ◌+◌, ◌<◌, ◌≤◌, ◌^◌, [], All, IfOk, false, filter, length, map, nat_eq, not, slice_index, vec_len};
+ghost use Rattle.std.specs.List.{IsDistinct};
+ghost use Rattle.std.specs.Vec.{vec_capacity};
+ghost use Rattle.lineage_key.specs.Parents.{parents_of};
+ghost use Rattle.evict_admit.specs.Runs.{given_up, is_one_of};
+ghost use Rattle.pool_policy.specs.Pool.{pool_bytes, score_at};
+ghost use Rattle.pool_policy.specs.Looks.{paid_back};
+ghost use Rattle.pool_policy.specs.Admits.{credit_of, left_without, one_less, pays_at_end, rows_of};
+ghost use Rattle.recycle_pool.specs.Usable.{IsOwed, IsPlannable};
+
+use crate::uses::{pay_if, total_bytes};
+use cell_core::Memory;
+use evict_admit::{Ledger, Row, plan_evictions};
+use lineage_key::Key;
+use pool_policy::{PoolEntry, PoolOptions};
+use score_hook::Scorer;
+use std::alloc::Global;
+
+/// What is given up for a new entry.
+#[derive(Drop)]
+pub(crate) struct Plan {
+    /// The ids of the entries that go, in order.
+    pub(crate) gone: Vec<u64>,
+    /// Whether that is enough.
+    pub(crate) enough: bool,
+}
+
+/// The entries as they are weighed.
+fn fill_rows(alloc: Global, entries: &[PoolEntry], key: &Key) -> Result<Vec<Row>, Memory>
+    ensures { IfOk result (λ rows. rows.items ≡ rows_of (parents_of key.now) entries.now) }
+{
+    let mut rows = Vec::with_capacity(alloc, entries.len())?;
+    'rows: for i in 0..entries.len() {
+        rows.push(entries[i].row(key))?;
+    }
+    Ok(rows)
+}
+
+/// Which entries are given up for a new one of so many bytes, and whether that is enough.
+pub(crate) fn plan_room(
+    alloc: Global,
+    entries: &[PoolEntry],
+    options: &PoolOptions,
+    scorer: &Scorer,
+    now: u64,
+    key: &Key,
+    bytes: u64,
+) -> Result<Plan, Memory>
+    requires kind { scorer.now.kind ≡ options.now.evict }
+    requires weights { scorer.now.weights.items ≡ options.now.weights }
+    requires plan { IsPlannable now entries.now }
+    requires small { bytes < 2 ^ 62 }
+    ensures { IfOk result (λ plan. (plan.gone.items, plan.enough) ≡ given_up (score_at options.now now) (rows_of (parents_of key.now) entries.now) (pool_bytes entries.now + bytes - options.now.budget) (length entries.now + 1 - options.now.places)) }
+{
+    let rows = fill_rows(alloc, entries, key)?;
+    let mut gone = Vec::with_capacity(alloc, rows.len())?;
+    let total = u128::from(total_bytes(entries)) + u128::from(bytes);
+    let need = total.saturating_sub(u128::from(options.budget));
+    let slots = (entries.len() as u64 + 1).saturating_sub(options.places);
+    let enough = plan_evictions(rows.as_slice(), need, slots, scorer, now, &mut gone);
+    Ok(Plan { gone, enough })
+}
+
+/// Whether an id is among these.
+fn is_gone(gone: &[u64], id: u64) -> bool
+    ensures { result ≡ is_one_of gone.now id }
+{
+    let mut rest = gone;
+    'ids: while let [first, more @ ..] = rest {
+        if id == *first {
+            return true;
+        }
+        rest = more;
+    }
+    false
+}
+
+/// The stated bytes of the entries whose ids aren't among these.
+pub(crate) fn left_bytes(entries: &[PoolEntry], gone: &[u64]) -> u64
+    requires { pool_bytes entries.now < 2 ^ 62 }
+    ensures { result ≡ pool_bytes (left_without gone.now entries.now) }
+{
+    let mut total = 0;
+    'entries: for i in 0..entries.len() {
+        if !is_gone(gone, entries[i].id) {
+            total += entries[i].bytes;
+        }
+    }
+    total
+}
+
+/// Whether the entry leaves, and pays its credit back then.
+fn pays_then(entry: &PoolEntry, gone: &[u64]) -> bool
+    ensures { result ≡ (is_one_of gone.now entry.now.id && pays_at_end entry.now) }
+{
+    is_gone(gone, entry.id) && entry.pays_at_end()
+}
+
+/// Of what leaves, what others used and what isn't paid back yet pays its credit back.
+fn pay_leaving(ledger: &mut Ledger, entries: &[PoolEntry], gone: &[u64])
+    requires { IsOwed ledger.old entries.now }
+    ensures each { ledger.new.each ≡ paid_back ledger.old.each (filter (λ e. is_one_of gone.now e.id && pays_at_end e) entries.now) }
+    ensures start { ledger.new.start ≡ ledger.old.start }
+{
+    let mut rest = entries;
+    'entries: while let [entry, more @ ..] = rest {
+        let pays = pays_then(entry, gone);
+        pay_if(ledger, entry, pays);
+        rest = more;
+    }
+}
+
+/// The entries whose ids are among these leave.
+pub(crate) fn leave(entries: &mut Vec<PoolEntry>, ledger: &mut Ledger, gone: &[u64])
+    requires { IsOwed ledger.old entries.old.items }
+    ensures entries { entries.new.items ≡ left_without gone.now entries.old.items }
+    ensures each { ledger.new.each ≡ paid_back ledger.old.each (filter (λ e. is_one_of gone.now e.id && pays_at_end e) entries.old.items) }
+    ensures start { ledger.new.start ≡ ledger.old.start }
+    ensures room { vec_capacity entries.new ≡ vec_capacity entries.old }
+{
+    pay_leaving(ledger, entries.as_slice(), gone);
+    entries.retain(
+        |entry| -> bool
+            ensures { result ≡ not (is_one_of gone.entry.now entry.entry.now.id) }
+        { !is_gone(gone, entry.id) },
+    );
+}
+
+/// Whether the shape has no credit left.
+pub(crate) fn is_spent(ledger: &Ledger, shape: u32) -> bool
+    requires last { shape ≤ length ledger.now.each }
+    ensures spent { 0 < shape → result ≡ (credit_of shape ledger.now.each == 0) }
+    ensures none { shape ≡ 0 → result ≡ false }
+{
+    shape > 0 && ledger.credit(shape) == 0
+}
+
+/// One credit is paid, where shapes have credits.
+pub(crate) fn pay(ledger: &mut Ledger, shape: u32)
+    requires last { shape ≤ length ledger.old.each }
+    requires first { 0 < length ledger.old.each → 0 < shape }
+    requires some { 0 < shape → slice_index ledger.old.each (shape - 1) ≢ 0 }
+    ensures each { ledger.new.each ≡ one_less ledger.old.each shape }
+    ensures start { ledger.new.start ≡ ledger.old.start }
+{
+    if shape > 0 {
+        ledger.pay(shape);
+    }
+}
+
+/// An entry comes last.
+pub(crate) fn enter(entries: &mut Vec<PoolEntry>, entry: PoolEntry)
+    requires { vec_len entries.old < vec_capacity entries.old }
+    ensures items { entries.new.items ≡ entries.old.items ++ entry ∷ [] }
+    ensures room { vec_capacity entries.old ≤ vec_capacity entries.new }
+{
+    if entries.push(entry).is_err() {
+        unreachable!();
+    }
+}
