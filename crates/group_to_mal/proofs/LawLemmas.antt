@@ -53,6 +53,7 @@ pub record PartsChecked (called : List NamedSource) (query : QueryTree) : Type 0
   pub groups : bad_references called query.groups ≡ []
   pub having : bad_in_exprs called (exprs_of_cond query.having) ≡ []
   pub grouped : not_grouped called query ≡ []
+  pub fit : is_misfit_query called query ≡ false
 
 flat_first : {X Y : Type 0} (f : X → List Y) (xs ys : List X) → flat_map f (xs ++ ys) ≡ [] → flat_map f xs ≡ []
 flat_first f [] ys e = refl
@@ -63,12 +64,17 @@ first_placed : (called : List NamedSource) (exprs after : List ExprTree) → bad
 first_placed called exprs after e = flat_first (λ (ref : ColRef). misplaced ref (places called ref)) (flat_map references exprs) (flat_map references after)
     (ap (bad_references called) (sym (flat_map-append references exprs after)) ∙ e)
 
+not_refused : (cause : Bool) (refusal : Refusal) → refused_if cause refusal ≡ [] → cause ≡ false
+not_refused true refusal e = cc
+not_refused false refusal e = refl
+
 parts_checked : (called : List NamedSource) (query : QueryTree) → column_refusals called query ≡ [] → PartsChecked called query
 parts_checked called query e = record {
   items = first_placed called (item_exprs called query) (exprs_of_cond query.cond) (left_empty placed groups (left_empty (placed ++ groups) having three));
   groups = right_empty placed groups (left_empty (placed ++ groups) having three);
   having = right_empty (placed ++ groups) having three;
   grouped = right_empty (placed ++ groups ++ having ++ keys) grouped five;
+  fit = not_refused (is_misfit_query called query) KindsDiffer (right_empty (placed ++ groups ++ having ++ keys ++ grouped) (refused_if (is_misfit_query called query) KindsDiffer) e);
 }
   where
     placed : List Refusal
@@ -92,7 +98,7 @@ parts_checked called query e = record {
     three : placed ++ groups ++ having ≡ []
     three = left_empty (placed ++ groups ++ having) keys (left_empty (placed ++ groups ++ having ++ keys) grouped five)
 
-refs_placed : (called : List NamedSource) (refs : List ColRef) → bad_references called refs ≡ [] → AllByRecursion (λ ref. ArePlaced called (ColumnOf ref)) refs
+pub refs_placed : (called : List NamedSource) (refs : List ColRef) → bad_references called refs ≡ [] → AllByRecursion (λ ref. ArePlaced called (ColumnOf ref)) refs
 refs_placed called [] e = tt
 refs_placed called (ref ∷ refs) e =
     ((left_empty (misplaced ref (places called ref)) (bad_references called refs) e, tt), refs_placed called refs (right_empty (misplaced ref (places called ref)) (bad_references called refs) e))
@@ -132,16 +138,16 @@ module _ (db : Db) (names : List (List ℕ)) (source : Source) (sources : List S
   abbrev items : List ExprTree
   items = item_exprs called query
 
-  written : AllByRecursion IsValue items
+  pub written : AllByRecursion IsValue items
   written = items_written called query shaped.items
 
-  having_is : AllByRecursion IsValue (exprs_of_cond query.having)
+  pub having_is : AllByRecursion IsValue (exprs_of_cond query.having)
   having_is = having_written query.having shaped.having
 
-  items_placed : AllByRecursion (ArePlaced called) items
+  pub items_placed : AllByRecursion (ArePlaced called) items
   items_placed = all_placed called items parts.items
 
-  having_placed : AllByRecursion (ArePlaced called) (exprs_of_cond query.having)
+  pub having_placed : AllByRecursion (ArePlaced called) (exprs_of_cond query.having)
   having_placed = all_placed called (exprs_of_cond query.having) parts.having
 
   all_three : (Q R S T : ExprTree → Type 0) → ((x : ExprTree) → Q x → R x → S x → T x) → (xs : List ExprTree) → AllByRecursion Q xs → AllByRecursion R xs → AllByRecursion S xs → AllByRecursion T xs
@@ -152,7 +158,7 @@ module _ (db : Db) (names : List (List ℕ)) (source : Source) (sources : List S
   all_halves Q [] ys a = (tt, a)
   all_halves Q (x ∷ xs) ys a = let more = all_halves Q xs ys a.1 in ((a.0, more.0), more.1)
 
-  some_item : 0 < length items
+  pub some_item : 0 < length items
   some_item = some_mapped (λ (item : ItemTree). item.expr) (items_of called query) (by_star (length query.items == 0) refl)
     where
       first_named_table : (names : List (List ℕ)) → 0 < length names → 0 < length (all_columns (called_sources names (source ∷ sources)))
@@ -249,22 +255,48 @@ module _ (db : Db) (inside : List ℕ → Option Source) where
 
 -- ## Checked queries
 
-no_refusal : (refusals : List Refusal) → slice_get refusals 0 ≡ None → refusals ≡ []
+pub no_refusal : (refusals : List Refusal) → slice_get refusals 0 ≡ None → refusals ≡ []
 no_refusal [] e = refl
 no_refusal (refusal ∷ more) e = cc
 
-some_names : (froms : List FromItem) → (froms ≡ [] → ⊥) → 0 < length (map from_name froms)
+pub some_names : (froms : List FromItem) → (froms ≡ [] → ⊥) → 0 < length (map from_name froms)
 some_names [] some = absurd (some refl)
 some_names (item ∷ froms) some = above (length (map from_name froms))
   where
     above : (n : ℕ) → 0 < suc n
     above n = omega arith
 
+-- what holds over tables of which there is one, where the check accepts the query, holds over the query's tables
+pub query_over : (Goal : List Source → Type 0) (stmt : StmtTree) (query : QueryTree) (sources : List Source) (db : Db) → called_in stmt ≡ map from_name query.froms → condition_of stmt ≡ query.cond
+    → StatementIs stmt sources → query_refusals query (record { tables = sources }) ≡ [] → sources ≡ sources_named (map (λ (item : FromItem). item.table) query.froms) (schema_of db) → AllByRecursion (InDb db) sources
+    → ((first : Source) (others : List Source) → AllByRecursion (InDb db) (first ∷ others) → CondChecked (called_sources (map from_name query.froms) (first ∷ others)) query.cond
+    → PartsChecked (called_sources (map from_name query.froms) (first ∷ others)) query → Goal (first ∷ others)) → Goal sources
+query_over Goal stmt query sources db called is statement accepted tables there goal = over_tables sources statement.first statement.others statement.some there checked parts
+  where
+    schema : Schema
+    schema = record { tables = sources }
+
+    checked : CondChecked (called_sources (map from_name query.froms) sources) query.cond
+    checked = subst (λ names. CondChecked (called_sources names sources) query.cond) called (subst (λ c. CondChecked (called_sources (called_in stmt) sources) c) is statement.checked)
+
+    parts : PartsChecked (called_sources (map from_name query.froms) sources) query
+    parts = subst (λ c. PartsChecked c query) (called_are db query sources there tables accepted)
+        (parts_checked (from_sources query.froms schema) query
+        (right_empty (missing_tables query.froms schema ++ names_twice (map from_name query.froms)) (column_refusals (from_sources query.froms schema) query) accepted))
+
+    over_tables : (all : List Source) (first : Source) (others : List Source) → all ≡ first ∷ others → AllByRecursion (InDb db) all → CondChecked (called_sources (map from_name query.froms) all) query.cond
+        → PartsChecked (called_sources (map from_name query.froms) all) query → Goal all
+    over_tables all first others some a c p =
+        subst (λ ss. AllByRecursion (InDb db) ss → CondChecked (called_sources (map from_name query.froms) ss) query.cond → PartsChecked (called_sources (map from_name query.froms) ss) query → Goal ss) (sym some)
+        (λ a c p. goal first others a c p) a c p
+
 query_means : (stmt : StmtTree) (query : QueryTree) (sources : List Source) (db : Db) → called_in stmt ≡ map from_name query.froms → condition_of stmt ≡ query.cond → IsShapedQuery query
     → StatementIs stmt sources → query_refusals query (record { tables = sources }) ≡ [] → sources ≡ sources_named (map (λ (item : FromItem). item.table) query.froms) (schema_of db) → AllByRecursion (InDb db) sources
     → plan_rows (query_plan (scope_of (map from_name query.froms) sources) query) db ≡ answer query db
 query_means stmt query sources db called is shaped statement accepted tables there =
-    over_tables sources statement.first statement.others statement.some there checked parts
+    query_over (λ all. plan_rows (query_plan (scope_of (map from_name query.froms) all) query) db ≡ answer_from (called_sources (map from_name query.froms) all) (map (rows_in db) all) query)
+    stmt query sources db called is statement accepted tables there
+    (λ first others a c p. means db (map from_name query.froms) first others a query c shaped p (some_names query.froms shaped.froms))
     ∙ ap (λ all. answer_from (called_sources (map from_name query.froms) all) (map (rows_in db) all) query) tables
     ∙ ap (λ c. answer_from c (map (rows_in db) (sources_named (map (λ (item : FromItem). item.table) query.froms) (schema_of db))) query) (sym (froms_called db (λ n. source_named n schema) query.froms same))
     ∙ ap (λ ls. answer_from (map source_of (from_tables query.froms db)) ls query) (sym (froms_rows db (λ n. source_named n schema) query.froms same))
@@ -274,22 +306,6 @@ query_means stmt query sources db called is shaped statement accepted tables the
 
     same : AllByRecursion (λ (item : FromItem). SameFound (λ n. source_named n (record { tables = sources })) (in_schema db) item.table) query.froms
     same = all_same db query sources there tables accepted
-
-    checked : CondChecked (called_sources (map from_name query.froms) sources) query.cond
-    checked = subst (λ names. CondChecked (called_sources names sources) query.cond) called (subst (λ c. CondChecked (called_sources (called_in stmt) sources) c) is statement.checked)
-
-    parts : PartsChecked (called_sources (map from_name query.froms) sources) query
-    parts = subst (λ c. PartsChecked c query) (called_are db query sources there tables accepted)
-        (parts_checked (from_sources query.froms (record { tables = sources })) query
-        (right_empty (missing_tables query.froms (record { tables = sources }) ++ names_twice (map from_name query.froms)) (column_refusals (from_sources query.froms (record { tables = sources })) query) accepted))
-
-    over_tables : (all : List Source) (first : Source) (others : List Source) → all ≡ first ∷ others → AllByRecursion (InDb db) all → CondChecked (called_sources (map from_name query.froms) all) query.cond
-        → PartsChecked (called_sources (map from_name query.froms) all) query
-        → plan_rows (query_plan (scope_of (map from_name query.froms) all) query) db ≡ answer_from (called_sources (map from_name query.froms) all) (map (rows_in db) all) query
-    over_tables all first others some a c p =
-        subst (λ ss. AllByRecursion (InDb db) ss → CondChecked (called_sources (map from_name query.froms) ss) query.cond → PartsChecked (called_sources (map from_name query.froms) ss) query
-        → plan_rows (query_plan (scope_of (map from_name query.froms) ss) query) db ≡ answer_from (called_sources (map from_name query.froms) ss) (map (rows_in db) ss) query) (sym some)
-        (λ a c p. means db (map from_name query.froms) first others a query c shaped p (some_names query.froms shaped.froms)) a c p
 
 for_select : (stmt : StmtTree) (query : QueryTree) (sources : List Source) (db : Db) → called_in stmt ≡ map from_name query.froms → condition_of stmt ≡ query.cond → IsShapedQuery query
     → keeps_rows stmt ≡ true → IsFormed stmt → check_refusal stmt (record { tables = sources }) ≡ None → query_refusals query (record { tables = sources }) ≡ [] → HoldsTables stmt sources db

@@ -14,3 +14,12 @@ pub mod AnswerLemmas
 pub mod PlanAnswers
 pub mod QueryLemmas
 pub mod LawLemmas
+pub mod ShownItems
+pub mod TypedColumns
+pub mod TypedTests
+pub mod TypedValues
+pub mod PlanIs
+pub mod TypedOutput
+pub mod TypedShown
+pub mod RunLemmas
+pub mod CompiledLemmas

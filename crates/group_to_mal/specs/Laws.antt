@@ -7,7 +7,7 @@ use Rattle.sql_grammar.specs.Formed.{IsFormed}
 use Rattle.sql_semantics.specs.declared.source.Source.{Source}
 use Rattle.sql_semantics.specs.Answer.{answer, query_of}
 use Rattle.sql_semantics.specs.Check.{check_refusal}
-use Rattle.rows_to_mal.specs.Laws.{HoldsTables}
+use Rattle.rows_to_mal.specs.Laws.{HoldsTables, RunsOver}
 use Rattle.rows_to_mal.specs.Rows.{statement_scope}
 use Rattle.group_to_mal.specs.QueryPlan.{query_plan}
 
@@ -15,3 +15,8 @@ use Rattle.group_to_mal.specs.QueryPlan.{query_plan}
 abbrev pub PlansMeanAnswers : Type 0
 PlansMeanAnswers = (stmt : StmtTree) (query : QueryTree) (sources : List Source) (db : Db) → query_of stmt ≡ Some query → IsFormed stmt
     → check_refusal stmt (record { tables = sources }) ≡ None → HoldsTables stmt sources db → plan_rows (query_plan (statement_scope stmt sources) query) db ≡ answer query db
+
+-- over each such database that plan has no fault, fits, and can be run
+abbrev pub QueryPlansRun : Type 0
+QueryPlansRun = (stmt : StmtTree) (query : QueryTree) (sources : List Source) (db : Db) → query_of stmt ≡ Some query → IsFormed stmt
+    → check_refusal stmt (record { tables = sources }) ≡ None → HoldsTables stmt sources db → RunsOver (query_plan (statement_scope stmt sources) query) db

@@ -2,22 +2,25 @@
 ghost use Rattle.std.specs.Prelude.{◌≡◌, ◌∷◌, map, not, ◌||◌, IfOk};
 ghost use Rattle.std.specs.Option.{option_copied, option_map};
 ghost use Rattle.sql_tree.specs.Tree.{cond_tree};
+ghost use Rattle.sql_tree.specs.Tree.ExprTree.{ColumnOf};
+ghost use Rattle.rows_to_mal.specs.Conjuncts.{expr_value};
+ghost use Rattle.mal_emit.specs.Emitters.{followed};
 ghost use Rattle.mal_emit.specs.Phrases.{variables};
-ghost use Rattle.group_to_mal.specs.QueryPlan.{kept_columns as kept_columns_of, items_by as items_by_of};
-ghost use Rattle.group_to_mal.specs.Columns.{values_by, any_bat, with_bat, spread_by, spread_first as spread_first_of};
+ghost use Rattle.group_to_mal.specs.QueryPlan.{kept_columns as kept_columns_of, items_by as items_by_of, group_items as group_items_of};
+ghost use Rattle.group_to_mal.specs.Columns.{heads as heads_of, values_by, any_bat, with_bat, spread_by, spread_first as spread_first_of};
+ghost use Rattle.group_to_mal.specs.Values.{is_grouped, group_value};
 ghost use Rattle.group_to_mal.specs.Forms.{value_over, is_bat_over};
 ghost use Rattle.group_to_mal.specs.ItemValues.{args_of, bats_in, exprs_of};
 
-use crate::columns::{ItemValue, keep_bats, spread, undoubled};
+use crate::columns::{ItemValue, groups, heads, keep_bats, spread, undoubled};
 use crate::form::Form;
 use cell_core::{Arg, Instr, Memory, Op, Sequence};
-use mal_emit::emit;
 use rows_to_mal::Tables;
-use sql_tree::{Cond, Item};
+use sql_tree::{ColRef, Cond, Item};
 use std::alloc::Global;
 
 /// Adds the values of items, one behind the other.
-fn values(
+pub(crate) fn values(
     alloc: Global,
     instrs: &mut Sequence<Instr>,
     tables: &Tables<'_>,
@@ -148,4 +151,71 @@ pub(crate) fn items_by(
     let spread = spread_first(alloc, instrs, heads.share()?, found)?;
     let kept = kept_columns(alloc, instrs, tables, rows, form, heads, having, spread)?;
     undoubled(alloc, instrs, distinct, kept)
+}
+
+/// Adds the values of the columns of GROUP BY.
+fn keys(
+    alloc: Global,
+    instrs: &mut Sequence<Instr>,
+    tables: &Tables<'_>,
+    rows: &[u32],
+    columns: &[ColRef],
+) -> Result<Vec<Arg>, Memory>
+    ensures { IfOk result (λ args. (instrs.new, args.items) ≡ (values_by (expr_value tables.now (variables rows.now)) (map ColumnOf columns.now)).run instrs.old) }
+{
+    let mut args = Vec::new(alloc);
+    for column in columns {
+        let arg = tables.column(alloc, instrs, rows, column)?;
+        args.push(arg)?;
+    }
+    Ok(args)
+}
+
+/// Lets a form go.
+pub(crate) fn let_go(_form: Form) {}
+
+/// Adds the groups of the rows so far, and the items for each of them.
+pub(crate) fn group_items(
+    alloc: Global,
+    instrs: &mut Sequence<Instr>,
+    tables: &Tables<'_>,
+    rows: &[u32],
+    columns: &[ColRef],
+    having: Option<&Cond>,
+    distinct: bool,
+    items: &[Item],
+) -> Result<Vec<ItemValue>, Memory>
+    ensures { IfOk result (λ shown. (instrs.new, args_of shown.items) ≡ (group_items_of tables.now (variables rows.now) columns.now (option_map cond_tree (option_copied having.entry)) distinct (exprs_of items.now)).run instrs.old) }
+{
+    let keys = keys(alloc, instrs, tables, rows, columns)?;
+    let numbers = groups(alloc, instrs, keys.as_slice())?;
+    items_of_groups(
+        alloc, instrs, tables, rows, numbers, having, distinct, items,
+    )
+}
+
+/// Adds the items for each of these groups.
+fn items_of_groups(
+    alloc: Global,
+    instrs: &mut Sequence<Instr>,
+    tables: &Tables<'_>,
+    rows: &[u32],
+    groups: Arg,
+    having: Option<&Cond>,
+    distinct: bool,
+    items: &[Item],
+) -> Result<Vec<ItemValue>, Memory>
+    ensures { IfOk result (λ shown. (instrs.new, args_of shown.items) ≡ (followed (heads_of groups) (λ h. items_by_of (group_value tables.now (variables rows.now) groups h) is_grouped h (option_map cond_tree (option_copied having.entry)) distinct (exprs_of items.now))).run instrs.old) }
+{
+    let firsts = heads(alloc, instrs, groups.share()?)?;
+    let form = Form::Groups {
+        groups,
+        heads: firsts,
+    };
+    let beside = Arg::Var(firsts);
+    let shown = items_by(
+        alloc, instrs, tables, rows, &form, beside, having, distinct, items,
+    );
+    let_go(form);
+    shown
 }

@@ -9,10 +9,16 @@
 #![tactic(auto)]
 
 mod columns;
+mod compile;
 mod form;
 mod items;
 mod laws;
+mod plan;
+mod shown;
 
 pub use columns::ItemValue;
+pub use compile::compile_query;
 pub use form::Form;
-pub use laws::plans_mean_answers;
+pub use laws::{plans_mean_answers, query_plans_run};
+pub use plan::plan_behind;
+pub use shown::Shown;

@@ -26,3 +26,7 @@ pub mod TypedValueLemmas
 pub mod CheckedLemmas
 pub mod TypedPlanLemmas
 pub mod OnlyLemmas
+pub mod LentLemmas
+pub mod StepLemmas
+pub mod UsedLemmas
+pub mod EffectLemmas

@@ -1,6 +1,6 @@
 -- What the rows of a checked statement mean over a database.
-use Rattle.std.specs.Prelude.{◌≡◌, ℕ, List, [], length, map, true, false, Option, Some, None, get_or}
-use Rattle.std.specs.List.{range_with_len}
+use Rattle.std.specs.Prelude.{◌≡◌, ℕ, List, [], ◌∷◌, length, map, filter, true, false, ◌||◌, Option, Some, None, is_none, get_or}
+use Rattle.std.specs.List.{list_any, range_with_len}
 use Rattle.std.specs.Option.{option_map, option_map_or}
 use Rattle.cell_core.specs.declared.cell.Cell.{Cell}
 use Rattle.cell_core.specs.declared.cell.Cell.TheVariants.{Oid}
@@ -19,7 +19,7 @@ use Rattle.mal_meaning.specs.Runs.{Runs}
 use Rattle.mal_meaning.specs.declared.plan.Plan.{Plan}
 use Rattle.mal_check.specs.Checked.{plan_fault}
 use Rattle.mal_check.specs.Runnable.{FitsDb}
-use Rattle.sql_tree.specs.Tree.{StmtTree}
+use Rattle.sql_tree.specs.Tree.{ExprTree, CondTree, StmtTree}
 use Rattle.sql_grammar.specs.Formed.{IsFormed}
 use Rattle.sql_semantics.specs.declared.source.Source.{Source}
 use Rattle.rows_to_mal.specs.Choices.{choice_at, kept_numbers}
@@ -27,7 +27,9 @@ use Rattle.rows_to_mal.specs.Rows.{condition_of, keeps_rows, statement_rows}
 use Rattle.rows_to_mal.specs.Writes.{is_write, new_values, write_plan, written_rows}
 use Rattle.sql_semantics.specs.Sources.{schema_of}
 use Rattle.sql_semantics.specs.Check.{check_refusal, sources_named, sources_called, tables_of}
+use Rattle.sql_semantics.specs.Effect.{own_table, is_hit, overflows_in, is_any_set}
 use Rattle.sql_semantics.specs.Kept.{kept, cond_overflows}
+use Rattle.sql_semantics.specs.Values.{constant_overflows}
 use Rattle.sql_semantics.specs.Valid.{IsValid}
 
 -- the database is valid, and these are the tables of the statement in it
@@ -83,3 +85,9 @@ pub record RunsOver (plan : Plan) (db : Db) : Type 0 where
 abbrev pub WritePlansRun : Type 0
 WritePlansRun = (stmt : StmtTree) (sources : List Source) (db : Db) → is_write stmt ≡ true → IsFormed stmt → check_refusal stmt (record { tables = sources }) ≡ None
     → HoldsTables stmt sources db → RunsOver (write_plan stmt sources) db
+
+-- over the rows of its table, the plan of an UPDATE has no rows exactly where the statement's effect is an overflow, should it be refused for no other cause
+abbrev pub UpdatesOverflow : Type 0
+UpdatesOverflow = (table : Table) (sets : List (List ℕ × ExprTree)) (condition : Option CondTree)
+    → is_none (written_rows (own_table table) condition (map (λ (set : List ℕ × ExprTree). set.1) sets) (table.rows ∷ []))
+    ≡ (list_any constant_overflows (map (λ (set : List ℕ × ExprTree). set.1) sets) || cond_overflows condition || is_any_set (overflows_in table) sets (filter (is_hit condition table) table.rows))

@@ -3,6 +3,7 @@ pub mod Choices
 pub mod Conjuncts
 pub mod Joins
 pub mod Laws
+pub mod Lent
 pub mod Parts
 pub mod Reading
 pub mod Rows

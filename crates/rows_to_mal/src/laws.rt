@@ -1,5 +1,5 @@
 //! Laws about the translation. The calls compute nothing.
-ghost use Rattle.rows_to_mal.specs.Laws.{NumbersAreChoices, StatementsKeepRows, WritePlansRun, WritesAreMeant};
+ghost use Rattle.rows_to_mal.specs.Laws.{NumbersAreChoices, StatementsKeepRows, UpdatesOverflow, WritePlansRun, WritesAreMeant};
 
 use mal_check::checked_plans_run;
 
@@ -30,3 +30,9 @@ pub fn write_plans_run()
 {
     checked_plans_run();
 }
+
+/// Over the rows of its table, what the plan of an UPDATE gives is an overflow exactly where SQL's effect of
+/// the statement has one.
+pub fn updates_overflow()
+    ensures { UpdatesOverflow }
+{}

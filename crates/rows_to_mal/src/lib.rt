@@ -9,12 +9,20 @@
 //! included, by the machine of `mal_emit` and the list laws of `pick_laws`.
 #![tactic(auto)]
 
+mod candidates;
+mod compile;
 mod conditions;
 mod joins;
 mod laws;
+mod parts;
+mod reading;
+mod rows;
 mod tables;
 
+pub use compile::{Rows, called_tables, compile_rows, compile_write};
 pub use conditions::is_cond_alone;
 pub use joins::{all_rows, constant, spread_rows};
-pub use laws::{numbers_are_choices, statements_keep_rows, write_plans_run, writes_are_meant};
+pub use laws::{
+    numbers_are_choices, statements_keep_rows, updates_overflow, write_plans_run, writes_are_meant,
+};
 pub use tables::{Tables, is_alone};

@@ -4,6 +4,7 @@ ghost use Rattle.cell_core.specs.declared.cell.Cell.TheVariants.{Text};
 ghost use Rattle.cell_core.specs.declared.operator.Op.TheVariants as op;
 ghost use Rattle.cell_core.specs.declared.operator.Arg.TheVariants.{Const, Var};
 ghost use Rattle.sql_tree.specs.Tree.{expr_tree};
+ghost use Rattle.sql_tree.specs.Tree.ExprTree.{ColumnOf};
 ghost use Rattle.sql_semantics.specs.Found.{place_found};
 ghost use Rattle.sql_semantics.specs.Sources.{place_of};
 ghost use Rattle.mal_emit.specs.Emitters.{emits};
@@ -44,9 +45,16 @@ impl<'a> Tables<'a> {
         Tables { called, sources }
     }
 
+    /// The tables as the database has them.
+    pub(crate) fn sources(&self) -> &'a [Source]
+        ensures { result.now ≡ self.now.sources }
+    {
+        self.sources
+    }
+
     /// The place of the column that a reference means.
     #[tactic(auto, using(crate::proofs::OnlyLemmas::only_found))]
-    fn place(&self, column: &ColRef) -> Option<(usize, usize)>
+    pub(crate) fn place(&self, column: &ColRef) -> Option<(usize, usize)>
         ensures { result ≡ place_of self.now.called column.now }
     {
         match find_column(self.called, column.table.as_ref(), &column.column) {
@@ -56,7 +64,7 @@ impl<'a> Tables<'a> {
     }
 
     /// Adds a column's value for each row so far.
-    fn place_value(
+    pub(crate) fn place_value(
         &self,
         alloc: Global,
         instrs: &mut Sequence<Instr>,
@@ -73,6 +81,19 @@ impl<'a> Tables<'a> {
             None => missing_value(alloc, instrs, rows, number, column)?,
         };
         Ok(Arg::Var(found))
+    }
+
+    /// Adds the value of a column for each row so far.
+    pub fn column(
+        &self,
+        alloc: Global,
+        instrs: &mut Sequence<Instr>,
+        rows: &[u32],
+        column: &ColRef,
+    ) -> Result<Arg, Memory>
+        ensures { IfOk result (λ arg. (instrs.new, arg) ≡ (expr_value_of self.now (variables rows.now) (ColumnOf column.now)).run instrs.old) }
+    {
+        self.place_value(alloc, instrs, rows, self.place(column))
     }
 
     /// Adds an expression's value for each row so far, or one for all of them.
