@@ -1,3 +1,4 @@
 pub mod GroupLemmas
 pub mod NumberLemmas
 pub mod TotalLemmas
+pub mod FirstLemmas

@@ -6,6 +6,7 @@ ghost use Rattle.cell_core.specs.Same.{same_cell};
 ghost use Rattle.cell_core.specs.Pairs.{heads_of};
 ghost use Rattle.cell_core.specs.Groups.{grouped, derived, group_heads_of, group_number, same_pair};
 
+use crate::firsts::Firsts;
 use crate::numbers::number_of;
 use bat_core::{Bat, BatBuilder, Cells, CellsBuilder};
 use cell_core::{Cell, Memory, Steps};
@@ -98,12 +99,12 @@ pub fn group_heads<L: Ledger>(alloc: Global, g: &Bat, steps: &mut Steps<L>) -> R
 fn first_heads(alloc: Global, g: &Bat) -> Result<Bat, Memory>
     ensures { IfOk result (λ out. out ≡ group_heads_of g.now) }
 {
-    let mut numbers = HashMap::new(alloc);
+    let mut firsts = Firsts::Oids;
     let mut count = 0;
     let mut out = BatBuilder::new(alloc);
     for i in 0..g.len() {
         let known = count;
-        let number = number_of(&mut numbers, &mut count, g.tails().copy(i)?)?;
+        let number = firsts.number(alloc, &mut count, g.tails().copy(i)?)?;
         if number == known {
             out.append(alloc, Cell::Oid(number), g.heads().copy(i)?)?;
         }

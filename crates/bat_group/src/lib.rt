@@ -6,6 +6,7 @@
 //! number by its first occurrence, and Nil is the same as Nil there.
 #![tactic(auto)]
 
+mod firsts;
 mod grouping;
 mod numbers;
 mod subtotals;

@@ -7,12 +7,11 @@ ghost use Rattle.cell_core.specs.Groups.{counted, summed, least, greatest, by_gr
 ghost use Rattle.cell_calc.specs.Aggregates.{aggregate_of};
 ghost use Rattle.bat_group.specs.Members.{members_of};
 
-use crate::numbers::number_of;
+use crate::firsts::Firsts;
 use bat_core::{Bat, BatBuilder, Cells};
 use cell_calc::Aggregate;
 use cell_core::{Cell, Memory, Steps};
 use std::alloc::Global;
-use std::collections::HashMap;
 use std::sync::ledger::Ledger;
 
 /// For each distinct tail of `g`, by its first occurrence: an oid from 0, and how many of the
@@ -110,11 +109,11 @@ fn group_totals(
 ) -> Result<Vec<Cell>, Memory>
     ensures { IfOk result (λ out. out.items ≡ map (λ group. aggregate_of aggregate (members_of cells.now groups.now group)) (distinct same_cell groups.now)) }
 {
-    let mut numbers = HashMap::new(alloc);
+    let mut firsts = Firsts::Oids;
     let mut count = 0;
     let mut totals = Vec::new(alloc);
     for i in 0..groups.len() {
-        let number = number_of(&mut numbers, &mut count, groups.copy(i)?)?;
+        let number = firsts.number(alloc, &mut count, groups.copy(i)?)?;
         begin_total(aggregate, number, &mut totals)?;
         add_beside(aggregate, i, cells, &mut totals[number as usize])?;
     }

@@ -6,8 +6,9 @@ use Rattle.cell_core.specs.declared.cell.Cell.TheVariants.{Nil, Oid}
 use Rattle.cell_core.specs.Same.{same_cell, same_equivalence}
 use Rattle.cell_core.specs.Pairs.{heads_of, tails_of}
 use Rattle.cell_core.specs.Groups.{distinct, group_heads_of}
-use Rattle.bat_group.specs.Numbers.{AreNumbered}
+use Rattle.bat_group.specs.Numbers.{AreFirsts}
 use Rattle.bat_group.proofs.NumberLemmas.{distinct_next}
+use Rattle.bat_group.proofs.FirstLemmas.{firsts_counted}
 use Rattle.bat_group.proofs.GroupLemmas.{heads_next, heads_stay, length-tails, length-group_heads, pair_read, head_read}
 use Rattle.bat_group.proofs.grouping.first_heads.Goals as goal
 use Rattle.bat_group.proofs.grouping.first_heads.Goals.{then-number-known+in_ok-copy-2+in_ok-append, else-number-known}
@@ -26,9 +27,9 @@ loop-i-preserved c =
     let known = c.loop-i.invariant.known in
     let number : n ≡ position_or_len (λ y. same_cell y key) (distinct same_cell (take i (tails_of g))) = c.in_ok-number.ensures.place _ known in
     let groups : c.loop-i.count ≡ length (group_heads_of (take i g)) =
-    known.counted ∙ ap (λ l. length (distinct same_cell l)) (take-map (λ q. q.1) i g) ∙ sym (length-group_heads (take i g)) in
+    firsts_counted _ _ _ known ∙ ap (λ l. length (distinct same_cell l)) (take-map (λ q. q.1) i g) ∙ sym (length-group_heads (take i g)) in
     record {
-      known = subst (AreNumbered same_cell _ _) (sym (distinct_next same_cell same_equivalence (tails_of g) i key inside is)) (c.in_ok-number.ensures.numbered _ known);
+      known = subst (AreFirsts _ _) (sym (distinct_next same_cell same_equivalence (tails_of g) i key inside is)) (c.in_ok-number.ensures.numbered _ known);
       few = omega (arith, c.in_ok-number.ensures.few);
       so_far = elim c.if-number-known.branch [
         | then-number-known+in_ok-copy-2+in_ok-append w ↦

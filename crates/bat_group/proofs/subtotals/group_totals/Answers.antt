@@ -4,7 +4,7 @@ use Rattle.std.proofs.lemmas.List.{length-map}
 use Rattle.cell_core.specs.declared.cell.Cell.TheVariants.{Nil}
 use Rattle.cell_core.specs.Same.{same_cell, same_equivalence}
 use Rattle.cell_core.specs.Groups.{distinct}
-use Rattle.bat_group.specs.Numbers.{AreNumbered}
+use Rattle.bat_group.specs.Numbers.{AreFirsts}
 use Rattle.cell_calc.specs.Aggregates.{aggregate_of}
 use Rattle.bat_group.specs.Members.{members_of}
 use Rattle.bat_group.proofs.NumberLemmas.{distinct_next}
@@ -40,7 +40,7 @@ loop-i-preserved c =
     let value : c.begin_total.new.totals.items ≡ map (before A cells groups i key inside is) (firsts_now A cells groups i key inside is) =
     begun A cells groups i key inside is n c.loop-i.totals.items c.begin_total.new.totals.items number c.loop-i.invariant.value c.in_ok-begin_total.ensures in
     record {
-      known = subst (AreNumbered same_cell _ _) (sym (distinct_next same_cell same_equivalence groups i key inside is)) (c.in_ok-number.ensures.numbered _ c.loop-i.invariant.known);
+      known = subst (AreFirsts _ _) (sym (distinct_next same_cell same_equivalence groups i key inside is)) (c.in_ok-number.ensures.numbered _ c.loop-i.invariant.known);
       few = omega (arith, c.in_ok-number.ensures.few);
       value = finished A cells groups i key inside is n c.begin_total.new.totals.items c.add_beside.new.total number value
           (c.in_ok-add_beside.ensures (members_of cells (take i groups) (get_or (firsts_now A cells groups i key inside is) n Nil))
