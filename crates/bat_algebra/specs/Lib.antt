@@ -1,3 +1,4 @@
 pub mod Flags
 pub mod Heads
 pub mod Places
+pub mod Merged

@@ -9,6 +9,7 @@
 mod flags;
 mod heads;
 mod mark;
+mod merge;
 mod places;
 mod product;
 mod range;
@@ -16,6 +17,7 @@ mod turn;
 
 pub use heads::{kdifference, kunion, semijoin};
 pub use mark::mark_t;
+pub use merge::merge_by_heads;
 pub use product::{cross, project};
 pub use range::select;
 pub use turn::{mirror, reverse};

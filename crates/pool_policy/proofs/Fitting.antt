@@ -1,7 +1,7 @@
 -- What a pool hands to the calls below is what these ask for.
 use Rattle.std.proofs.Common.{◌≡◌, ℕ, ◌+◌, ◌^◌, ◌≤◌, ◌<◌, List, [], ◌∷◌, true, false, Option, Some, None, inl, inr, refl, ap, sym, ◌∙◌, subst, arith, length, map}
 use Rattle.std.proofs.lemmas.List.{length-map}
-use Rattle.std.specs.Prelude.{if◌then◌else◌, nat_eq}
+use Rattle.std.specs.Prelude.{All, if◌then◌else◌, nat_eq}
 use Rattle.std.specs.List.{IsDistinct, filter_map, cons_option}
 use Rattle.std.proofs.lemmas.Bool.Decides.{Decides-eqb}
 use Rattle.std.proofs.lemmas.List.Sums.{sum_by-cons}
@@ -14,10 +14,10 @@ use Rattle.least_cover.specs.Chosen.{Selection}
 use Rattle.evict_admit.specs.declared.plan.Row.{Row}
 use Rattle.subsume.proofs.Members.{In, all_from_in, map_in, in_map}
 use Rattle.pool_policy.specs.declared.entry.PoolEntry.{PoolEntry}
-use Rattle.pool_policy.specs.Pool.{pool_bytes}
+use Rattle.pool_policy.specs.Pool.{PoolState, pool_bytes}
 use Rattle.pool_policy.specs.Looks.{selection_from, selections_from}
 use Rattle.pool_policy.specs.Admits.{row_of, rows_of}
-use Rattle.pool_policy.specs.Keeps.{Face, face_of, faces, Rises, IsCounted}
+use Rattle.pool_policy.specs.Keeps.{Face, face_of, faces, Rises, IsCounted, IsPoolWithin}
 use Rattle.pool_policy.specs.Fits.{PoolsFit}
 use Rattle.pool_policy.proofs.Lists.{all_at}
 use Rattle.chunk_core.proofs.FactLemmas.{length-le-bytes}
@@ -55,6 +55,31 @@ distinct_ids kept from next (e ∷ es) up = (
   distinct_ids kept (e.id + 1) next es up.1,
 )
 
+-- rows that can be weighed, whatever the bytes of their entries are within
+pub ids_fit : (kept : List ℕ) (budget : ℕ) (pool : PoolState) → IsPoolWithin budget pool → All (λ (r : Row). 0 < r.id) (rows_of kept pool.entries)
+ids_fit kept budget pool known = all_from_in (λ (r : Row). 0 < r.id) (rows_of kept pool.entries) (λ r i.
+    let e = map_in (row_of kept) pool.entries r i in
+    let id = ap (λ (r : Row). r.id) e.2 in
+    let low = all_at (λ (f : Face). (1 ≤ f.id) × (f.id < pool.next)) (faces pool.entries) (face_of e.0) (ids_below 1 pool.next (faces pool.entries) known.rising) (in_map face_of pool.entries e.0 e.1) in
+    omega (arith, id, low.0))
+
+pub apart_fit : (kept : List ℕ) (budget : ℕ) (pool : PoolState) → IsPoolWithin budget pool → IsDistinct nat_eq (map (λ (r : Row). r.id) (rows_of kept pool.entries))
+apart_fit kept budget pool known = distinct_ids kept 1 pool.next pool.entries known.rising
+
+pub range_fit : (kept : List ℕ) (budget : ℕ) (pool : PoolState) (now : ℕ) → IsPoolWithin budget pool → pool.moment < 2 ^ 30 → now < 2 ^ 30 → All (λ (r : Row). IsInRange r.stats now) (rows_of kept pool.entries)
+range_fit kept budget pool now known moment present = all_from_in (λ (r : Row). IsInRange r.stats now) (rows_of kept pool.entries) (λ r i.
+    let e = map_in (row_of kept) pool.entries r i in
+    let c = all_at (IsCounted pool.moment) pool.entries e.0 known.counted e.1 in
+    subst (λ (r : Row). IsInRange r.stats now) (sym e.2) (record {
+      class = c.class;
+      work = c.work;
+      reuses = omega (arith, c.reuses, moment);
+      others = omega (arith, c.others, moment);
+      admitted = omega (arith, c.admitted, moment);
+      used = omega (arith, c.used, moment);
+      present = omega (arith, present);
+    }))
+
 pub pools_fit_all : PoolsFit
 pools_fit_all pool now known places budget moment present = record {
   few = λ parent. let less = shorter (selection_from parent) pool.entries in omega (arith, less, known.places, places);
@@ -67,22 +92,7 @@ pools_fit_all pool now known places budget moment present = record {
       let pairs = (from_entry parent from.0 s from.2).3 in
       omega (arith, told, short, one, pairs, known.bytes, budget));
   rows = λ kept. let many = rows_length kept pool.entries in omega (arith, many, known.places, places);
-  ids = λ kept. all_from_in (λ (r : Row). 0 < r.id) (rows_of kept pool.entries) (λ r i.
-      let e = map_in (row_of kept) pool.entries r i in
-      let id = ap (λ (r : Row). r.id) e.2 in
-      let low = all_at (λ (f : Face). (1 ≤ f.id) × (f.id < pool.next)) (faces pool.entries) (face_of e.0) (ids_below 1 pool.next (faces pool.entries) known.rising) (in_map face_of pool.entries e.0 e.1) in
-      omega (arith, id, low.0));
-  apart = λ kept. distinct_ids kept 1 pool.next pool.entries known.rising;
-  range = λ kept. all_from_in (λ (r : Row). IsInRange r.stats now) (rows_of kept pool.entries) (λ r i.
-      let e = map_in (row_of kept) pool.entries r i in
-      let c = all_at (IsCounted pool.moment) pool.entries e.0 known.counted e.1 in
-      subst (λ (r : Row). IsInRange r.stats now) (sym e.2) (record {
-        class = c.class;
-        work = c.work;
-        reuses = omega (arith, c.reuses, moment);
-        others = omega (arith, c.others, moment);
-        admitted = omega (arith, c.admitted, moment);
-        used = omega (arith, c.used, moment);
-        present = omega (arith, present);
-      }));
+  ids = λ kept. ids_fit kept pool.options.budget pool known;
+  apart = λ kept. apart_fit kept pool.options.budget pool known;
+  range = λ kept. range_fit kept pool.options.budget pool now known moment present;
 }

@@ -18,7 +18,7 @@ use Rattle.lineage_key.specs.Parents.{is_bind}
 use Rattle.append_laws.specs.Grown.{raised, stand_below, grown, AreGrown, HasBat}
 use Rattle.append_laws.proofs.Appends.{selected_append, reversed_append, mirrored_append, projected_append, marked_append, joined_append, joined_grown, joined_both}
 use Rattle.append_laws.proofs.Calculated.{calculated_append}
-use Rattle.pool_policy.specs.Writes.{Source, as_deltas, has_length, have_one_length, of_one, of_mark, of_calculation, of_join, delta_of}
+use Rattle.pool_policy.specs.Writes.{Source, as_deltas, has_length, have_one_length, of_selection, of_sole, of_projection, of_mark, of_calculation, of_two, of_single, of_join, delta_of}
 use Rattle.pool_policy.specs.Writes.Source.{Plain, Same, Grown}
 use Rattle.pool_policy.specs.Writes.Growth.{Runs, Nothing, NoForm}
 use Rattle.pool_policy.specs.WriteLaws.{IsGrown, old_value, new_value, GrowthsServe}
@@ -31,7 +31,7 @@ bat_of b = Some (Bat b)
 -- ## One BAT
 
 select_grows : (rows : ℕ) (sources : List Source) (b d : Pairs) → AllByRecursion (IsGrown rows) sources
-    → of_range (map old_value sources) ≡ Some (Bat b) → delta_of op.Select (of_one sources) ≡ Some d → of_range (map new_value sources) ≡ Some (Bat (b ++ d))
+    → of_range (map old_value sources) ≡ Some (Bat b) → delta_of op.Select (of_selection sources) ≡ Some d → of_range (map new_value sources) ≡ Some (Bat (b ++ d))
 select_grows rows (Grown r ∷ Plain low ∷ Plain high ∷ Plain li ∷ Plain hi ∷ []) b d known e h =
     let old : selected low high (is_true li) (is_true hi) r.old.value ≡ b = cc in
     let new : selected low high (is_true li) (is_true hi) r.delta ≡ d = cc in
@@ -42,7 +42,7 @@ select_grows rows _ b d known e h = cc
 
 -- an operator on one BAT that goes on with what follows it
 bat_grows : (o : Op) (f : Pairs → Pairs) → ((b d : Pairs) → f (b ++ d) ≡ f b ++ f d) → (operate o ≡ of_bat (λ b. Bat (f b))) → (rows : ℕ) (sources : List Source) (b d : Pairs) → AllByRecursion (IsGrown rows) sources
-    → of_bat (λ b. Bat (f b)) (map old_value sources) ≡ Some (Bat b) → delta_of o (of_one sources) ≡ Some d → of_bat (λ b. Bat (f b)) (map new_value sources) ≡ Some (Bat (b ++ d))
+    → of_bat (λ b. Bat (f b)) (map old_value sources) ≡ Some (Bat b) → delta_of o (of_sole sources) ≡ Some d → of_bat (λ b. Bat (f b)) (map new_value sources) ≡ Some (Bat (b ++ d))
 bat_grows o f law is rows (Grown r ∷ []) b d known e h =
     let old : f r.old.value ≡ b = cc in
     let run : option_and_then as_bat (of_bat (λ b. Bat (f b)) (Bat r.delta ∷ [])) ≡ Some d = ap (λ g. option_and_then as_bat (g (Bat r.delta ∷ []))) (sym is) ∙ h in
@@ -59,7 +59,7 @@ bat_grows o f law is rows (s ∷ t ∷ sources) b d known e h = two s e
     two (Grown r) e = cc
 
 project_grows : (rows : ℕ) (sources : List Source) (b d : Pairs) → AllByRecursion (IsGrown rows) sources
-    → operate op.Project (map old_value sources) ≡ Some (Bat b) → delta_of op.Project (of_one sources) ≡ Some d → operate op.Project (map new_value sources) ≡ Some (Bat (b ++ d))
+    → operate op.Project (map old_value sources) ≡ Some (Bat b) → delta_of op.Project (of_projection sources) ≡ Some d → operate op.Project (map new_value sources) ≡ Some (Bat (b ++ d))
 project_grows rows (Grown r ∷ Plain cell ∷ []) b d known e h =
     let old : projected cell r.old.value ≡ b = cc in
     let new : projected cell r.delta ≡ d = cc in
@@ -169,6 +169,19 @@ calculation_grows o f is rows sources b d known e h = lengths (have_one_length s
     lengths false one h = cc
     lengths true one h = told one (as_deltas sources) refl h
 
+two_grows : (o : Op) (f : List Cell → Option Cell) → (operate o ≡ calculated f) → (rows : ℕ) (sources : List Source) (b d : Pairs) → AllByRecursion (IsGrown rows) sources
+    → calculated f (map old_value sources) ≡ Some (Bat b) → delta_of o (of_two sources) ≡ Some d → calculated f (map new_value sources) ≡ Some (Bat (b ++ d))
+two_grows o f is rows [] b d known e h = cc
+two_grows o f is rows (x ∷ []) b d known e h = cc
+two_grows o f is rows (x ∷ y ∷ []) b d known e h = calculation_grows o f is rows (x ∷ y ∷ []) b d known e h
+two_grows o f is rows (x ∷ y ∷ z ∷ sources) b d known e h = cc
+
+single_grows : (o : Op) (f : List Cell → Option Cell) → (operate o ≡ calculated f) → (rows : ℕ) (sources : List Source) (b d : Pairs) → AllByRecursion (IsGrown rows) sources
+    → calculated f (map old_value sources) ≡ Some (Bat b) → delta_of o (of_single sources) ≡ Some d → calculated f (map new_value sources) ≡ Some (Bat (b ++ d))
+single_grows o f is rows [] b d known e h = cc
+single_grows o f is rows (x ∷ []) b d known e h = calculation_grows o f is rows (x ∷ []) b d known e h
+single_grows o f is rows (x ∷ y ∷ sources) b d known e h = cc
+
 pub growths_serve : GrowthsServe
 growths_serve rows op.Select sources b d known e h = select_grows rows sources b d known e h
 growths_serve rows op.Reverse sources b d known e h = bat_grows op.Reverse reversed reversed_append refl rows sources b d known e h
@@ -176,14 +189,14 @@ growths_serve rows op.Mirror sources b d known e h = bat_grows op.Mirror mirrore
 growths_serve rows op.Project sources b d known e h = project_grows rows sources b d known e h
 growths_serve rows op.MarkT sources b d known e h = mark_grows rows sources b d known e h
 growths_serve rows op.Join sources b d known e h = join_grows rows sources b d known e h
-growths_serve rows op.Eq sources b d known e h = calculation_grows op.Eq _ refl rows sources b d known e h
-growths_serve rows op.Ne sources b d known e h = calculation_grows op.Ne _ refl rows sources b d known e h
-growths_serve rows op.Lt sources b d known e h = calculation_grows op.Lt _ refl rows sources b d known e h
-growths_serve rows op.Le sources b d known e h = calculation_grows op.Le _ refl rows sources b d known e h
-growths_serve rows op.Gt sources b d known e h = calculation_grows op.Gt _ refl rows sources b d known e h
-growths_serve rows op.Ge sources b d known e h = calculation_grows op.Ge _ refl rows sources b d known e h
-growths_serve rows op.And sources b d known e h = calculation_grows op.And _ refl rows sources b d known e h
-growths_serve rows op.Or sources b d known e h = calculation_grows op.Or _ refl rows sources b d known e h
-growths_serve rows op.Not sources b d known e h = calculation_grows op.Not _ refl rows sources b d known e h
-growths_serve rows op.IsNil sources b d known e h = calculation_grows op.IsNil _ refl rows sources b d known e h
+growths_serve rows op.Eq sources b d known e h = two_grows op.Eq _ refl rows sources b d known e h
+growths_serve rows op.Ne sources b d known e h = two_grows op.Ne _ refl rows sources b d known e h
+growths_serve rows op.Lt sources b d known e h = two_grows op.Lt _ refl rows sources b d known e h
+growths_serve rows op.Le sources b d known e h = two_grows op.Le _ refl rows sources b d known e h
+growths_serve rows op.Gt sources b d known e h = two_grows op.Gt _ refl rows sources b d known e h
+growths_serve rows op.Ge sources b d known e h = two_grows op.Ge _ refl rows sources b d known e h
+growths_serve rows op.And sources b d known e h = two_grows op.And _ refl rows sources b d known e h
+growths_serve rows op.Or sources b d known e h = two_grows op.Or _ refl rows sources b d known e h
+growths_serve rows op.Not sources b d known e h = single_grows op.Not _ refl rows sources b d known e h
+growths_serve rows op.IsNil sources b d known e h = single_grows op.IsNil _ refl rows sources b d known e h
 growths_serve rows _ sources b d known e h = cc

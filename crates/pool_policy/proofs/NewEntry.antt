@@ -80,7 +80,7 @@ number_pushed n shape (s ∷ shapes) = elim (same_shape s shape) as (λ b. (k : 
 abbrev pub HasNumber : Offer → PoolState → Type 0
 HasNumber offer pool = (0 < shape_number offer pool) × (shape_number offer pool ≤ length pool.shapes)
 
-none_with : (es : List PoolEntry) → AllByRecursion (λ (e : PoolEntry). e.shape ≤ 0) es → AllByRecursion (λ (e : PoolEntry). 0 < e.shape) es → es ≡ []
+pub none_with : (es : List PoolEntry) → AllByRecursion (λ (e : PoolEntry). e.shape ≤ 0) es → AllByRecursion (λ (e : PoolEntry). 0 < e.shape) es → es ≡ []
 none_with [] h k = refl
 none_with (e ∷ es) h k = absurd (omega (arith, h.0, k.0))
 

@@ -78,16 +78,18 @@ pub data Growth : Type 0 where
 abbrev pub of_rows : ℕ → List ℕ → List (List ℕ × Pairs) → Growth
 of_rows old_rows column added = option_map_or (λ (c : List ℕ × Pairs). NewRows (drop old_rows c.1)) (find (λ (c : List ℕ × Pairs). bytes_eq c.0 column) added) NoForm
 
--- constants alone
-abbrev pub as_constants : List Source → Option (List Value)
-as_constants [] = Some []
-as_constants (Plain c ∷ sources) = option_map (λ values. One c ∷ values) (as_constants sources)
-as_constants _ = None
+-- the operator over what follows a BAT that came back: in a range, alone, or beside a cell
+abbrev pub of_selection : List Source → Growth
+of_selection (Grown r ∷ Plain low ∷ Plain high ∷ Plain li ∷ Plain hi ∷ []) = Runs (Bat r.delta ∷ One low ∷ One high ∷ One li ∷ One hi ∷ [])
+of_selection _ = NoForm
 
--- a BAT that came back, and constants: the operator over what follows the BAT
-abbrev pub of_one : List Source → Growth
-of_one (Grown r ∷ sources) = option_map_or (λ values. Runs (Bat r.delta ∷ values)) (as_constants sources) NoForm
-of_one _ = NoForm
+abbrev pub of_sole : List Source → Growth
+of_sole (Grown r ∷ []) = Runs (Bat r.delta ∷ [])
+of_sole _ = NoForm
+
+abbrev pub of_projection : List Source → Growth
+of_projection (Grown r ∷ Plain cell ∷ []) = Runs (Bat r.delta ∷ One cell ∷ [])
+of_projection _ = NoForm
 
 -- a mark: it goes on counting
 abbrev pub of_mark : List Source → Growth
@@ -115,6 +117,14 @@ have_one_length (source ∷ sources) = option_map_or (λ n. list_all (has_length
 abbrev pub of_calculation : List Source → Growth
 of_calculation sources = if have_one_length sources then option_map_or Runs (as_deltas sources) NoForm else NoForm
 
+abbrev pub of_two : List Source → Growth
+of_two (x ∷ y ∷ []) = of_calculation (x ∷ y ∷ [])
+of_two _ = NoForm
+
+abbrev pub of_single : List Source → Growth
+of_single (x ∷ []) = of_calculation (x ∷ [])
+of_single _ = NoForm
+
 -- a join: its left side came back and its right side isn't touched; or its right side is a bind and no old tail on the left can meet a new row
 abbrev pub of_join : ℕ → List Source → Growth
 of_join old_rows (Grown l ∷ Same r ∷ []) = Runs (Bat l.delta ∷ Bat r ∷ [])
@@ -124,22 +134,22 @@ of_join old_rows _ = NoForm
 
 -- the append form of each operator
 abbrev pub grows : ℕ → Op → List Source → Growth
-grows old_rows op.Select = of_one
-grows old_rows op.Reverse = of_one
-grows old_rows op.Mirror = of_one
-grows old_rows op.Project = of_one
+grows old_rows op.Select = of_selection
+grows old_rows op.Reverse = of_sole
+grows old_rows op.Mirror = of_sole
+grows old_rows op.Project = of_projection
 grows old_rows op.MarkT = of_mark
 grows old_rows op.Join = of_join old_rows
-grows old_rows op.Eq = of_calculation
-grows old_rows op.Ne = of_calculation
-grows old_rows op.Lt = of_calculation
-grows old_rows op.Le = of_calculation
-grows old_rows op.Gt = of_calculation
-grows old_rows op.Ge = of_calculation
-grows old_rows op.And = of_calculation
-grows old_rows op.Or = of_calculation
-grows old_rows op.Not = of_calculation
-grows old_rows op.IsNil = of_calculation
+grows old_rows op.Eq = of_two
+grows old_rows op.Ne = of_two
+grows old_rows op.Lt = of_two
+grows old_rows op.Le = of_two
+grows old_rows op.Gt = of_two
+grows old_rows op.Ge = of_two
+grows old_rows op.And = of_two
+grows old_rows op.Or = of_two
+grows old_rows op.Not = of_single
+grows old_rows op.IsNil = of_single
 grows old_rows _ = λ sources. NoForm
 
 -- what follows the old value

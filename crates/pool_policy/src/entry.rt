@@ -1,4 +1,4 @@
-ghost use Rattle.std.specs.Prelude.{◌≡◌, ◌<◌, ◌^◌};
+ghost use Rattle.std.specs.Prelude.{◌≡◌, ◌<◌, ◌^◌, []};
 ghost use Rattle.pool_policy.specs.Admits.{is_held, pays_at_end, row_of, unpinned};
 ghost use Rattle.pool_policy.specs.Looks.{is_own, pays_back, pinned, used};
 ghost use Rattle.lineage_key.specs.Parents.{parents_of};
@@ -100,6 +100,19 @@ impl PoolEntry {
         ensures { result ≡ is_held self.now }
     {
         self.pins.iter().any(|pin| *pin)
+    }
+
+    /// It as it is weighed where no parent has to be kept.
+    pub fn row_alone(&self) -> Row
+        ensures { result ≡ row_of [] self.now }
+    {
+        Row {
+            id: self.id,
+            bytes: self.bytes,
+            free: !self.is_held(),
+            parents: self.key.parents(),
+            stats: self.stats,
+        }
     }
 
     /// It as it is weighed where a result with this key is to be admitted, whose parents are kept.

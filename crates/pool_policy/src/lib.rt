@@ -18,6 +18,7 @@ mod keyed;
 mod laws;
 mod options;
 mod touched;
+mod touching;
 
 pub use entry::{PoolEntry, Who};
 pub use keyed::{place_of_id, place_of_key};
@@ -27,3 +28,4 @@ pub use laws::{
 };
 pub use options::{Admit, Admitted, PoolOptions};
 pub use touched::Touched;
+pub use touching::{is_among, note_touched};

@@ -20,7 +20,7 @@ use Rattle.recycle_pool.proofs.Answered.{IsShaped}
 pub plannable : (now : ℕ) (p : Inside) (shown : List PoolEntry) → IsKept p → now < 2 ^ 30 → shown ≡ p.entries.items → IsPlannable now shown
 plannable now p shown known early same =
     let fit = pools_fit_all (pool_shown p) now known.pool known.few known.budget known.moment early in
-    subst (IsPlannable now) (sym same) (record { few = omega (arith, known.pool.places, known.few); ids = fit.ids; apart = fit.apart; range = fit.range; bytes = omega (arith, known.pool.bytes, known.budget) })
+    subst (IsPlannable now) (sym same) (record { weighed = record { few = omega (arith, known.pool.places, known.few); ids = fit.ids; apart = fit.apart; range = fit.range }; bytes = omega (arith, known.pool.bytes, known.budget) })
 
 -- the plan is that of the policy
 pub run_from : (now : ℕ) (p : Inside) (offer : Offer) (shown : List PoolEntry) (bytes : ℕ) (run : Run) → shown ≡ p.entries.items → bytes ≡ offer_bytes offer

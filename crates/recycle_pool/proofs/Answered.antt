@@ -18,7 +18,7 @@ use Rattle.pool_policy.specs.Admits.{Offer, offer_bytes, number_from, with_shape
 use Rattle.pool_policy.specs.Keeps.{AreFunded, IsPool, IsOffer}
 use Rattle.pool_policy.proofs.Credits.{IsNumbered, funded_shape, paid_is}
 use Rattle.pool_policy.proofs.Lists.{all_filter, all_on}
-use Rattle.pool_policy.proofs.NewEntry.{admit_keeps}
+use Rattle.pool_policy.proofs.NewEntry.{admit_keeps, none_with}
 use Rattle.recycle_pool.specs.Usable.{IsNew, IsOwed, credit_with, shapes_with}
 use Rattle.std.proofs.lemmas.Option.{slice_get-get_or}
 
@@ -134,15 +134,11 @@ spent_is false spent n credit some none is out = out (none refl)
 
 -- ## What the new shape may pay back
 
-none_with : (es : List PoolEntry) → AllByRecursion (λ (e : PoolEntry). e.shape ≤ 0) es → AllByRecursion (λ (e : PoolEntry). 0 < e.shape) es → es ≡ []
-none_with [] h k = refl
-none_with (e ∷ es) h k = absurd (omega (arith, h.0, k.0))
-
 some_shape : (credit : List ℕ) (es : List PoolEntry) → AllByRecursion (IsNumbered (length credit)) es → AllByRecursion (λ (e : PoolEntry). 0 < e.shape) es → (0 < length credit) ⊎ (es ≡ [])
 some_shape [] es h k = inr (none_with es (all_on (IsNumbered 0) (λ (e : PoolEntry). e.shape ≤ 0) es (λ e _ x. x.0) h) k)
 some_shape (c ∷ credit) es h k = inl (omega arith)
 
-owed_from : (options : PoolOptions) (credits : Credits) (credit : List ℕ) (es : List PoolEntry) → credits.start ≡ options.credits → credits.each ≡ credit → AreFunded options credit es → IsOwed credits es
+pub owed_from : (options : PoolOptions) (credits : Credits) (credit : List ℕ) (es : List PoolEntry) → credits.start ≡ options.credits → credits.each ≡ credit → AreFunded options credit es → IsOwed credits es
 owed_from options credits credit es start each known =
     let funded : AreFunded options credits.each es = subst (λ cs. AreFunded options cs es) (sym each) known in
     record { each = λ t some low. let all = funded.each t some low in omega (arith, all, start); numbered = funded.numbered }

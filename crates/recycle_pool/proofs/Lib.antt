@@ -9,3 +9,4 @@ pub mod Numbers
 pub mod Planned
 pub mod Answered
 pub mod Admissions
+pub mod Carrying

@@ -1,15 +1,15 @@
 -- What is kept beside the state of a pool.
-use Rattle.std.proofs.Common.{◌≡◌, ◌+◌, ◌*◌, ◌^◌, ◌≤◌, ◌<◌, ap, sym, ◌∙◌, arith, length}
+use Rattle.std.proofs.Common.{◌≡◌, ◌+◌, ◌*◌, ◌^◌, ◌≤◌, ◌<◌, ap, sym, ◌∙◌, subst, arith, length}
 use Rattle.std.specs.Vec.{vec_capacity}
 use Rattle.pool_policy.specs.declared.options.PoolOptions.{PoolOptions}
 use Rattle.pool_policy.specs.Keeps.{IsPool}
 use Rattle.recycle_pool.specs.declared.pool.Pool.TheInside.{Inside}
-use Rattle.recycle_pool.specs.Views.{pool_shown, IsKept}
+use Rattle.recycle_pool.specs.Views.{pool_shown, HaveRoom, IsKept}
 
 -- a step that leaves a pool, with no less room, and adds few ids and shapes
 pub kept_on : (old new : Inside) → IsKept old → IsPool (pool_shown new) → new.options ≡ old.options → new.ledger.start ≡ old.ledger.start → new.moment < 2 ^ 30
-    → new.next ≤ 1024 * new.moment + 1 → length new.shapes.items ≤ new.moment → vec_capacity old.entries ≤ vec_capacity new.entries → IsKept new
-kept_on old new known pool options start moment next shapes room =
+    → new.next ≤ 1024 * new.moment + 1 → length new.shapes.items ≤ new.moment → vec_capacity old.entries ≤ vec_capacity new.entries → HaveRoom old.options.places new.lists → IsKept new
+kept_on old new known pool options start moment next shapes room lists =
     let places = ap (λ (o : PoolOptions). o.places) options in
     let budget = ap (λ (o : PoolOptions). o.budget) options in record {
       pool = pool;
@@ -20,4 +20,5 @@ kept_on old new known pool options start moment next shapes room =
       next = next;
       shapes = shapes;
       room = omega (arith, places, room, known.room);
+      lists = subst (λ (o : PoolOptions). HaveRoom o.places new.lists) (sym options) lists;
     }

@@ -37,12 +37,16 @@ shapes_with shape shapes = option_map_or (λ n. shapes) (number_from 1 shape sha
 abbrev pub credit_with : Shape → List Shape → ℕ → List ℕ → List ℕ
 credit_with shape shapes start credit = option_map_or (λ n. credit) (number_from 1 shape shapes) (credit ++ start ∷ [])
 
--- entries from which a plan of evictions can be made
-pub record IsPlannable (now : ℕ) (entries : List PoolEntry) : Type 0 where
+-- entries that can be weighed against each other
+pub record IsWeighable (now : ℕ) (entries : List PoolEntry) : Type 0 where
   pub few : length entries ≤ 1024
   pub ids : (kept : List ℕ) → All (λ (r : Row). 0 < r.id) (rows_of kept entries)
   pub apart : (kept : List ℕ) → IsDistinct nat_eq (map (λ (r : Row). r.id) (rows_of kept entries))
   pub range : (kept : List ℕ) → All (λ (r : Row). IsInRange r.stats now) (rows_of kept entries)
+
+-- entries from which a plan of evictions can be made
+pub record IsPlannable (now : ℕ) (entries : List PoolEntry) : Type 0 where
+  pub weighed : IsWeighable now entries
   pub bytes : pool_bytes entries < 2 ^ 62
 
 -- an offer that isn't pooled and can be: its key is new, its version is the present one, and its parents are pooled

@@ -1,12 +1,19 @@
 -- What a pool shows, and what it keeps beside.
-use Rattle.std.specs.Prelude.{◌≡◌, ◌+◌, ◌*◌, ◌≤◌, ◌<◌, ◌^◌, length}
+use Rattle.std.specs.Prelude.{◌≡◌, ◌+◌, ◌*◌, ◌≤◌, ◌<◌, ◌^◌, ℕ, length}
 use Rattle.std.specs.Vec.{vec_capacity}
 use Rattle.pool_policy.specs.Pool.{PoolState}
 use Rattle.pool_policy.specs.Keeps.{IsPool}
+use Rattle.recycle_pool.specs.declared.lists.Lists.{Lists}
 use Rattle.recycle_pool.specs.declared.pool.Pool.TheInside.{Inside}
 
 abbrev pub pool_shown : Inside → PoolState
 pool_shown p = record { options = p.options; entries = p.entries.items; next = p.next; moment = p.moment; shapes = p.shapes.items; credit = p.ledger.each }
+
+-- room for so many elements in each list
+pub record HaveRoom (places : ℕ) (lists : Lists) : Type 0 where
+  pub touched : places ≤ vec_capacity lists.touched
+  pub gone : places ≤ vec_capacity lists.gone
+  pub rows : places ≤ vec_capacity lists.rows
 
 -- it is a pool, each shape starts with the credit of the options, all places are taken at the start, and there are few ids and shapes for its moment
 pub record IsKept (p : Inside) : Type 0 where
@@ -18,3 +25,4 @@ pub record IsKept (p : Inside) : Type 0 where
   pub next : p.next ≤ 1024 * p.moment + 1
   pub shapes : length p.shapes.items ≤ p.moment
   pub room : p.options.places ≤ vec_capacity p.entries
+  pub lists : HaveRoom p.options.places p.lists

@@ -117,17 +117,7 @@ impl Pool {
         ensures moment { OnOk result (self.new.moment ≡ now) }
         ensures err { OnErr result (self.new ≡ self.old) }
     {
-        let alloc = *self.entries.allocator();
         let bytes = bytes_of(&offered.key, &offered.value);
-        let plan = plan_room(
-            alloc,
-            self.entries.as_slice(),
-            &self.options,
-            scorer,
-            now,
-            &offered.key,
-            bytes,
-        )?;
         let shape = give_number(
             &mut self.shapes,
             &mut self.ledger,
@@ -139,20 +129,33 @@ impl Pool {
         if is_spent(&self.ledger, shape) {
             return Ok(Admitted::NoCredit(shape));
         }
-        if !plan.enough {
-            let left = left_bytes(self.entries.as_slice(), plan.gone.as_slice());
+        let enough = plan_room(
+            &mut self.lists,
+            self.entries.as_slice(),
+            &self.options,
+            scorer,
+            now,
+            &offered.key,
+            bytes,
+        );
+        if !enough {
+            let left = left_bytes(self.entries.as_slice(), self.lists.gone.as_slice());
             return Ok(Admitted::NoRoom(left));
         }
         let id = self.next;
         let entry = new_entry(id, shape, offered, bytes, who, now);
-        leave(&mut self.entries, &mut self.ledger, plan.gone.as_slice());
+        leave(
+            &mut self.entries,
+            &mut self.ledger,
+            self.lists.gone.as_slice(),
+        );
         pay(&mut self.ledger, shape);
         enter(&mut self.entries, entry);
         self.next = id + 1;
         Ok(Admitted::Taken {
             id,
             bytes,
-            gone: plan.gone.len() as u64,
+            gone: self.lists.gone.len() as u64,
         })
     }
 }

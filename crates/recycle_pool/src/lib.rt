@@ -10,9 +10,11 @@
 #![tactic(auto)]
 
 mod admit;
+mod carried;
 mod covers;
 mod finding;
 mod found;
+mod lists;
 mod look;
 mod offer;
 mod pool;
@@ -22,7 +24,11 @@ mod shapes;
 #[cfg(test)]
 mod tests;
 mod uses;
+mod write;
+mod written;
 
+pub use carried::Carried;
 pub use found::{Found, Part};
 pub use offer::Offered;
 pub use pool::Pool;
+pub use pool_policy::Touched;

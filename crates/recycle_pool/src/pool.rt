@@ -3,6 +3,7 @@ ghost use Rattle.std.specs.List.{slice_get};
 ghost use Rattle.pool_policy.specs.Pool.{empty_pool, pool_bytes};
 ghost use Rattle.pool_policy.specs.Admits.{release_of};
 
+use crate::lists::Lists;
 use crate::uses::{total_bytes, unpin_all};
 use bat_core::Shared;
 use cell_core::Memory;
@@ -21,6 +22,7 @@ pub struct Pool {
     pub(crate) moment: u64,
     pub(crate) shapes: Vec<Shape>,
     pub(crate) ledger: Ledger,
+    pub(crate) lists: Lists,
 }
 
 impl Model for Pool {
@@ -43,6 +45,7 @@ impl Pool {
         ensures { IfOk result (λ pool. pool ≡ empty_pool options) }
     {
         let entries = Vec::with_capacity(alloc, options.places as usize)?;
+        let lists = Lists::new(alloc, options.places as usize)?;
         let ledger = Ledger::new(alloc, options.credits);
         Ok(Pool {
             options,
@@ -51,6 +54,7 @@ impl Pool {
             moment: 0,
             shapes: Vec::new(alloc),
             ledger,
+            lists,
         })
     }
 
@@ -69,6 +73,22 @@ impl Pool {
     {
         let bytes = total_bytes(self.entries.as_slice());
         (self.entries.len() as u64, bytes)
+    }
+
+    /// The entries, in the order of their ids. Takes no memory.
+    pub fn entries(&self) -> &[PoolEntry]
+        ensures entries { result.now ≡ self.now.entries }
+        ensures few { length result.now ≤ 1024 }
+    {
+        self.entries.as_slice()
+    }
+
+    /// The id that the next entry gets. Takes no memory.
+    pub fn next_id(&self) -> u64
+        ensures id { result ≡ self.now.next }
+        ensures few { result < 2 ^ 62 }
+    {
+        self.next
     }
 
     /// The entry at a place in the order of ids, counted from 0. Takes no memory.

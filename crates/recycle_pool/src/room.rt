@@ -1,6 +1,5 @@
 //! Room for a new entry: which entries go, and what their leaving pays back.
-ghost use Rattle.std.specs.Prelude.{◌≡◌, ◌≢◌, ◌==◌, ◌&&◌, ◌++◌, ◌∷◌, ◌-◌, ◌+◌, ◌<◌, ◌≤◌, ◌^◌, [], All, IfOk, false, filter, length, map, nat_eq, not, slice_index, vec_len};
-ghost use Rattle.std.specs.List.{IsDistinct};
+ghost use Rattle.std.specs.Prelude.{◌≡◌, ◌≢◌, ◌==◌, ◌&&◌, ◌++◌, ◌∷◌, ◌-◌, ◌+◌, ◌<◌, ◌≤◌, ◌^◌, [], false, filter, length, not, slice_index, vec_len};
 ghost use Rattle.std.specs.Vec.{vec_capacity};
 ghost use Rattle.lineage_key.specs.Parents.{parents_of};
 ghost use Rattle.evict_admit.specs.Runs.{given_up, is_one_of};
@@ -9,71 +8,55 @@ ghost use Rattle.pool_policy.specs.Looks.{paid_back};
 ghost use Rattle.pool_policy.specs.Admits.{credit_of, left_without, one_less, pays_at_end, rows_of};
 ghost use Rattle.recycle_pool.specs.Usable.{IsOwed, IsPlannable};
 
+use crate::lists::Lists;
 use crate::uses::{pay_if, total_bytes};
-use cell_core::Memory;
 use evict_admit::{Ledger, Row, plan_evictions};
 use lineage_key::Key;
-use pool_policy::{PoolEntry, PoolOptions};
+use pool_policy::{PoolEntry, PoolOptions, is_among};
 use score_hook::Scorer;
-use std::alloc::Global;
 
-/// What is given up for a new entry.
-#[derive(Drop)]
-pub(crate) struct Plan {
-    /// The ids of the entries that go, in order.
-    pub(crate) gone: Vec<u64>,
-    /// Whether that is enough.
-    pub(crate) enough: bool,
-}
-
-/// The entries as they are weighed.
-fn fill_rows(alloc: Global, entries: &[PoolEntry], key: &Key) -> Result<Vec<Row>, Memory>
-    ensures { IfOk result (λ rows. rows.items ≡ rows_of (parents_of key.now) entries.now) }
+/// The entries as they are weighed where an entry with this key is to come.
+fn fill_rows(rows: &mut Vec<Row>, entries: &[PoolEntry], key: &Key)
+    requires { length entries.now ≤ vec_capacity rows.old }
+    ensures rows { rows.new.items ≡ rows_of (parents_of key.now) entries.now }
+    ensures room { vec_capacity rows.old ≤ vec_capacity rows.new }
 {
-    let mut rows = Vec::with_capacity(alloc, entries.len())?;
+    rows.clear();
     'rows: for i in 0..entries.len() {
-        rows.push(entries[i].row(key))?;
+        if rows.push(entries[i].row(key)).is_err() {
+            unreachable!();
+        }
     }
-    Ok(rows)
 }
 
-/// Which entries are given up for a new one of so many bytes, and whether that is enough.
+/// Lists which entries are given up for a new one of so many bytes. Whether that is enough.
 pub(crate) fn plan_room(
-    alloc: Global,
+    lists: &mut Lists,
     entries: &[PoolEntry],
     options: &PoolOptions,
     scorer: &Scorer,
     now: u64,
     key: &Key,
     bytes: u64,
-) -> Result<Plan, Memory>
+) -> bool
     requires kind { scorer.now.kind ≡ options.now.evict }
     requires weights { scorer.now.weights.items ≡ options.now.weights }
     requires plan { IsPlannable now entries.now }
     requires small { bytes < 2 ^ 62 }
-    ensures { IfOk result (λ plan. (plan.gone.items, plan.enough) ≡ given_up (score_at options.now now) (rows_of (parents_of key.now) entries.now) (pool_bytes entries.now + bytes - options.now.budget) (length entries.now + 1 - options.now.places)) }
+    requires rows { length entries.now ≤ vec_capacity lists.old.rows }
+    requires gone { length entries.now ≤ vec_capacity lists.old.gone }
+    ensures plan { (lists.new.gone.items, result) ≡ given_up (score_at options.now now) (rows_of (parents_of key.now) entries.now) (pool_bytes entries.now + bytes - options.now.budget) (length entries.now + 1 - options.now.places) }
+    ensures gone_room { vec_capacity lists.old.gone ≤ vec_capacity lists.new.gone }
+    ensures rows_room { vec_capacity lists.old.rows ≤ vec_capacity lists.new.rows }
+    ensures touched { lists.new.touched ≡ lists.old.touched }
 {
-    let rows = fill_rows(alloc, entries, key)?;
-    let mut gone = Vec::with_capacity(alloc, rows.len())?;
+    fill_rows(&mut lists.rows, entries, key);
+    lists.gone.clear();
     let total = u128::from(total_bytes(entries)) + u128::from(bytes);
     let need = total.saturating_sub(u128::from(options.budget));
     let slots = (entries.len() as u64 + 1).saturating_sub(options.places);
-    let enough = plan_evictions(rows.as_slice(), need, slots, scorer, now, &mut gone);
-    Ok(Plan { gone, enough })
-}
-
-/// Whether an id is among these.
-fn is_gone(gone: &[u64], id: u64) -> bool
-    ensures { result ≡ is_one_of gone.now id }
-{
-    let mut rest = gone;
-    'ids: while let [first, more @ ..] = rest {
-        if id == *first {
-            return true;
-        }
-        rest = more;
-    }
-    false
+    let rows = lists.rows.as_slice();
+    plan_evictions(rows, need, slots, scorer, now, &mut lists.gone)
 }
 
 /// The stated bytes of the entries whose ids aren't among these.
@@ -83,7 +66,7 @@ pub(crate) fn left_bytes(entries: &[PoolEntry], gone: &[u64]) -> u64
 {
     let mut total = 0;
     'entries: for i in 0..entries.len() {
-        if !is_gone(gone, entries[i].id) {
+        if !is_among(gone, entries[i].id) {
             total += entries[i].bytes;
         }
     }
@@ -94,7 +77,7 @@ pub(crate) fn left_bytes(entries: &[PoolEntry], gone: &[u64]) -> u64
 fn pays_then(entry: &PoolEntry, gone: &[u64]) -> bool
     ensures { result ≡ (is_one_of gone.now entry.now.id && pays_at_end entry.now) }
 {
-    is_gone(gone, entry.id) && entry.pays_at_end()
+    is_among(gone, entry.id) && entry.pays_at_end()
 }
 
 /// Of what leaves, what others used and what isn't paid back yet pays its credit back.
@@ -120,10 +103,18 @@ pub(crate) fn leave(entries: &mut Vec<PoolEntry>, ledger: &mut Ledger, gone: &[u
     ensures room { vec_capacity entries.new ≡ vec_capacity entries.old }
 {
     pay_leaving(ledger, entries.as_slice(), gone);
+    take_out(entries, gone);
+}
+
+/// The entries whose ids are among these are taken out.
+pub(crate) fn take_out(entries: &mut Vec<PoolEntry>, gone: &[u64])
+    ensures entries { entries.new.items ≡ left_without gone.now entries.old.items }
+    ensures room { vec_capacity entries.new ≡ vec_capacity entries.old }
+{
     entries.retain(
         |entry| -> bool
             ensures { result ≡ not (is_one_of gone.entry.now entry.entry.now.id) }
-        { !is_gone(gone, entry.id) },
+        { !is_among(gone, entry.id) },
     );
 }
 

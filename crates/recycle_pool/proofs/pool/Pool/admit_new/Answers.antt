@@ -1,6 +1,7 @@
 -- An admission of what is new leaves what the policy says.
 use Rattle.std.proofs.Common.{◌≡◌, ◌<◌, ◌++◌, [], ◌∷◌, List, length, ap, sym, ◌∙◌, subst, refl, arith}
 use Rattle.std.specs.Prelude.{ℕ, ◌&&◌, filter}
+use Rattle.std.specs.Vec.{vec_capacity}
 use Rattle.evict_admit.specs.Runs.{is_one_of}
 use Rattle.pool_policy.specs.declared.entry.PoolEntry.{PoolEntry}
 use Rattle.pool_policy.specs.Pool.{PoolState, has_credits, pool_bytes}
@@ -17,64 +18,74 @@ use Rattle.recycle_pool.proofs.Answered.{no_credit_is, no_room_is, owed_shaped, 
 use Rattle.recycle_pool.proofs.Stands.{kept_on}
 use Rattle.recycle_pool.proofs.pool.Pool.admit_new.Goals as goal
 
-pub plan_room-requires-clause-plan : goal.plan_room-requires-clause-plan
-plan_room-requires-clause-plan g c =
-    plannable c.args.now c.self.inside c.as_slice.result.now c.self.invariant c.requires.early c.as_slice.ensures.value
+pub plan_room-enough-requires-clause-plan : goal.plan_room-enough-requires-clause-plan
+plan_room-enough-requires-clause-plan g c =
+    plannable c.args.now c.self.inside c.as_slice-2.result.now c.self.invariant c.requires.early c.as_slice-2.ensures.value
+
+pub plan_room-enough-requires-clause-rows : goal.plan_room-enough-requires-clause-rows
+plan_room-enough-requires-clause-rows g c = let l = ap (λ (es : List PoolEntry). length es) c.as_slice-2.ensures.value in omega (arith, l, c.self.invariant.pool.places, c.self.invariant.lists.rows)
+
+pub plan_room-enough-requires-clause-gone : goal.plan_room-enough-requires-clause-gone
+plan_room-enough-requires-clause-gone g c = let l = ap (λ (es : List PoolEntry). length es) c.as_slice-2.ensures.value in omega (arith, l, c.self.invariant.pool.places, c.self.invariant.lists.gone)
 
 pub invariant_of-self-then-is_spent : goal.invariant_of-self-then-is_spent
 invariant_of-self-then-is_spent g c =
     let pool : PoolState = pool_shown c.self.inside in
     let offer : Offer = offer_in c.args.offered in
-    let shown : c.as_slice-2.result.now ≡ c.self.inside.entries.items = c.as_slice-2.ensures.value in
+    let shown : c.as_slice.result.now ≡ c.self.inside.entries.items = c.as_slice.ensures.value in
     let new : IsNew offer pool = subst (IsNew offer) (sym c.self.view_is) c.requires.new in
-    let shaped = shaped_from c.args.who c.args.now offer c.self.inside c.as_slice-2.result.now c.in_ok-shape.shape c.give_number.new.shapes.items c.give_number.new.ledger.each c.self.invariant shown new c.in_ok-shape.ensures.shapes c.in_ok-shape.ensures.each c.in_ok-shape.ensures.number in
+    let shaped = shaped_from c.args.who c.args.now offer c.self.inside c.as_slice.result.now c.in_ok-shape.shape c.give_number.new.shapes.items c.give_number.new.ledger.each c.self.invariant shown new c.in_ok-shape.ensures.shapes c.in_ok-shape.ensures.each c.in_ok-shape.ensures.number in
     let test = spent_is (has_credits c.self.inside.options) c.is_spent.result c.in_ok-shape.shape c.give_number.new.ledger.each c.in_ok-shape.ensures.marked c.in_ok-shape.ensures.none c.is_spent.ensures.spent c.is_spent.ensures.none in
     let later : c.self.inside.moment < c.args.now = let m = ap (λ (p : PoolState). p.moment) c.self.view_is in omega (arith, m, c.requires.later) in
     let fits = subst (λ (p : PoolState). IsOffer p offer) (sym c.self.view_is) c.requires.fits in
     let done = no_credit_is c.args.who c.args.now offer pool c.self.inside.ledger.start c.in_ok-shape.shape c.give_number.new.shapes.items c.give_number.new.ledger.each shaped c.is_spent.result test c.if-is_spent.true in
-    kept_on c.self.inside _ c.self.invariant (said_keeps c.args.who c.args.now offer pool _ _ done later c.self.invariant.pool fits) refl c.give_number.ensures.start c.requires.early (omega (arith, later, c.self.invariant.next)) (few_shapes c.self.inside c.args.now (shape_in c.as_slice-2.result.now c.args.offered.key) (has_credits c.self.inside.options) c.give_number.new.shapes.items c.self.invariant later c.in_ok-shape.ensures.shapes) (omega arith)
+    kept_on c.self.inside _ c.self.invariant (said_keeps c.args.who c.args.now offer pool _ _ done later c.self.invariant.pool fits) refl c.give_number.ensures.start c.requires.early (omega (arith, later, c.self.invariant.next)) (few_shapes c.self.inside c.args.now (shape_in c.as_slice.result.now c.args.offered.key) (has_credits c.self.inside.options) c.give_number.new.shapes.items c.self.invariant later c.in_ok-shape.ensures.shapes) (omega arith) c.self.invariant.lists
 
 pub returns-then-is_spent-clause-done : goal.returns-then-is_spent-clause-done
 returns-then-is_spent-clause-done g c =
     let pool : PoolState = pool_shown c.self.inside in
     let offer : Offer = offer_in c.args.offered in
-    let shown : c.as_slice-2.result.now ≡ c.self.inside.entries.items = c.as_slice-2.ensures.value in
+    let shown : c.as_slice.result.now ≡ c.self.inside.entries.items = c.as_slice.ensures.value in
     let new : IsNew offer pool = subst (IsNew offer) (sym c.self.view_is) c.requires.new in
-    let shaped = shaped_from c.args.who c.args.now offer c.self.inside c.as_slice-2.result.now c.in_ok-shape.shape c.give_number.new.shapes.items c.give_number.new.ledger.each c.self.invariant shown new c.in_ok-shape.ensures.shapes c.in_ok-shape.ensures.each c.in_ok-shape.ensures.number in
+    let shaped = shaped_from c.args.who c.args.now offer c.self.inside c.as_slice.result.now c.in_ok-shape.shape c.give_number.new.shapes.items c.give_number.new.ledger.each c.self.invariant shown new c.in_ok-shape.ensures.shapes c.in_ok-shape.ensures.each c.in_ok-shape.ensures.number in
     let test = spent_is (has_credits c.self.inside.options) c.is_spent.result c.in_ok-shape.shape c.give_number.new.ledger.each c.in_ok-shape.ensures.marked c.in_ok-shape.ensures.none c.is_spent.ensures.spent c.is_spent.ensures.none in
     no_credit_is c.args.who c.args.now offer pool c.self.inside.ledger.start c.in_ok-shape.shape c.give_number.new.shapes.items c.give_number.new.ledger.each shaped c.is_spent.result test c.if-is_spent.true ∙ ap (admit_of c.args.who c.args.now (offer_in c.args.offered)) c.self.view_is
 
-pub invariant_of-self-then-not-plan : goal.invariant_of-self-then-not-plan
-invariant_of-self-then-not-plan g c =
+pub invariant_of-self-then-not-enough : goal.invariant_of-self-then-not-enough
+invariant_of-self-then-not-enough g c =
     let pool : PoolState = pool_shown c.self.inside in
     let offer : Offer = offer_in c.args.offered in
-    let shown : c.as_slice-2.result.now ≡ c.self.inside.entries.items = c.as_slice-2.ensures.value in
+    let shown : c.as_slice.result.now ≡ c.self.inside.entries.items = c.as_slice.ensures.value in
     let new : IsNew offer pool = subst (IsNew offer) (sym c.self.view_is) c.requires.new in
-    let shaped = shaped_from c.args.who c.args.now offer c.self.inside c.as_slice-2.result.now c.in_ok-shape.shape c.give_number.new.shapes.items c.give_number.new.ledger.each c.self.invariant shown new c.in_ok-shape.ensures.shapes c.in_ok-shape.ensures.each c.in_ok-shape.ensures.number in
+    let shaped = shaped_from c.args.who c.args.now offer c.self.inside c.as_slice.result.now c.in_ok-shape.shape c.give_number.new.shapes.items c.give_number.new.ledger.each c.self.invariant shown new c.in_ok-shape.ensures.shapes c.in_ok-shape.ensures.each c.in_ok-shape.ensures.number in
     let test = spent_is (has_credits c.self.inside.options) c.is_spent.result c.in_ok-shape.shape c.give_number.new.ledger.each c.in_ok-shape.ensures.marked c.in_ok-shape.ensures.none c.is_spent.ensures.spent c.is_spent.ensures.none in
     let later : c.self.inside.moment < c.args.now = let m = ap (λ (p : PoolState). p.moment) c.self.view_is in omega (arith, m, c.requires.later) in
     let fits = subst (λ (p : PoolState). IsOffer p offer) (sym c.self.view_is) c.requires.fits in
-    let run = run_from c.args.now c.self.inside offer c.as_slice.result.now c.bytes_of-bytes.result (c.in_ok-plan.plan.gone.items, c.in_ok-plan.plan.enough) c.as_slice.ensures.value c.bytes_of-bytes.ensures.bytes c.in_ok-plan.ensures in
-    let left = c.left_bytes-left.ensures ∙ ap (λ (ids : List ℕ). pool_bytes (left_without ids c.as_slice-then-not-plan.result.now)) c.as_slice-then-not-plan-2.ensures.value ∙ ap (λ (es : List PoolEntry). pool_bytes (left_without c.in_ok-plan.plan.gone.items es)) c.as_slice-then-not-plan.ensures.value in
-    let done = no_room_is c.args.who c.args.now offer pool c.self.inside.ledger.start c.in_ok-shape.shape c.give_number.new.shapes.items c.give_number.new.ledger.each shaped c.is_spent.result c.in_ok-plan.plan.enough test c.if-is_spent.false c.in_ok-plan.plan.gone.items c.left_bytes-left.result c.if-not-plan.true run left in
-    kept_on c.self.inside _ c.self.invariant (said_keeps c.args.who c.args.now offer pool _ _ done later c.self.invariant.pool fits) refl c.give_number.ensures.start c.requires.early (omega (arith, later, c.self.invariant.next)) (few_shapes c.self.inside c.args.now (shape_in c.as_slice-2.result.now c.args.offered.key) (has_credits c.self.inside.options) c.give_number.new.shapes.items c.self.invariant later c.in_ok-shape.ensures.shapes) (omega arith)
+    let run = run_from c.args.now c.self.inside offer c.as_slice-2.result.now c.bytes_of-bytes.result (c.plan_room-enough.new.lists.gone.items, c.plan_room-enough.result) c.as_slice-2.ensures.value c.bytes_of-bytes.ensures.bytes c.plan_room-enough.ensures.plan in
+    let left = c.left_bytes-left.ensures ∙ ap (λ (ids : List ℕ). pool_bytes (left_without ids c.as_slice-then-not-enough.result.now)) c.as_slice-then-not-enough-2.ensures.value ∙ ap (λ (es : List PoolEntry). pool_bytes (left_without c.plan_room-enough.new.lists.gone.items es)) c.as_slice-then-not-enough.ensures.value in
+    let done = no_room_is c.args.who c.args.now offer pool c.self.inside.ledger.start c.in_ok-shape.shape c.give_number.new.shapes.items c.give_number.new.ledger.each shaped c.is_spent.result c.plan_room-enough.result test c.if-is_spent.false c.plan_room-enough.new.lists.gone.items c.left_bytes-left.result c.if-not-enough.true run left in
+    kept_on c.self.inside _ c.self.invariant (said_keeps c.args.who c.args.now offer pool _ _ done later c.self.invariant.pool fits) refl c.give_number.ensures.start c.requires.early (omega (arith, later, c.self.invariant.next)) (few_shapes c.self.inside c.args.now (shape_in c.as_slice.result.now c.args.offered.key) (has_credits c.self.inside.options) c.give_number.new.shapes.items c.self.invariant later c.in_ok-shape.ensures.shapes) (omega arith) (record {
+      touched = (let same = ap (λ v. vec_capacity v) c.plan_room-enough.ensures.touched in omega (arith, same, c.self.invariant.lists.touched));
+      gone = omega (arith, c.self.invariant.lists.gone, c.plan_room-enough.ensures.gone_room);
+      rows = omega (arith, c.self.invariant.lists.rows, c.plan_room-enough.ensures.rows_room);
+    })
 
-pub returns-then-not-plan-clause-done : goal.returns-then-not-plan-clause-done
-returns-then-not-plan-clause-done g c =
+pub returns-then-not-enough-clause-done : goal.returns-then-not-enough-clause-done
+returns-then-not-enough-clause-done g c =
     let pool : PoolState = pool_shown c.self.inside in
     let offer : Offer = offer_in c.args.offered in
-    let shown : c.as_slice-2.result.now ≡ c.self.inside.entries.items = c.as_slice-2.ensures.value in
+    let shown : c.as_slice.result.now ≡ c.self.inside.entries.items = c.as_slice.ensures.value in
     let new : IsNew offer pool = subst (IsNew offer) (sym c.self.view_is) c.requires.new in
-    let shaped = shaped_from c.args.who c.args.now offer c.self.inside c.as_slice-2.result.now c.in_ok-shape.shape c.give_number.new.shapes.items c.give_number.new.ledger.each c.self.invariant shown new c.in_ok-shape.ensures.shapes c.in_ok-shape.ensures.each c.in_ok-shape.ensures.number in
+    let shaped = shaped_from c.args.who c.args.now offer c.self.inside c.as_slice.result.now c.in_ok-shape.shape c.give_number.new.shapes.items c.give_number.new.ledger.each c.self.invariant shown new c.in_ok-shape.ensures.shapes c.in_ok-shape.ensures.each c.in_ok-shape.ensures.number in
     let test = spent_is (has_credits c.self.inside.options) c.is_spent.result c.in_ok-shape.shape c.give_number.new.ledger.each c.in_ok-shape.ensures.marked c.in_ok-shape.ensures.none c.is_spent.ensures.spent c.is_spent.ensures.none in
-    let run = run_from c.args.now c.self.inside offer c.as_slice.result.now c.bytes_of-bytes.result (c.in_ok-plan.plan.gone.items, c.in_ok-plan.plan.enough) c.as_slice.ensures.value c.bytes_of-bytes.ensures.bytes c.in_ok-plan.ensures in
-    let left = c.left_bytes-left.ensures ∙ ap (λ (ids : List ℕ). pool_bytes (left_without ids c.as_slice-then-not-plan.result.now)) c.as_slice-then-not-plan-2.ensures.value ∙ ap (λ (es : List PoolEntry). pool_bytes (left_without c.in_ok-plan.plan.gone.items es)) c.as_slice-then-not-plan.ensures.value in
-    no_room_is c.args.who c.args.now offer pool c.self.inside.ledger.start c.in_ok-shape.shape c.give_number.new.shapes.items c.give_number.new.ledger.each shaped c.is_spent.result c.in_ok-plan.plan.enough test c.if-is_spent.false c.in_ok-plan.plan.gone.items c.left_bytes-left.result c.if-not-plan.true run left ∙ ap (admit_of c.args.who c.args.now (offer_in c.args.offered)) c.self.view_is
+    let run = run_from c.args.now c.self.inside offer c.as_slice-2.result.now c.bytes_of-bytes.result (c.plan_room-enough.new.lists.gone.items, c.plan_room-enough.result) c.as_slice-2.ensures.value c.bytes_of-bytes.ensures.bytes c.plan_room-enough.ensures.plan in
+    let left = c.left_bytes-left.ensures ∙ ap (λ (ids : List ℕ). pool_bytes (left_without ids c.as_slice-then-not-enough.result.now)) c.as_slice-then-not-enough-2.ensures.value ∙ ap (λ (es : List PoolEntry). pool_bytes (left_without c.plan_room-enough.new.lists.gone.items es)) c.as_slice-then-not-enough.ensures.value in
+    no_room_is c.args.who c.args.now offer pool c.self.inside.ledger.start c.in_ok-shape.shape c.give_number.new.shapes.items c.give_number.new.ledger.each shaped c.is_spent.result c.plan_room-enough.result test c.if-is_spent.false c.plan_room-enough.new.lists.gone.items c.left_bytes-left.result c.if-not-enough.true run left ∙ ap (admit_of c.args.who c.args.now (offer_in c.args.offered)) c.self.view_is
 
 pub leave-requires : goal.leave-requires
 leave-requires g c =
     let pool : PoolState = pool_shown c.self.inside in
-    owed_shaped pool (shape_in c.as_slice-2.result.now c.args.offered.key) c.self.inside.ledger.start c.give_number.new.ledger c.self.invariant.pool c.self.invariant.start c.give_number.ensures.start c.in_ok-shape.ensures.each
+    owed_shaped pool (shape_in c.as_slice.result.now c.args.offered.key) c.self.inside.ledger.start c.give_number.new.ledger c.self.invariant.pool c.self.invariant.start c.give_number.ensures.start c.in_ok-shape.ensures.each
 
 pub pay-requires-clause-last : goal.pay-requires-clause-last
 pay-requires-clause-last g c =
@@ -89,23 +100,23 @@ pay-requires-clause-first g c =
 pub pay-requires-clause-some : goal.pay-requires-clause-some
 pay-requires-clause-some g c =
     let pool : PoolState = pool_shown c.self.inside in
-    let owed : IsOwed c.give_number.new.ledger c.self.inside.entries.items = owed_shaped pool (shape_in c.as_slice-2.result.now c.args.offered.key) c.self.inside.ledger.start c.give_number.new.ledger c.self.invariant.pool c.self.invariant.start c.give_number.ensures.start c.in_ok-shape.ensures.each in
+    let owed : IsOwed c.give_number.new.ledger c.self.inside.entries.items = owed_shaped pool (shape_in c.as_slice.result.now c.args.offered.key) c.self.inside.ledger.start c.give_number.new.ledger c.self.invariant.pool c.self.invariant.start c.give_number.ensures.start c.in_ok-shape.ensures.each in
     λ low zero_is. let had = still_some c.give_number.new.ledger c.self.inside.entries.items (λ (e : PoolEntry). is_one_of c.as_slice-3.result.now e.id && pays_at_end e) c.in_ok-shape.shape c.leave.new.ledger.each owed c.leave.ensures.each low c.in_ok-shape.ensures.last (sym (c.is_spent.ensures.spent low) ∙ c.if-is_spent.false) in omega (arith, had, zero_is)
 
 pub enter-requires : goal.enter-requires
 enter-requires g c =
     let pool : PoolState = pool_shown c.self.inside in
     let offer : Offer = offer_in c.args.offered in
-    let shown : c.as_slice-2.result.now ≡ c.self.inside.entries.items = c.as_slice-2.ensures.value in
+    let shown : c.as_slice.result.now ≡ c.self.inside.entries.items = c.as_slice.ensures.value in
     let new : IsNew offer pool = subst (IsNew offer) (sym c.self.view_is) c.requires.new in
-    let shaped = shaped_from c.args.who c.args.now offer c.self.inside c.as_slice-2.result.now c.in_ok-shape.shape c.give_number.new.shapes.items c.give_number.new.ledger.each c.self.invariant shown new c.in_ok-shape.ensures.shapes c.in_ok-shape.ensures.each c.in_ok-shape.ensures.number in
+    let shaped = shaped_from c.args.who c.args.now offer c.self.inside c.as_slice.result.now c.in_ok-shape.shape c.give_number.new.shapes.items c.give_number.new.ledger.each c.self.invariant shown new c.in_ok-shape.ensures.shapes c.in_ok-shape.ensures.each c.in_ok-shape.ensures.number in
     let test = spent_is (has_credits c.self.inside.options) c.is_spent.result c.in_ok-shape.shape c.give_number.new.ledger.each c.in_ok-shape.ensures.marked c.in_ok-shape.ensures.none c.is_spent.ensures.spent c.is_spent.ensures.none in
     let later : c.self.inside.moment < c.args.now = let m = ap (λ (p : PoolState). p.moment) c.self.view_is in omega (arith, m, c.requires.later) in
     let fits = subst (λ (p : PoolState). IsOffer p offer) (sym c.self.view_is) c.requires.fits in
-    let run = run_from c.args.now c.self.inside offer c.as_slice.result.now c.bytes_of-bytes.result (c.in_ok-plan.plan.gone.items, c.in_ok-plan.plan.enough) c.as_slice.ensures.value c.bytes_of-bytes.ensures.bytes c.in_ok-plan.ensures in
+    let run = run_from c.args.now c.self.inside offer c.as_slice-2.result.now c.bytes_of-bytes.result (c.plan_room-enough.new.lists.gone.items, c.plan_room-enough.result) c.as_slice-2.ensures.value c.bytes_of-bytes.ensures.bytes c.plan_room-enough.ensures.plan in
     let rest = c.leave.ensures.entries ∙ ap (λ (ids : List ℕ). left_without ids c.self.inside.entries.items) c.as_slice-3.ensures.value in
     let paid = c.leave.ensures.each ∙ ap (λ (ids : List ℕ). paid_back c.give_number.new.ledger.each (filter (λ (e : PoolEntry). is_one_of ids e.id && pays_at_end e) c.self.inside.entries.items)) c.as_slice-3.ensures.value in
-    let done = taken_is c.args.who c.args.now offer pool c.self.inside.ledger.start c.in_ok-shape.shape c.give_number.new.shapes.items c.give_number.new.ledger.each shaped c.is_spent.result c.in_ok-plan.plan.enough test c.if-is_spent.false c.in_ok-plan.plan.gone.items c.bytes_of-bytes.result (length c.in_ok-plan.plan.gone.items) c.leave.new.entries.items (c.leave.new.entries.items ++ c.new_entry-entry.result ∷ []) c.new_entry-entry.result c.leave.new.ledger.each c.pay.new.ledger.each c.if-not-plan.false run c.bytes_of-bytes.ensures.bytes refl rest refl c.new_entry-entry.ensures paid c.pay.ensures.each in
+    let done = taken_is c.args.who c.args.now offer pool c.self.inside.ledger.start c.in_ok-shape.shape c.give_number.new.shapes.items c.give_number.new.ledger.each shaped c.is_spent.result c.plan_room-enough.result test c.if-is_spent.false c.plan_room-enough.new.lists.gone.items c.bytes_of-bytes.result (length c.plan_room-enough.new.lists.gone.items) c.leave.new.entries.items (c.leave.new.entries.items ++ c.new_entry-entry.result ∷ []) c.new_entry-entry.result c.leave.new.ledger.each c.pay.new.ledger.each c.if-not-enough.false run c.bytes_of-bytes.ensures.bytes refl rest refl c.new_entry-entry.ensures paid c.pay.ensures.each in
     let place = place_left c.args.who c.args.now offer pool _ c.leave.new.entries.items c.new_entry-entry.result _ c.self.invariant.pool done later fits refl refl in
     omega (arith, c.leave.new.entries.ok.0, place, c.leave.ensures.room, c.self.invariant.room)
 
@@ -113,29 +124,33 @@ pub invariant_of-self-2 : goal.invariant_of-self-2
 invariant_of-self-2 g c =
     let pool : PoolState = pool_shown c.self.inside in
     let offer : Offer = offer_in c.args.offered in
-    let shown : c.as_slice-2.result.now ≡ c.self.inside.entries.items = c.as_slice-2.ensures.value in
+    let shown : c.as_slice.result.now ≡ c.self.inside.entries.items = c.as_slice.ensures.value in
     let new : IsNew offer pool = subst (IsNew offer) (sym c.self.view_is) c.requires.new in
-    let shaped = shaped_from c.args.who c.args.now offer c.self.inside c.as_slice-2.result.now c.in_ok-shape.shape c.give_number.new.shapes.items c.give_number.new.ledger.each c.self.invariant shown new c.in_ok-shape.ensures.shapes c.in_ok-shape.ensures.each c.in_ok-shape.ensures.number in
+    let shaped = shaped_from c.args.who c.args.now offer c.self.inside c.as_slice.result.now c.in_ok-shape.shape c.give_number.new.shapes.items c.give_number.new.ledger.each c.self.invariant shown new c.in_ok-shape.ensures.shapes c.in_ok-shape.ensures.each c.in_ok-shape.ensures.number in
     let test = spent_is (has_credits c.self.inside.options) c.is_spent.result c.in_ok-shape.shape c.give_number.new.ledger.each c.in_ok-shape.ensures.marked c.in_ok-shape.ensures.none c.is_spent.ensures.spent c.is_spent.ensures.none in
     let later : c.self.inside.moment < c.args.now = let m = ap (λ (p : PoolState). p.moment) c.self.view_is in omega (arith, m, c.requires.later) in
     let fits = subst (λ (p : PoolState). IsOffer p offer) (sym c.self.view_is) c.requires.fits in
-    let run = run_from c.args.now c.self.inside offer c.as_slice.result.now c.bytes_of-bytes.result (c.in_ok-plan.plan.gone.items, c.in_ok-plan.plan.enough) c.as_slice.ensures.value c.bytes_of-bytes.ensures.bytes c.in_ok-plan.ensures in
+    let run = run_from c.args.now c.self.inside offer c.as_slice-2.result.now c.bytes_of-bytes.result (c.plan_room-enough.new.lists.gone.items, c.plan_room-enough.result) c.as_slice-2.ensures.value c.bytes_of-bytes.ensures.bytes c.plan_room-enough.ensures.plan in
     let rest = c.leave.ensures.entries ∙ ap (λ (ids : List ℕ). left_without ids c.self.inside.entries.items) c.as_slice-3.ensures.value in
     let paid = c.leave.ensures.each ∙ ap (λ (ids : List ℕ). paid_back c.give_number.new.ledger.each (filter (λ (e : PoolEntry). is_one_of ids e.id && pays_at_end e) c.self.inside.entries.items)) c.as_slice-3.ensures.value in
-    let count : c.len.result ≡ length c.in_ok-plan.plan.gone.items = omega (arith, c.len.ensures, c.in_ok-plan.plan.gone.ok.0) in
-    let done = taken_is c.args.who c.args.now offer pool c.self.inside.ledger.start c.in_ok-shape.shape c.give_number.new.shapes.items c.give_number.new.ledger.each shaped c.is_spent.result c.in_ok-plan.plan.enough test c.if-is_spent.false c.in_ok-plan.plan.gone.items c.bytes_of-bytes.result c.len.result c.leave.new.entries.items c.enter.new.entries.items c.new_entry-entry.result c.leave.new.ledger.each c.pay.new.ledger.each c.if-not-plan.false run c.bytes_of-bytes.ensures.bytes count rest c.enter.ensures.items c.new_entry-entry.ensures paid c.pay.ensures.each in
-    kept_on c.self.inside _ c.self.invariant (said_keeps c.args.who c.args.now offer pool _ _ done later c.self.invariant.pool fits) refl (c.pay.ensures.start ∙ c.leave.ensures.start ∙ c.give_number.ensures.start) c.requires.early (omega (arith, later, c.self.invariant.next)) (few_shapes c.self.inside c.args.now (shape_in c.as_slice-2.result.now c.args.offered.key) (has_credits c.self.inside.options) c.give_number.new.shapes.items c.self.invariant later c.in_ok-shape.ensures.shapes) (omega (arith, c.leave.ensures.room, c.enter.ensures.room))
+    let count : c.len.result ≡ length c.plan_room-enough.new.lists.gone.items = omega (arith, c.len.ensures, c.plan_room-enough.new.lists.gone.ok.0) in
+    let done = taken_is c.args.who c.args.now offer pool c.self.inside.ledger.start c.in_ok-shape.shape c.give_number.new.shapes.items c.give_number.new.ledger.each shaped c.is_spent.result c.plan_room-enough.result test c.if-is_spent.false c.plan_room-enough.new.lists.gone.items c.bytes_of-bytes.result c.len.result c.leave.new.entries.items c.enter.new.entries.items c.new_entry-entry.result c.leave.new.ledger.each c.pay.new.ledger.each c.if-not-enough.false run c.bytes_of-bytes.ensures.bytes count rest c.enter.ensures.items c.new_entry-entry.ensures paid c.pay.ensures.each in
+    kept_on c.self.inside _ c.self.invariant (said_keeps c.args.who c.args.now offer pool _ _ done later c.self.invariant.pool fits) refl (c.pay.ensures.start ∙ c.leave.ensures.start ∙ c.give_number.ensures.start) c.requires.early (omega (arith, later, c.self.invariant.next)) (few_shapes c.self.inside c.args.now (shape_in c.as_slice.result.now c.args.offered.key) (has_credits c.self.inside.options) c.give_number.new.shapes.items c.self.invariant later c.in_ok-shape.ensures.shapes) (omega (arith, c.leave.ensures.room, c.enter.ensures.room)) (record {
+      touched = (let same = ap (λ v. vec_capacity v) c.plan_room-enough.ensures.touched in omega (arith, same, c.self.invariant.lists.touched));
+      gone = omega (arith, c.self.invariant.lists.gone, c.plan_room-enough.ensures.gone_room);
+      rows = omega (arith, c.self.invariant.lists.rows, c.plan_room-enough.ensures.rows_room);
+    })
 
 pub returns-clause-done : goal.returns-clause-done
 returns-clause-done g c =
     let pool : PoolState = pool_shown c.self.inside in
     let offer : Offer = offer_in c.args.offered in
-    let shown : c.as_slice-2.result.now ≡ c.self.inside.entries.items = c.as_slice-2.ensures.value in
+    let shown : c.as_slice.result.now ≡ c.self.inside.entries.items = c.as_slice.ensures.value in
     let new : IsNew offer pool = subst (IsNew offer) (sym c.self.view_is) c.requires.new in
-    let shaped = shaped_from c.args.who c.args.now offer c.self.inside c.as_slice-2.result.now c.in_ok-shape.shape c.give_number.new.shapes.items c.give_number.new.ledger.each c.self.invariant shown new c.in_ok-shape.ensures.shapes c.in_ok-shape.ensures.each c.in_ok-shape.ensures.number in
+    let shaped = shaped_from c.args.who c.args.now offer c.self.inside c.as_slice.result.now c.in_ok-shape.shape c.give_number.new.shapes.items c.give_number.new.ledger.each c.self.invariant shown new c.in_ok-shape.ensures.shapes c.in_ok-shape.ensures.each c.in_ok-shape.ensures.number in
     let test = spent_is (has_credits c.self.inside.options) c.is_spent.result c.in_ok-shape.shape c.give_number.new.ledger.each c.in_ok-shape.ensures.marked c.in_ok-shape.ensures.none c.is_spent.ensures.spent c.is_spent.ensures.none in
-    let run = run_from c.args.now c.self.inside offer c.as_slice.result.now c.bytes_of-bytes.result (c.in_ok-plan.plan.gone.items, c.in_ok-plan.plan.enough) c.as_slice.ensures.value c.bytes_of-bytes.ensures.bytes c.in_ok-plan.ensures in
+    let run = run_from c.args.now c.self.inside offer c.as_slice-2.result.now c.bytes_of-bytes.result (c.plan_room-enough.new.lists.gone.items, c.plan_room-enough.result) c.as_slice-2.ensures.value c.bytes_of-bytes.ensures.bytes c.plan_room-enough.ensures.plan in
     let rest = c.leave.ensures.entries ∙ ap (λ (ids : List ℕ). left_without ids c.self.inside.entries.items) c.as_slice-3.ensures.value in
     let paid = c.leave.ensures.each ∙ ap (λ (ids : List ℕ). paid_back c.give_number.new.ledger.each (filter (λ (e : PoolEntry). is_one_of ids e.id && pays_at_end e) c.self.inside.entries.items)) c.as_slice-3.ensures.value in
-    let count : c.len.result ≡ length c.in_ok-plan.plan.gone.items = omega (arith, c.len.ensures, c.in_ok-plan.plan.gone.ok.0) in
-    taken_is c.args.who c.args.now offer pool c.self.inside.ledger.start c.in_ok-shape.shape c.give_number.new.shapes.items c.give_number.new.ledger.each shaped c.is_spent.result c.in_ok-plan.plan.enough test c.if-is_spent.false c.in_ok-plan.plan.gone.items c.bytes_of-bytes.result c.len.result c.leave.new.entries.items c.enter.new.entries.items c.new_entry-entry.result c.leave.new.ledger.each c.pay.new.ledger.each c.if-not-plan.false run c.bytes_of-bytes.ensures.bytes count rest c.enter.ensures.items c.new_entry-entry.ensures paid c.pay.ensures.each ∙ ap (admit_of c.args.who c.args.now (offer_in c.args.offered)) c.self.view_is
+    let count : c.len.result ≡ length c.plan_room-enough.new.lists.gone.items = omega (arith, c.len.ensures, c.plan_room-enough.new.lists.gone.ok.0) in
+    taken_is c.args.who c.args.now offer pool c.self.inside.ledger.start c.in_ok-shape.shape c.give_number.new.shapes.items c.give_number.new.ledger.each shaped c.is_spent.result c.plan_room-enough.result test c.if-is_spent.false c.plan_room-enough.new.lists.gone.items c.bytes_of-bytes.result c.len.result c.leave.new.entries.items c.enter.new.entries.items c.new_entry-entry.result c.leave.new.ledger.each c.pay.new.ledger.each c.if-not-enough.false run c.bytes_of-bytes.ensures.bytes count rest c.enter.ensures.items c.new_entry-entry.ensures paid c.pay.ensures.each ∙ ap (admit_of c.args.who c.args.now (offer_in c.args.offered)) c.self.view_is

@@ -17,7 +17,7 @@ invariant_of-self c =
     let at : PoolState = record (pool_shown c.self.inside) { moment = c.args.now } in
     let kept = pins_keep c.args.who (c.index.result.now.id ∷ []) at (moment_keeps c.args.now (pool_shown c.self.inside) later c.self.invariant.pool) in
     kept_on c.self.inside _ c.self.invariant (subst (λ (es : List PoolEntry). IsPool (record at { entries = es })) (sym c.pin_id.ensures.entries) kept)
-    refl refl c.requires.early (omega (arith, later, c.self.invariant.next)) (omega (arith, later, c.self.invariant.shapes)) (omega (arith, c.pin_id.ensures.room))
+    refl refl c.requires.early (omega (arith, later, c.self.invariant.next)) (omega (arith, later, c.self.invariant.shapes)) (omega (arith, c.pin_id.ensures.room)) c.self.invariant.lists
 
 pub returns-in-Some-clause-some : goal.returns-in-Some-clause-some
 returns-in-Some-clause-some c =

@@ -30,7 +30,7 @@ invariant_of-self c =
     let done = looked c.args.who c.args.now c.args.key.now (pool_shown c.self.inside) found c.use_all.new.entries.items c.pin_found.new.entries.items c.pay_uses.new.ledger.each is c.use_all.ensures.entries (c.pin_found.ensures.entries c.as_slice-used.result.now) paid in
     let later : c.self.inside.moment < c.args.now = let m = ap (λ (p : PoolState). p.moment) c.self.view_is in omega (arith, m, c.requires.later) in
     kept_on c.self.inside _ c.self.invariant (subst IsPool (sym done) (look_keeps c.args.who c.args.now c.args.key.now (pool_shown c.self.inside) later c.self.invariant.pool))
-    refl c.pay_uses.ensures.start c.requires.early (omega (arith, later, c.self.invariant.next)) (omega (arith, later, c.self.invariant.shapes)) (omega (arith, c.use_all.ensures.room, c.pin_found.ensures.room))
+    refl c.pay_uses.ensures.start c.requires.early (omega (arith, later, c.self.invariant.next)) (omega (arith, later, c.self.invariant.shapes)) (omega (arith, c.use_all.ensures.room, c.pin_found.ensures.room)) c.self.invariant.lists
 
 pub returns-clause-pool : goal.returns-clause-pool
 returns-clause-pool c =

@@ -12,4 +12,4 @@ pub invariant_of-self : goal.invariant_of-self
 invariant_of-self c =
     let old : PoolState = pool_shown c.self.inside in
     kept_on c.self.inside _ c.self.invariant (subst (λ (es : List PoolEntry). IsPool (record old { entries = es })) (sym c.unpin_all.ensures.entries) (release_keeps c.args.session old c.self.invariant.pool))
-    refl refl c.self.invariant.moment c.self.invariant.next c.self.invariant.shapes (omega (arith, c.unpin_all.ensures.room))
+    refl refl c.self.invariant.moment c.self.invariant.next c.self.invariant.shapes (omega (arith, c.unpin_all.ensures.room)) c.self.invariant.lists

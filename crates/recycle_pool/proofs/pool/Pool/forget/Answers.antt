@@ -1,0 +1,28 @@
+-- What is forgotten leaves as the policy says.
+use Rattle.std.proofs.Common.{List, ap, ◌∙◌, refl, arith, length}
+use Rattle.pool_policy.specs.declared.entry.PoolEntry.{PoolEntry}
+use Rattle.pool_policy.specs.Writes.{forget_of, touched_ids}
+use Rattle.recycle_pool.proofs.Looked.{owed}
+use Rattle.recycle_pool.proofs.Carrying.{forgotten, forgotten_keeps}
+use Rattle.recycle_pool.proofs.Stands.{kept_on}
+use Rattle.recycle_pool.proofs.pool.Pool.forget.Goals as goal
+
+pub note_touched-requires : goal.note_touched-requires
+note_touched-requires c = let l = ap (λ (es : List PoolEntry). length es) c.as_slice.ensures.value in omega (arith, l, c.self.invariant.pool.places, c.self.invariant.lists.touched)
+
+pub leave-requires : goal.leave-requires
+leave-requires c = owed c.self.inside c.self.inside.entries.items c.self.invariant refl
+
+pub invariant_of-self : goal.invariant_of-self
+invariant_of-self c =
+    let touched = c.as_slice-2.ensures.value ∙ c.note_touched.ensures.ids ∙ ap (λ (es : List PoolEntry). touched_ids c.args.table.now c.args.columns.now es) c.as_slice.ensures.value in
+    let done = forgotten c.self.inside c.args.table.now c.args.columns.now c.as_slice-2.result.now c.leave.new.entries.items c.leave.new.ledger.each touched c.leave.ensures.entries c.leave.ensures.each in
+    kept_on c.self.inside _ c.self.invariant (forgotten_keeps c.self.inside c.args.table.now c.args.columns.now _ c.self.invariant done)
+    refl c.leave.ensures.start c.self.invariant.moment c.self.invariant.next c.self.invariant.shapes (omega (arith, c.leave.ensures.room))
+    (record { touched = omega (arith, c.self.invariant.lists.touched, c.note_touched.ensures.room); gone = c.self.invariant.lists.gone; rows = c.self.invariant.lists.rows })
+
+pub returns : goal.returns
+returns c =
+    let touched = c.as_slice-2.ensures.value ∙ c.note_touched.ensures.ids ∙ ap (λ (es : List PoolEntry). touched_ids c.args.table.now c.args.columns.now es) c.as_slice.ensures.value in
+    forgotten c.self.inside c.args.table.now c.args.columns.now c.as_slice-2.result.now c.leave.new.entries.items c.leave.new.ledger.each touched c.leave.ensures.entries c.leave.ensures.each
+    ∙ ap (forget_of c.args.table.now c.args.columns.now) c.self.view_is

@@ -1,0 +1,90 @@
+ghost use Rattle.std.specs.Prelude.{◌≡◌, ◌<◌, ◌^◌};
+ghost use Rattle.pool_policy.specs.Writes.{forget_of, write_of};
+ghost use Rattle.pool_policy.specs.WriteLaws.{IsWrite};
+ghost use Rattle.recycle_pool.specs.Carries.{IsCarried};
+
+use crate::carried::Carried;
+use crate::pool::Pool;
+use crate::room::leave;
+use crate::written::{enter_all, plan_last, take_touched};
+use cell_core::Word;
+use pool_policy::{Touched, note_touched};
+use score_hook::Scorer;
+
+impl Pool {
+    /// All that was computed from one of these columns of a table leaves, held or not. Takes no memory.
+    pub fn forget(&mut self, table: &Word, columns: &[Word])
+        ensures { self.new ≡ forget_of table.now columns.now self.old }
+    {
+        note_touched(
+            &mut self.lists.touched,
+            self.entries.as_slice(),
+            table,
+            columns,
+        );
+        leave(
+            &mut self.entries,
+            &mut self.ledger,
+            self.lists.touched.as_slice(),
+        );
+    }
+
+    /// An accepted write: what it touches leaves, what `carry` made of it comes back, and then entries
+    /// go until the bytes are within the budget. Answers how many were dropped, as they are touched and
+    /// don't come back, and how many went at the end. Takes no memory.
+    pub fn put_carried(
+        &mut self,
+        scorer: &Scorer,
+        touched: &Touched,
+        carried: Carried,
+        now: u64,
+    ) -> (u64, u64)
+        requires kind { scorer.now.kind ≡ self.old.options.evict }
+        requires weights { scorer.now.weights.items ≡ self.old.options.weights }
+        requires later { self.old.moment < now }
+        requires early { now < 2 ^ 30 }
+        requires write { IsWrite touched.now now self.old }
+        requires carried { IsCarried touched.now now self.old carried }
+        ensures pool { self.new ≡ (write_of touched.now now self.old).pool }
+        ensures dropped { result.0 ≡ (write_of touched.now now self.old).dropped }
+        ensures evicted { result.1 ≡ (write_of touched.now now self.old).evicted }
+        ensures options { self.new.options ≡ self.old.options }
+        ensures moment { self.new.moment ≡ now }
+    {
+        let Carried {
+            ids,
+            entries,
+            work: _,
+        } = carried;
+        note_touched(
+            &mut self.lists.touched,
+            self.entries.as_slice(),
+            &touched.table,
+            touched.columns.as_slice(),
+        );
+        take_touched(
+            &mut self.entries,
+            &mut self.ledger,
+            self.lists.touched.as_slice(),
+            ids.as_slice(),
+        );
+        enter_all(&mut self.entries, entries);
+        let back = ids.len() as u64;
+        let dropped = (self.lists.touched.len() as u64).saturating_sub(back);
+        self.next += back;
+        self.moment = now;
+        plan_last(
+            &mut self.lists,
+            self.entries.as_slice(),
+            &self.options,
+            scorer,
+            now,
+        );
+        leave(
+            &mut self.entries,
+            &mut self.ledger,
+            self.lists.gone.as_slice(),
+        );
+        (dropped, self.lists.gone.len() as u64)
+    }
+}
