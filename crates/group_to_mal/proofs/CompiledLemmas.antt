@@ -1,12 +1,10 @@
 -- What a compiled query's plan is and means.
-use Rattle.std.proofs.Common.{◌≡◌, List, [], ◌∷◌, map, Bool, true, false, Option, Some, None, Ok, refl, ap, sym, ◌∙◌, subst}
-use Rattle.std.specs.Prelude.{Result, Err, IfOk, ◌&&◌, is_none}
+use Rattle.std.proofs.Common.{◌≡◌, List, [], map, Option, Some, None, Ok, refl, ap, sym, ◌∙◌, subst}
+use Rattle.std.specs.Prelude.{Result, Err, IfOk, is_none}
 use Rattle.std.specs.Option.{option_map, option_and_then}
 use Rattle.std.proofs.lemmas.Option.{same_Some}
 use Rattle.std.proofs.Props.{props}
 use Rattle.std.proofs.Math.Logic.{∥∥₁_elim}
-use Rattle.cell_core.specs.declared.cell.Cell.{Cell}
-use Rattle.cell_core.specs.Same.{same_cell, same_decides}
 use Rattle.cell_core.specs.declared.operator.Arg.{Arg}
 use Rattle.cell_core.specs.declared.operator.Instr.{Instr}
 use Rattle.cell_core.specs.declared.table.Db.{Db}
@@ -27,6 +25,7 @@ use Rattle.sql_semantics.specs.Check.{check_refusal}
 use Rattle.rows_to_mal.specs.Conjuncts.{Scope}
 use Rattle.rows_to_mal.specs.Laws.{HoldsTables}
 use Rattle.rows_to_mal.specs.Rows.{statement_scope, kept_rows}
+use Rattle.rows_to_mal.proofs.SameLemmas.{known, none_is, same_rows, of_rows}
 use Rattle.group_to_mal.specs.Laws.{PlansMeanAnswers, QueryPlansRun}
 use Rattle.group_to_mal.specs.QueryPlan.{plan_of, shown_items, query_plan}
 
@@ -77,66 +76,19 @@ compiled_from mean run s sources plan e formed accepted db held = by_query (quer
           meaning = ap (λ p. plan_rows p db) (sym is) ∙ mean s query sources db f formed accepted held ∙ sym (ap (λ o. option_and_then (λ q. answer q db) o) f);
         }
 
--- ## Answers are the same or they aren't, so what is known to have a reason needs none of its own
-
-abbrev same_list : {X : Type 0} → (X → X → Bool) → List X → List X → Bool
-same_list same [] [] = true
-same_list same (x ∷ xs) (y ∷ ys) = same x y && same_list same xs ys
-same_list same _ _ = false
-
-list_is : {X : Type 0} (same : X → X → Bool) → ((x y : X) → same x y ≡ true → x ≡ y) → (xs ys : List X) → same_list same xs ys ≡ true → xs ≡ ys
-list_is same is [] [] e = refl
-list_is {X} same is (x ∷ xs) (y ∷ ys) e = by_head (λ g. list_is same is xs ys g) (same x y) refl e
-  where
-    by_head : (same_list same xs ys ≡ true → xs ≡ ys) → (b : Bool) → same x y ≡ b → (b && same_list same xs ys) ≡ true → x ∷ xs ≡ y ∷ ys
-    by_head rest true f g = ap (λ h. h ∷ xs) (is x y f) ∙ ap (λ t. y ∷ t) (rest g)
-    by_head rest false f g = cc
-list_is same is [] (y ∷ ys) e = cc
-list_is same is (x ∷ xs) [] e = cc
-
-list_itself : {X : Type 0} (same : X → X → Bool) → ((x : X) → same x x ≡ true) → (xs : List X) → same_list same xs xs ≡ true
-list_itself same itself [] = refl
-list_itself same itself (x ∷ xs) = ap (λ b. b && same_list same xs xs) (itself x) ∙ list_itself same itself xs
-
-abbrev same_row : List Cell → List Cell → Bool
-same_row = same_list same_cell
-
-row_is : (xs ys : List Cell) → same_row xs ys ≡ true → xs ≡ ys
-row_is = list_is same_cell (λ a b e. (same_decides a b).0 e)
-
-row_itself : (xs : List Cell) → same_row xs xs ≡ true
-row_itself = list_itself same_cell (λ a. (same_decides a a).1 refl)
-
-abbrev same_answer : Option (List (List Cell)) → Option (List (List Cell)) → Bool
-same_answer None None = true
-same_answer (Some xs) (Some ys) = same_list same_row xs ys
-same_answer _ _ = false
-
-answer_is : (x y : Option (List (List Cell))) → same_answer x y ≡ true → x ≡ y
-answer_is None None e = refl
-answer_is (Some xs) (Some ys) e = ap Some (list_is same_row row_is xs ys e)
-answer_is None (Some ys) e = cc
-answer_is (Some xs) None e = cc
-
-answer_itself : (x : Option (List (List Cell))) → same_answer x x ≡ true
-answer_itself None = refl
-answer_itself (Some xs) = list_itself same_row row_itself xs
-
-none_is : {X : Type 0} (x : Option X) → is_none x ≡ true → x ≡ None
-none_is None e = refl
-none_is (Some x) e = cc
-
 module _ (mean : PlansMeanAnswers) (run : QueryPlansRun) (s : StmtTree) (sources : List Source) (formed : ∥ IsFormed s ∥₁) (accepted : check_refusal s (record { tables = sources }) ≡ None) (plan : Plan)
     (e : option_map (query_plan (statement_scope s sources)) (query_of s) ≡ Some plan) (db : Db) (held : HoldsTables s sources db) where
+  compiled : IsFormed s → Compiled s plan db
+  compiled f = compiled_from mean run s sources plan e f accepted db held
+
   pub is_checked : plan_fault plan ≡ None
-  is_checked = none_is (plan_fault plan) (∥∥₁_elim formed (search props) (λ f. ap is_none (compiled_from mean run s sources plan e f accepted db held).checked))
+  is_checked = none_is (plan_fault plan) (∥∥₁_elim formed (search props) (λ f. ap is_none (compiled f).checked))
 
   pub is_fitting : FitsDb plan db
-  is_fitting = ∥∥₁_elim formed (search props) (λ f. (compiled_from mean run s sources plan e f accepted db held).fits)
+  is_fitting = ∥∥₁_elim formed (search props) (λ f. (compiled f).fits)
 
   pub is_meant : plan_rows plan db ≡ answer_of_stmt s db
-  is_meant = answer_is (plan_rows plan db) (answer_of_stmt s db)
-      (∥∥₁_elim formed (search props) (λ f. subst (λ a. same_answer (plan_rows plan db) a ≡ true) (compiled_from mean run s sources plan e f accepted db held).meaning (answer_itself (plan_rows plan db))))
+  is_meant = known same_rows of_rows (plan_rows plan db) (answer_of_stmt s db) formed (λ f. (compiled f).meaning)
 
   pub is_runnable : CheckedPlansRun → Runs plan db
   is_runnable all = all plan db is_checked is_fitting

@@ -4,22 +4,7 @@ use Rattle.cell_core.specs.declared.operator.Op.TheVariants as op
 use Rattle.cell_core.specs.declared.operator.Arg.TheVariants.{Var}
 use Rattle.sql_tree.specs.Tree.{ExprTree, QueryTree}
 use Rattle.group_to_mal.specs.QueryPlan.{query_plan}
-use Rattle.group_to_mal.proofs.ExampleTables.{n, zero, bind, does, of_t, col, number, item, from, by_name, by_position}
-
-abbrev a : ExprTree
-a = col (codes "a")
-
-abbrev b : ExprTree
-b = col (codes "b")
-
-abbrev s : ExprTree
-s = col (codes "s")
-
-abbrev c : ExprTree
-c = col (codes "c")
-
-abbrev d : ExprTree
-d = col (codes "d")
+use Rattle.group_to_mal.proofs.ExampleTables.{n, zero, bind, does, of_t, col, number, item, from, by_name, by_position, a, b}
 
 -- SELECT DISTINCT b, 5, a FROM t ORDER BY b DESC, 3 LIMIT 3
 abbrev distinct : QueryTree

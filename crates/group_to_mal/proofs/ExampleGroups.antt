@@ -9,22 +9,7 @@ use Rattle.sql_tree.specs.declared.tree.AggOp.TheVariants as aggregate
 use Rattle.sql_tree.specs.declared.tree.ArithOp.TheVariants as arith
 use Rattle.sql_tree.specs.declared.tree.CmpOp.TheVariants as cmp
 use Rattle.group_to_mal.specs.QueryPlan.{query_plan}
-use Rattle.group_to_mal.proofs.ExampleTables.{n, nil, yes, no, zero, bind, does, of_t, named, col, number, item, from}
-
-abbrev a : ExprTree
-a = col (codes "a")
-
-abbrev b : ExprTree
-b = col (codes "b")
-
-abbrev s : ExprTree
-s = col (codes "s")
-
-abbrev c : ExprTree
-c = col (codes "c")
-
-abbrev d : ExprTree
-d = col (codes "d")
+use Rattle.group_to_mal.proofs.ExampleTables.{n, nil, yes, no, zero, bind, does, of_t, named, col, number, item, from, a, b, s}
 
 -- SELECT s, COUNT(*), SUM(a * 2), 7 FROM t WHERE a > 0 GROUP BY s, b HAVING COUNT(*) > 1 AND MIN(a) < b
 abbrev grouped : QueryTree

@@ -8,22 +8,7 @@ use Rattle.sql_tree.specs.Tree.CondTree.{Compare, Within, IsNull, Negation, Both
 use Rattle.sql_tree.specs.declared.tree.ArithOp.TheVariants as arith
 use Rattle.sql_tree.specs.declared.tree.CmpOp.TheVariants as cmp
 use Rattle.group_to_mal.specs.QueryPlan.{query_plan}
-use Rattle.group_to_mal.proofs.ExampleTables.{n, nil, yes, no, zero, bind, does, of_t, of_both, col, number, item, called, from, by_name, select_t}
-
-abbrev a : ExprTree
-a = col (codes "a")
-
-abbrev b : ExprTree
-b = col (codes "b")
-
-abbrev s : ExprTree
-s = col (codes "s")
-
-abbrev c : ExprTree
-c = col (codes "c")
-
-abbrev d : ExprTree
-d = col (codes "d")
+use Rattle.group_to_mal.proofs.ExampleTables.{n, nil, yes, no, zero, bind, does, of_t, of_both, col, number, item, called, from, by_name, select_t, a, b, c, d}
 
 -- SELECT a, c + d AS e FROM t, u WHERE (a = 1 OR a <> 2) AND b = c AND a < d AND d BETWEEN 1 AND 2 + 3 ORDER BY e DESC
 abbrev joined : QueryTree

@@ -73,6 +73,21 @@ named name = record { table = None; column = name }
 abbrev pub col : List ℕ → ExprTree
 col name = ColumnOf (named name)
 
+abbrev pub a : ExprTree
+a = col (codes "a")
+
+abbrev pub b : ExprTree
+b = col (codes "b")
+
+abbrev pub s : ExprTree
+s = col (codes "s")
+
+abbrev pub c : ExprTree
+c = col (codes "c")
+
+abbrev pub d : ExprTree
+d = col (codes "d")
+
 abbrev pub number : ℕ → ExprTree
 number k = Literal (Int (pos k))
 

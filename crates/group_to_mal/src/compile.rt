@@ -18,37 +18,16 @@ use crate::plan::plan_behind;
 use cell_core::{Memory, Sequence};
 use mal_check::checked_plans_run;
 use mal_meaning::Plan;
-use rows_to_mal::Tables;
-use sql_semantics::{Called, Source, Typed, from_name};
-use sql_tree::{FromItem, Query, Stmt};
+use rows_to_mal::{Tables, called_in_from};
+use sql_semantics::{Source, Typed};
+use sql_tree::{Query, Stmt};
 use std::alloc::Global;
-
-/// The tables of FROM under the names that a query calls them.
-fn called_all<'a>(
-    alloc: Global,
-    froms: &'a [FromItem],
-    sources: &'a [Source],
-) -> Result<Vec<Called<'a>>, Memory>
-    ensures { IfOk result (λ called. called.items ≡ called_sources (map from_name_of froms.now) sources.now) }
-{
-    let mut called = Vec::new(alloc);
-    let (mut names, mut rest) = (froms, sources);
-    'froms: while let [from, others @ ..] = names {
-        let [source, more @ ..] = rest else {
-            return Ok(called);
-        };
-        called.push(Called::new(from_name(from), &source.columns))?;
-        rest = more;
-        names = others;
-    }
-    Ok(called)
-}
 
 /// The plan of a query over these tables.
 fn compile_over(alloc: Global, query: &Query, sources: &[Source]) -> Result<Plan, Memory>
     ensures { IfOk result (λ plan. plan ≡ query_plan (record { called = called_sources (map from_name_of query.now.froms) sources.now; sources = sources.now }) (query_tree query.now)) }
 {
-    let called = called_all(alloc, query.froms.as_slice(), sources)?;
+    let called = called_in_from(alloc, query.froms.as_slice(), sources)?;
     let tables = Tables::new(&called, sources);
     let mut instrs = Sequence::new(alloc);
     let rows = tables.kept_rows(alloc, &mut instrs, query.cond.as_ref())?;

@@ -30,3 +30,4 @@ pub mod LentLemmas
 pub mod StepLemmas
 pub mod UsedLemmas
 pub mod EffectLemmas
+pub mod SameLemmas

@@ -3,7 +3,6 @@ ghost use Rattle.std.specs.Prelude.{◌≡◌, [], ◌∷◌, ◌++◌, length, 
 ghost use Rattle.std.specs.Option.{option_copied, option_map};
 ghost use Rattle.cell_core.specs.declared.table.Db.{Db};
 ghost use Rattle.sql_tree.specs.Tree.{cond_tree, set_tree, stmt_tree};
-ghost use Rattle.sql_grammar.specs.Formed.{IsFormed};
 ghost use Rattle.mal_meaning.specs.Meaning.{plan_rows};
 ghost use Rattle.rows_to_mal.specs.Choices.{kept_numbers};
 ghost use Rattle.rows_to_mal.specs.Laws.{HoldsTables, RunsOver, rows_in, values_behind, oids_of_tables};
@@ -16,6 +15,7 @@ ghost use Rattle.rows_to_mal.specs.Writes.{is_write, expr_values as expr_values_
 use crate::laws::{statements_keep_rows, write_plans_run, writes_are_meant};
 use crate::tables::Tables;
 use cell_core::{Arg, Instr, Memory, Sequence, Word};
+use mal_check::checked_plans_run;
 use mal_meaning::{Out, Plan};
 use sql_semantics::{Called, Source, Typed, from_name};
 use sql_tree::{Cond, Expr, FromItem, Stmt};
@@ -31,7 +31,7 @@ pub struct Rows {
 }
 
 /// The tables of FROM, under the names that the query calls them.
-fn called_in_from<'a>(
+pub fn called_in_from<'a>(
     alloc: Global,
     froms: &'a [FromItem],
     sources: &'a [Source],
@@ -114,13 +114,13 @@ fn statement_kept(alloc: Global, typed: &Typed) -> Result<Rows, Memory>
 
 /// The instructions of the rows that a query, an EXPLAIN, a DELETE or an UPDATE keeps.
 ///
-/// Over every valid database that has the tables of a formed statement, they give for each table the oids
+/// Over every valid database that has the statement's tables, they give for each table the oids
 /// of its rows in the choices that the condition keeps, in order; they have no value exactly where the
 /// condition overflows.
 pub fn compile_rows(alloc: Global, typed: &Typed) -> Result<Rows, Memory>
     requires { keeps_rows (stmt_tree typed.now.stmt) ≡ true }
     ensures rows { IfOk result (λ rows. (rows.instrs, variables rows.rows.items) ≡ (statement_rows (stmt_tree typed.now.stmt) typed.now.sources).run []) }
-    ensures meaning { IfOk result (λ rows. (db : Db) → IsFormed (stmt_tree typed.now.stmt) → HoldsTables (stmt_tree typed.now.stmt) typed.now.sources db
+    ensures meaning { IfOk result (λ rows. (db : Db) → HoldsTables (stmt_tree typed.now.stmt) typed.now.sources db
         → values_behind db rows.instrs (variables rows.rows.items) ≡ option_map (oids_of_tables (length typed.now.sources)) (kept_numbers (typed_sources typed.now) (condition_of (stmt_tree typed.now.stmt)) (map (rows_in db) typed.now.sources))) }
 {
     statements_keep_rows();
@@ -209,17 +209,18 @@ fn change_plan(alloc: Global, typed: &Typed) -> Result<Plan, Memory>
 
 /// The plan of a DELETE or an UPDATE.
 ///
-/// Over every valid database that has the table of a formed statement, the plan has no fault, fits its
+/// Over every valid database that has the statement's table, the plan has no fault, fits its
 /// columns and can be run; it gives, for each row of which the condition is true, the row's oid and the
 /// cells of the values that columns are set to, or it overflows.
 pub fn compile_write(alloc: Global, typed: &Typed) -> Result<Plan, Memory>
     requires { is_write (stmt_tree typed.now.stmt) ≡ true }
     ensures plan { IfOk result (λ plan. plan ≡ write_plan (stmt_tree typed.now.stmt) typed.now.sources) }
-    ensures meaning { IfOk result (λ plan. (db : Db) → IsFormed (stmt_tree typed.now.stmt) → HoldsTables (stmt_tree typed.now.stmt) typed.now.sources db
+    ensures meaning { IfOk result (λ plan. (db : Db) → HoldsTables (stmt_tree typed.now.stmt) typed.now.sources db
         → plan_rows plan db ≡ written_rows (typed_sources typed.now) (condition_of (stmt_tree typed.now.stmt)) (new_values (stmt_tree typed.now.stmt)) (map (rows_in db) typed.now.sources)) }
-    ensures runs { IfOk result (λ plan. (db : Db) → IsFormed (stmt_tree typed.now.stmt) → HoldsTables (stmt_tree typed.now.stmt) typed.now.sources db → RunsOver plan db) }
+    ensures runs { IfOk result (λ plan. (db : Db) → HoldsTables (stmt_tree typed.now.stmt) typed.now.sources db → RunsOver plan db) }
 {
     writes_are_meant();
     write_plans_run();
+    checked_plans_run();
     change_plan(alloc, typed)
 }

@@ -19,7 +19,7 @@ mod reading;
 mod rows;
 mod tables;
 
-pub use compile::{Rows, called_tables, compile_rows, compile_write};
+pub use compile::{Rows, called_in_from, called_tables, compile_rows, compile_write};
 pub use conditions::is_cond_alone;
 pub use joins::{all_rows, constant, spread_rows};
 pub use laws::{
