@@ -1,0 +1,19 @@
+pub mod Checks
+pub mod ConstantLemmas
+pub mod Drops
+mod ExamplePlan
+pub mod Faults
+pub mod Finer
+pub mod FlagLemmas
+pub mod Follows
+pub mod Leavings
+pub mod Lives
+pub mod Meanings
+pub mod Normals
+pub mod PassLemmas
+pub mod Promises
+pub mod Runs
+pub mod SettleLemmas
+pub mod Shapes
+pub mod Types
+pub mod Wholes

@@ -1,0 +1,5 @@
+pub mod Laws
+pub mod Live
+pub mod Optimisers
+pub mod Parts
+pub mod Passes
