@@ -1,0 +1,149 @@
+ghost use Rattle.std.specs.Prelude.{◌≡◌, List, Bool, Some, None, length, IfOk, IsErrOf};
+ghost use Rattle.mal_text.specs.Reader as reader;
+ghost use Rattle.mal_text.specs.Reader.{first_token, after_first, Parser};
+ghost use Rattle.mal_text.specs.declared.token.Token.{Token as TokenSeen};
+ghost use Rattle.mal_text.specs.declared.token.Mark.TheVariants as mark;
+
+use crate::block::Term;
+use crate::cursor::{Cursor, is_mark};
+use crate::error::ReadError;
+use crate::token::{Mark, Token};
+use cell_core::{Sequence, Word};
+use std::alloc::Global;
+
+/// What stands one behind the other.
+pub(crate) trait Part: Drop + Sized {
+    ghost goes: { List TokenSeen → Bool };
+
+    ghost reader: { Parser Self };
+
+    /// Whether one stands here.
+    fn goes(tokens: &Cursor<'_>) -> bool
+        ensures { result ≡ goes tokens.now.rest.now };
+
+    /// Reads one.
+    fn read(alloc: Global, tokens: &mut Cursor<'_>) -> Result<Self, ReadError>
+        ensures found { IfOk result (λ part. reader tokens.old.rest.now ≡ Some (part, tokens.new.rest.now)) }
+        ensures none { IsErrOf result ReadError.NoBlock → reader tokens.old.rest.now ≡ None };
+}
+
+/// Adds parts as long as one stands here.
+pub(crate) fn repeated<P: Part>(
+    alloc: Global,
+    tokens: &mut Cursor<'_>,
+    first: Sequence<P>,
+) -> Result<Sequence<P>, ReadError>
+    ensures found { IfOk result (λ parts. reader.repeated P.goes P.reader (length tokens.old.rest.now) first tokens.old.rest.now
+        ≡ Some (parts, tokens.new.rest.now)) }
+    ensures none { IsErrOf result ReadError.NoBlock →
+        reader.repeated P.goes P.reader (length tokens.old.rest.now) first tokens.old.rest.now ≡ None }
+{
+    let mut parts = first;
+    'parts: for turn in 0..tokens.len() {
+        if !P::goes(tokens) {
+            return Ok(parts);
+        }
+        let next = P::read(alloc, tokens)?;
+        parts.push(next)?;
+    }
+    Ok(parts)
+}
+
+/// An argument behind a comma.
+impl Part for Term {
+    ghost goes = { reader.goes_further };
+
+    ghost reader = { reader.further };
+
+    fn goes(tokens: &Cursor<'_>) -> bool {
+        is_mark(tokens.peek(), Mark::Comma)
+    }
+
+    #[tactic(auto, unfolding(crate::specs::Reader::further))]
+    fn read(_alloc: Global, tokens: &mut Cursor<'_>) -> Result<Term, ReadError> {
+        tokens.mark(Mark::Comma)?;
+        term(tokens)
+    }
+}
+
+/// Arguments up to a `)`, with commas between them.
+#[tactic(auto, unfolding(crate::specs::Reader::terms))]
+pub(crate) fn terms(alloc: Global, tokens: &mut Cursor<'_>) -> Result<Sequence<Term>, ReadError>
+    ensures found { IfOk result (λ terms. reader.terms tokens.old.rest.now ≡ Some (terms, tokens.new.rest.now)) }
+    ensures none { IsErrOf result ReadError.NoBlock → reader.terms tokens.old.rest.now ≡ None }
+{
+    let mut parts = Sequence::new(alloc);
+    if is_mark(tokens.peek(), Mark::Close) {
+        return Ok(parts);
+    }
+    let first = term(tokens)?;
+    parts.push(first)?;
+    repeated(alloc, tokens, parts)
+}
+
+/// An argument.
+#[tactic(auto, unfolding(crate::specs::Reader::term_of))]
+pub(crate) fn term(tokens: &mut Cursor<'_>) -> Result<Term, ReadError>
+    ensures found { IfOk result (λ term. reader.term_of tokens.old.rest.now ≡ Some (term, tokens.new.rest.now)) }
+    ensures none { IsErrOf result ReadError.NoBlock → reader.term_of tokens.old.rest.now ≡ None }
+{
+    match tokens.next() {
+        Some(Token::Name(word)) => Ok(Term::Name(word.share()?)),
+        Some(Token::Text(text)) => text_behind(text, tokens),
+        Some(Token::Digits(digits)) => digits_behind(digits, tokens),
+        Some(Token::Mark(Mark::Minus)) => negative_behind(tokens),
+        _ => Err(ReadError::NoBlock),
+    }
+}
+
+/// What follows a text: `:` and `date`, or nothing of it.
+#[tactic(auto, unfolding(crate::specs::Reader::text_behind))]
+fn text_behind(text: &Word, tokens: &mut Cursor<'_>) -> Result<Term, ReadError>
+    ensures found { IfOk result (λ term. reader.text_behind text.now tokens.old.rest.now ≡ Some (term, tokens.new.rest.now)) }
+    ensures none { IsErrOf result ReadError.NoBlock → reader.text_behind text.now tokens.old.rest.now ≡ None }
+{
+    if !is_mark(tokens.peek(), Mark::Colon) {
+        return Ok(Term::Text(text.share()?));
+    }
+    tokens.advance();
+    tokens.word("date")?;
+    Ok(Term::Date(text.share()?))
+}
+
+/// What follows the digits of a number: `:` and `hge`, or nothing of it.
+#[tactic(auto, unfolding(crate::specs::Reader::number_behind))]
+fn number_behind(negative: bool, digits: &Word, tokens: &mut Cursor<'_>) -> Result<Term, ReadError>
+    ensures found { IfOk result (λ term. reader.number_behind negative digits.now tokens.old.rest.now ≡ Some (term, tokens.new.rest.now)) }
+    ensures none { IsErrOf result ReadError.NoBlock → reader.number_behind negative digits.now tokens.old.rest.now ≡ None }
+{
+    if !is_mark(tokens.peek(), Mark::Colon) {
+        return Ok(Term::Int(negative, digits.share()?));
+    }
+    tokens.advance();
+    tokens.word("hge")?;
+    Ok(Term::Huge(negative, digits.share()?))
+}
+
+/// What follows digits without a sign: `@` and `0`, or what may follow those of a number.
+#[tactic(auto, unfolding(crate::specs::Reader::digits_behind))]
+fn digits_behind(digits: &Word, tokens: &mut Cursor<'_>) -> Result<Term, ReadError>
+    ensures found { IfOk result (λ term. reader.digits_behind digits.now tokens.old.rest.now ≡ Some (term, tokens.new.rest.now)) }
+    ensures none { IsErrOf result ReadError.NoBlock → reader.digits_behind digits.now tokens.old.rest.now ≡ None }
+{
+    if !is_mark(tokens.peek(), Mark::At) {
+        return number_behind(false, digits, tokens);
+    }
+    tokens.advance();
+    tokens.zero()?;
+    Ok(Term::Oid(digits.share()?))
+}
+
+/// What follows a `-`.
+#[tactic(auto, unfolding(crate::specs::Reader::negative_behind))]
+fn negative_behind(tokens: &mut Cursor<'_>) -> Result<Term, ReadError>
+    ensures found { IfOk result (λ term. reader.negative_behind tokens.old.rest.now ≡ Some (term, tokens.new.rest.now)) }
+    ensures none { IsErrOf result ReadError.NoBlock → reader.negative_behind tokens.old.rest.now ≡ None }
+{
+    let digits = tokens.digits()?;
+    number_behind(true, &digits, tokens)
+}
