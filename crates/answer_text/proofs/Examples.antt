@@ -12,8 +12,10 @@ use Rattle.sql_tree.specs.Tree.CondTree.{Within}
 use Rattle.sql_tree.specs.Tree.StmtTree.{CreateTable, DropTable, InsertInto, Select, ExplainSelect}
 use Rattle.sql_semantics.specs.declared.refusal.Refusal.{Refusal}
 use Rattle.sql_semantics.specs.declared.refusal.Refusal.TheVariants.{Syntax, NoTable}
+use Rattle.mal_opt.specs.Passes.{constant_value}
 use Rattle.answer_text.specs.declared.event.Shown.TheVariants as shown
 use Rattle.answer_text.specs.Log.{EventTree, ActTree, Begins, Writes, Ends, acts_over, tables_met, AreStatements, logged_of, IsOrdered}
+use Rattle.answer_text.specs.Plans.{optimised_plan}
 use Rattle.answer_text.specs.Layout.{record_text, reply_text, printed}
 
 -- ## Records and replies
@@ -145,19 +147,19 @@ two_output = refl
 
 -- ## EXPLAIN and DROP
 
--- an EXPLAIN that the tables accept isn't built yet, and one that they refuse is refused like its query
+-- an EXPLAIN that the tables accept shows the plan of its query, optimised, as an independent implementation prints it, and one that they refuse is refused like its query
 abbrev pub explain_log : List EventTree
 explain_log =
     event 1 1 (Begins 3) ∷ event 1 1 (Ends 3) ∷ event 1 2 (Writes (Some create_t) 0 0)
-    ∷ event 1 3 (Begins 2) ∷ event 1 3 (Ends 2) ∷ event 1 4 (Writes (Some (DropTable (codes "t"))) 0 0) ∷ []
+    ∷ event 1 3 (Begins 0) ∷ event 1 3 (Ends 0) ∷ event 1 4 (Writes (Some (DropTable (codes "t"))) 0 0) ∷ []
 
 abbrev pub explain_script : List (Result StmtTree Refusal)
 explain_script = Ok (ExplainSelect query_a) ∷ Ok create_t ∷ Ok (ExplainSelect query_a) ∷ Ok (DropTable (codes "t")) ∷ []
 
 explain_acts : acts_from explain_log 1 1 explain_script ≡ logged_of 1 explain_log
-unfolding keyword_of keywords is_unsupported_word unsupported_words
+unfolding keyword_of keywords is_unsupported_word unsupported_words constant_value optimised_plan
 explain_acts = refl
 
-explain_output : printed (codes "a.sql" ∷ []) (explain_script ∷ []) explain_log ≡ codes "session 1 a.sql\n1 refused 3 no such table t\n2 ok\n3 refused 2 unsupported NOT BUILT\n4 ok\nhistory 2\n1 1 2 CREATE TABLE t (a INT);\n2 1 4 DROP TABLE t;\n"
-unfolding keyword_of keywords is_unsupported_word unsupported_words digits
+explain_output : printed (codes "a.sql" ∷ []) (explain_script ∷ []) explain_log ≡ codes "session 1 a.sql\n1 refused 3 no such table t\n2 ok\n3 plan 9\nfunction user.main():void;\n    X_1 := sql.bind(\"t\", \"a\", \"int\");\n    X_2 := algebra.select(X_1, 2, 3, true, true);\n    X_3 := algebra.mirror(X_2);\n    X_4 := algebra.markT(X_3, 0@0);\n    X_5 := algebra.reverse(X_4);\n    X_6 := algebra.join(X_5, X_1);\n    sql.output(X_6);\nend user.main;\n4 ok\nhistory 2\n1 1 2 CREATE TABLE t (a INT);\n2 1 4 DROP TABLE t;\n"
+unfolding keyword_of keywords is_unsupported_word unsupported_words digits constant_value optimised_plan
 explain_output = refl

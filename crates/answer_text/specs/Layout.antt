@@ -1,5 +1,5 @@
 -- Every byte that a run prints.
-use Rattle.std.specs.Prelude.{ℕ, ◌==◌, List, [], ◌∷◌, ◌++◌, length, map, flat_map, Bool, true, false, ◌||◌, if◌then◌else◌, Option, Some, None, Result, codes, decimal}
+use Rattle.std.specs.Prelude.{ℕ, ◌==◌, List, [], ◌∷◌, ◌++◌, length, map, filter, flat_map, Bool, true, false, ◌||◌, if◌then◌else◌, Option, Some, None, Result, codes, decimal}
 use Rattle.std.specs.List.{list_any, filter_map, enumerate_from, zip}
 use Rattle.cell_core.specs.declared.cell.Cell.{Cell}
 use Rattle.cell_core.specs.CellText.{cell_text}
@@ -43,11 +43,16 @@ row_record row = record_text (map cell_text row)
 
 -- ## Replies
 
+-- the number of lines of a text, each of which ends with LF
+abbrev pub line_count : List ℕ → ℕ
+line_count text = length (filter (λ b. b == 10) text)
+
 -- the reply to statement k
 abbrev pub reply_text : ℕ → Shown → List ℕ
 reply_text k shown.Done = decimal k ++ codes " ok\n"
 reply_text k (shown.Count n) = decimal k ++ codes " ok " ++ decimal n ++ codes "\n"
 reply_text k (shown.Rows rows) = decimal k ++ codes " rows " ++ decimal (length rows) ++ codes "\n" ++ flat_map row_record rows
+reply_text k (shown.Plan text) = decimal k ++ codes " plan " ++ decimal (line_count text) ++ codes "\n" ++ text
 reply_text k (shown.Refused refusal) = decimal k ++ codes " refused " ++ decimal (refusal_number refusal) ++ codes " " ++ refusal_words refusal ++ codes "\n"
 
 -- the line of a session

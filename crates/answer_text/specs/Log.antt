@@ -1,5 +1,5 @@
 -- The log: its commits, the place of a statement in it, and which events a run logs.
-use Rattle.std.specs.Prelude.{◌≡◌, ℕ, suc, ◌+◌, ◌-◌, ◌≤◌, ◌==◌, List, [], ◌∷◌, ◌++◌, length, map, filter, take, Bool, true, false, ◌&&◌, if◌then◌else◌, Option, Some, None, Result, Ok, Err, codes, slice_get}
+use Rattle.std.specs.Prelude.{◌≡◌, ℕ, suc, ◌+◌, ◌-◌, ◌≤◌, ◌==◌, List, [], ◌∷◌, ◌++◌, length, map, filter, take, Bool, true, false, ◌&&◌, if◌then◌else◌, Option, Some, None, Result, Ok, Err, slice_get}
 use Rattle.std.specs.List.{filter_map, AllByRecursion}
 use Rattle.std.specs.Option.{option_map}
 use Rattle.cell_core.specs.declared.cell.Cell.{Cell}
@@ -12,9 +12,11 @@ use Rattle.sql_semantics.specs.Check.{check_refusal}
 use Rattle.sql_semantics.specs.Effect.{effect, replay}
 use Rattle.sql_semantics.specs.Sources.{schema_of}
 use Rattle.sql_semantics.specs.declared.refusal.Refusal.{Refusal}
-use Rattle.sql_semantics.specs.declared.refusal.Refusal.TheVariants.{Unsupported, Overflow}
+use Rattle.sql_semantics.specs.declared.refusal.Refusal.TheVariants.{Overflow}
 use Rattle.sql_semantics.specs.declared.refusal.Reply.{Reply}
 use Rattle.sql_semantics.specs.declared.refusal.Reply.TheVariants as reply
+use Rattle.mal_text.specs.Canon.{plan_text}
+use Rattle.answer_text.specs.Plans.{plan_over}
 use Rattle.answer_text.specs.declared.event.Event.{Event}
 use Rattle.answer_text.specs.declared.event.Act.{Act}
 use Rattle.answer_text.specs.declared.event.Act.TheVariants as act
@@ -93,16 +95,16 @@ shown_query None None = shown.Refused Overflow
 abbrev pub refusal_over : Db → StmtTree → Option Refusal
 refusal_over db statement = check_refusal statement (schema_of db)
 
--- EXPLAIN is refused by the tables like its query, and else as what isn't built yet
-abbrev pub explain_refusal : Option Refusal → Refusal
-explain_refusal (Some refusal) = refusal
-explain_refusal None = Unsupported (codes "NOT BUILT")
+-- what an EXPLAIN shows: the refusal of its query, or the text of the plan by which the query is run
+abbrev pub shown_explain : Option Refusal → List ℕ → Shown
+shown_explain (Some refusal) text = shown.Refused refusal
+shown_explain None text = shown.Plan text
 
 -- the reply to a statement that meets these tables
 abbrev pub shown_over : Db → Result StmtTree Refusal → Shown
 shown_over db (Err refusal) = shown.Refused refusal
 shown_over db (Ok (Select query)) = shown_query (refusal_over db (Select query)) (answer query db)
-shown_over db (Ok (ExplainSelect query)) = shown.Refused (explain_refusal (refusal_over db (ExplainSelect query)))
+shown_over db (Ok (ExplainSelect query)) = shown_explain (refusal_over db (ExplainSelect query)) (plan_text (plan_over db query))
 shown_over db (Ok statement) = shown_reply (effect statement db).1
 
 -- 0, or the refusal's number

@@ -63,6 +63,8 @@ pub enum Shown {
     Count(u64),
     /// The rows of a query, in the order in which they are printed.
     Rows(Sequence<Sequence<Cell>>),
+    /// The text of a plan, of which each line ends with LF.
+    Plan(Sequence<u8>),
     /// Refused.
     Refused(Refusal),
 }

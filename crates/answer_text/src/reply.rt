@@ -1,5 +1,5 @@
 ghost use Rattle.std.specs.Prelude.{◌≡◌, ◌++◌, IfOk, OnOk, OnErr};
-ghost use Rattle.answer_text.specs.Layout.{reply_text, session_line};
+ghost use Rattle.answer_text.specs.Layout.{line_count as line_count_of, reply_text, session_line};
 
 use crate::event::Shown;
 use crate::number::write_number;
@@ -17,6 +17,14 @@ pub fn write_reply(alloc: Global, k: u32, reply: &Shown, out: &mut Vec<u8>) -> R
     Ok(())
 }
 
+/// The number of lines of a text, each of which ends with LF.
+fn line_count(text: &[u8]) -> usize
+    ensures { result ≡ line_count_of text.now }
+{
+    text.iter().filter(|byte| **byte == b'\n').count()
+}
+
+/// The reply to statement `k` of a session.
 fn reply_bytes(alloc: Global, k: u32, reply: &Shown) -> Result<Vec<u8>, Memory>
     ensures { IfOk result (λ text. text.items ≡ reply_text k reply.now) }
 {
@@ -34,6 +42,12 @@ fn reply_bytes(alloc: Global, k: u32, reply: &Shown) -> Result<Vec<u8>, Memory>
             write_number(rows.len() as u64, &mut text)?;
             text.extend_from_slice(b"\n")?;
             return with_records(alloc, text, rows.as_slice());
+        }
+        Shown::Plan(plan) => {
+            text.extend_from_slice(b" plan ")?;
+            write_number(line_count(plan.as_slice()) as u64, &mut text)?;
+            text.extend_from_slice(b"\n")?;
+            text.extend_from_slice(plan.as_slice())?;
         }
         Shown::Refused(refusal) => {
             text.extend_from_slice(b" refused ")?;

@@ -1,6 +1,6 @@
-//! Tests of what SQL means: scripts that are read, checked and run, against what an independent
-//! implementation of the language prints, and each other public call of `sql_semantics`, `sql_meaning`
-//! and `sql_changes` once with enough memory.
+//! Tests of what SQL means: scripts that are read, checked and run, by their plain meaning and by their
+//! plans, against what an independent implementation of the language prints, and each other public call
+//! of `sql_semantics`, `sql_meaning` and `sql_changes` once with enough memory.
 #![tactic(auto)]
 
 #[cfg(test)]

@@ -3,7 +3,7 @@ ghost use Rattle.sql_grammar.specs.Formed.{IsFormed};
 ghost use Rattle.sql_tree.specs.Tree.{stmt_tree};
 
 use crate::made::{columns, named, not_one, one, row, times_largest};
-use crate::run::told;
+use crate::run::{Way, told};
 use crate::scripts::{
     DEFAULTS, DEFAULTS_TOLD, NULLS, NULLS_TOLD, REFUSED, REFUSED_TOLD, WIDE, WIDE_TOLD,
 };
@@ -30,7 +30,8 @@ fn scripts_show_what_is_told_of_them(rt: HostRuntime) -> Result<(), Fail> {
         (REFUSED, REFUSED_TOLD),
         (WIDE, WIDE_TOLD),
     ] {
-        assert!(rt; told(alloc, script)?.as_slice() == want.as_bytes());
+        assert!(rt; told(alloc, Way::Meaning, script)?.as_slice() == want.as_bytes());
+        assert!(rt; told(alloc, Way::Plan, script)?.as_slice() == want.as_bytes());
     }
     Ok(())
 }

@@ -269,9 +269,9 @@ read_of (t ∷ ts) [] are = absurd are
 read_of (t ∷ ts) (r ∷ rs) are = (are.0, read_of ts rs are.1)
 
 -- the run of scripts that were read is one over their files
-pub run_of : (bytes : List ℕ → Option (List ℕ)) (names : List (List ℕ)) (scripts : List Script) (log : List EventTree) (text : List ℕ) (work : ℕ)
-    → AreCut bytes names scripts → Produces (names_of scripts) (pieces_in scripts) log text work → IsRun bytes names text log work
-run_of bytes names scripts log text work are produced =
+pub run_of : (bytes : List ℕ → Option (List ℕ)) (names : List (List ℕ)) (scripts : List Script) (log : List EventTree) (text : List ℕ) (work before after : ℕ)
+    → AreCut bytes names scripts → Produces (names_of scripts) (pieces_in scripts) log text work before after → IsRun bytes names text log work before after
+run_of bytes names scripts log text work before after are produced =
     let of = are_of bytes names scripts are in
     let P : List (List (List ℕ)) → Type 0 = λ ps. AreAllRead ps produced.readings in
     let read : AreRead of.texts produced.readings = read_of of.texts produced.readings (subst P of.cut produced.read) in
@@ -285,7 +285,7 @@ run_of bytes names scripts log text work are produced =
         ordered = produced.ordered;
         printed_is = produced.printed_is ∙ ap (λ ns. printed ns produced.readings log) of.named;
       };
-      worked = record { readings = produced.readings; read = read; work_is = produced.work_is };
+      worked = record { readings = produced.readings; read = read; work_is = produced.work_is; counted = produced.counted };
     }
 
 -- ## What is said of the words and of what is told

@@ -12,14 +12,14 @@ use Rattle.sql_tree.specs.Tree.{QueryTree, StmtTree}
 use Rattle.sql_tree.specs.Tree.StmtTree.{CreateTable, DropTable, AlterTable, InsertInto, DeleteFrom, UpdateTable, Select, ExplainSelect}
 use Rattle.answer_text.specs.declared.event.Shown.{Shown}
 use Rattle.answer_text.specs.declared.event.Shown.TheVariants as shown
-use Rattle.answer_text.specs.Log.{ActTree, EventTree, Begins, Writes, Ends, log_tree, acts_over, refusal_over, explain_refusal, shown_over, shown_reply, code_of, count_of, begin_code, IsOrdered}
+use Rattle.answer_text.specs.Log.{ActTree, EventTree, Begins, Writes, Ends, log_tree, acts_over, refusal_over, shown_over, shown_reply, code_of, count_of, begin_code, IsOrdered}
 use Rattle.answer_text.specs.Layout.{reply_text, session_line, history_text, printed}
 use Rattle.sql_shell.specs.declared.session.Run.{Run}
-use Rattle.sql_shell.specs.Session.{no_tables, events_of, db_after, run_db, run_log, run_text, work_from, all_db, all_log, all_text, all_work, is_change, is_explain, IsFormedReading, AreFormed, Follows, Serves, ServesPieces, HasServed, Changes, Notes, Tells, TellsRead, Counts, Produces}
+use Rattle.sql_shell.specs.Session.{no_tables, events_of, db_after, run_db, run_log, run_text, run_takes, all_db, all_log, all_text, all_takes, is_change, IsFormedReading, AreFormed, Follows, Serves, ServesPieces, HasServed, Changes, Notes, Tells, TellsRead, Adds, Produces}
 use Rattle.sql_shell.specs.Served.{RiseFrom}
-use Rattle.sql_shell.specs.Work.{statement_work, run_work}
+use Rattle.sql_shell.specs.Work.{Counts, statement_work, statement_lost, run_work, run_lost}
 use Rattle.sql_shell.proofs.CommitLemmas.{select_keeps, explain_keeps}
-use Rattle.sql_shell.proofs.SessionLemmas.{sessions_ordered, sessions_printed, sessions_work, sessions_rise}
+use Rattle.sql_shell.proofs.SessionLemmas.{sessions_ordered, sessions_printed, sessions_take, sessions_rise}
 use Rattle.sql_shell.specs.Readings.{AreReadings, AreAllRead}
 use Rattle.sql_shell.specs.Scripts.{names_of, pieces_in}
 use Rattle.sql_shell.specs.declared.scripts.Script.{Script}
@@ -56,17 +56,27 @@ more_text db k j (r ∷ rs) reading is =
     ap (λ later. reply_text k (shown_over db r) ++ later) (more_text (db_after db r) (k + 1) j rs reading (omega arith))
     ∙ sym (append_assoc (reply_text k (shown_over db r)) (run_text (db_after db r) (k + 1) rs) (reply_text j (shown_over (run_db (db_after db r) rs) reading)))
 
-more_work : (db : Db) (readings : List (Result StmtTree Refusal)) (reading : Result StmtTree Refusal) → work_from db (readings ++ reading ∷ []) ≡ work_from db readings + statement_work (run_db db readings) reading
-more_work db [] reading = omega arith
-more_work db (r ∷ rs) reading = omega (arith, more_work (db_after db r) rs reading)
+more_taken : (takes : Db → Result StmtTree Refusal → ℕ) (db : Db) (readings : List (Result StmtTree Refusal)) (reading : Result StmtTree Refusal) → run_takes takes db (readings ++ reading ∷ []) ≡ run_takes takes db readings + takes (run_db db readings) reading
+more_taken takes db [] reading = omega arith
+more_taken takes db (r ∷ rs) reading = omega (arith, more_taken takes (db_after db r) rs reading)
+
+-- a counter that has counted nothing, one thing after another, and the same under other names
+pub counts_none : (at : ℕ) → Counts at at 0 0
+counts_none at = record { least = omega arith; most = omega arith }
+
+pub counts_more : (before middle after work lost more_work more_lost : ℕ) → Counts before middle work lost → Counts middle after more_work more_lost → Counts before after (work + more_work) (lost + more_lost)
+counts_more before middle after work lost more_work more_lost a b = record { least = omega (arith, a.least, b.least); most = omega (arith, a.most, b.most) }
+
+pub counts_as : (before after work lost same_work same_lost : ℕ) → work ≡ same_work → lost ≡ same_lost → Counts before after work lost → Counts before after same_work same_lost
+counts_as before after work lost same_work same_lost a b counts = record { least = omega (arith, a, counts.least); most = omega (arith, a, b, counts.most) }
 
 -- no statement yet
-pub serves_none : (run : Run) (s : ℕ) → ServesPieces run run s []
-serves_none run s = record { readings = []; read = tt; formed = tt; db = refl; log = sym (append-nil (log_tree run.log.items)); text = sym (append-nil run.text.items); work = omega arith }
+pub serves_none : (run : Run) (s at : ℕ) → ServesPieces run run s [] at at
+serves_none run s at = record { readings = []; read = tt; formed = tt; db = refl; log = sym (append-nil (log_tree run.log.items)); text = sym (append-nil run.text.items); work = omega arith; counted = counts_none at }
 
 -- one piece more
-pub serves_more : (first old new : Run) (s : ℕ) (pieces : List (List ℕ)) (k : ℕ) (text : List ℕ) → k ≡ length pieces + 1 → ServesPieces first old s pieces → Serves old new s k text → ServesPieces first new s (pieces ++ text ∷ [])
-serves_more first old new s pieces k text is served serves =
+pub serves_more : (first old new : Run) (s : ℕ) (pieces : List (List ℕ)) (k : ℕ) (text : List ℕ) (start before after : ℕ) → k ≡ length pieces + 1 → ServesPieces first old s pieces start before → Serves old new s k text before after → ServesPieces first new s (pieces ++ text ∷ []) start after
+serves_more first old new s pieces k text start before after is served serves =
     let readings = served.readings in
     let reading = serves.reading in
     let count : k ≡ 1 + length readings = omega (arith, as_many pieces readings served.read) in
@@ -84,8 +94,12 @@ serves_more first old new s pieces k text is served serves =
           ∙ append_assoc first.text.items (run_text first.db 1 readings) (reply_text k (shown_over (run_db first.db readings) reading))
           ∙ ap (λ text. first.text.items ++ text) (sym (more_text first.db 1 k readings reading count));
       work = serves.follows.work ∙ ap (λ n. n + statement_work old.db reading) served.work
-          ∙ ap (λ db. (first.work + work_from first.db readings) + statement_work db reading) served.db
-          ∙ omega (arith, more_work first.db readings reading);
+          ∙ ap (λ db. (first.work + run_takes statement_work first.db readings) + statement_work db reading) served.db
+          ∙ omega (arith, more_taken statement_work first.db readings reading);
+      counted = counts_as start after _ _ _ _
+          (ap (λ db. run_takes statement_work first.db readings + statement_work db reading) served.db ∙ sym (more_taken statement_work first.db readings reading))
+          (ap (λ db. run_takes statement_lost first.db readings + statement_lost db reading) served.db ∙ sym (more_taken statement_lost first.db readings reading))
+          (counts_more start before after _ _ _ _ served.counted serves.counted);
     }
 
 -- ## Scripts
@@ -124,56 +138,61 @@ all_more_text s t db (n ∷ ns) (r ∷ rs) name more long is =
     ap (λ later. session_line s n ++ run_text db 1 r ++ later) (all_more_text (s + 1) t (run_db db r) ns rs name more (omega (arith, long)) (omega arith))
     ∙ sym (append_assoc (session_line s n ++ run_text db 1 r) (all_text (s + 1) (run_db db r) ns rs) (session_line t name ++ run_text (all_db (run_db db r) rs) 1 more))
 
-all_more_work : (db : Db) (scripts : List (List (Result StmtTree Refusal))) (more : List (Result StmtTree Refusal)) → all_work db (scripts ++ more ∷ []) ≡ all_work db scripts + work_from (all_db db scripts) more
-all_more_work db [] more = omega arith
-all_more_work db (r ∷ rs) more = omega (arith, all_more_work (run_db db r) rs more)
+all_more_taken : (takes : Db → Result StmtTree Refusal → ℕ) (db : Db) (scripts : List (List (Result StmtTree Refusal))) (more : List (Result StmtTree Refusal)) → all_takes takes db (scripts ++ more ∷ []) ≡ all_takes takes db scripts + run_takes takes (all_db db scripts) more
+all_more_taken takes db [] more = omega arith
+all_more_taken takes db (r ∷ rs) more = omega (arith, all_more_taken takes (run_db db r) rs more)
 
 -- one script more: its line, and then its statements
-pub served_more : (names : List (List ℕ)) (scripts : List (List (List ℕ))) (old begun new : Run) (s : ℕ) (name : List ℕ) (pieces : List (List ℕ))
-    → length names ≡ length scripts → s ≡ length scripts + 1 → HasServed names scripts old
+pub served_more : (names : List (List ℕ)) (scripts : List (List (List ℕ))) (old begun new : Run) (s : ℕ) (name : List ℕ) (pieces : List (List ℕ)) (start before after : ℕ)
+    → length names ≡ length scripts → s ≡ length scripts + 1 → HasServed names scripts old start before
     → begun.db ≡ old.db → begun.log.items ≡ old.log.items → begun.work ≡ old.work → begun.text.items ≡ old.text.items ++ session_line s name
-    → ServesPieces begun new s pieces → HasServed (names ++ name ∷ []) (scripts ++ pieces ∷ []) new
-served_more names scripts old begun new s name pieces long count served db log work text serves =
+    → ServesPieces begun new s pieces before after → HasServed (names ++ name ∷ []) (scripts ++ pieces ∷ []) new start after
+served_more names scripts old begun new s name pieces start before after long count served db log work text serves =
     let all = served.readings in
     let more = serves.readings in
     let many = all_as_many scripts all served.read in
     let number : s ≡ 1 + length all = omega (arith, many) in
-    let before : begun.db ≡ all_db no_tables all = db ∙ served.db in
+    let from : begun.db ≡ all_db no_tables all = db ∙ served.db in
     record {
       readings = all ++ more ∷ [];
       read = all_more_read scripts all pieces more served.read serves.read;
       formed = all_more_formed all more served.formed serves.formed;
-      db = serves.db ∙ ap (λ d. run_db d more) before ∙ sym (all_more_db no_tables all more);
-      log = serves.log ∙ ap (λ l. l ++ run_log s begun.db 1 more) (ap log_tree log ∙ served.log) ∙ ap (λ d. all_log 1 no_tables all ++ run_log s d 1 more) before ∙ sym (all_more_log 1 s no_tables all more number);
+      db = serves.db ∙ ap (λ d. run_db d more) from ∙ sym (all_more_db no_tables all more);
+      log = serves.log ∙ ap (λ l. l ++ run_log s begun.db 1 more) (ap log_tree log ∙ served.log) ∙ ap (λ d. all_log 1 no_tables all ++ run_log s d 1 more) from ∙ sym (all_more_log 1 s no_tables all more number);
       text = serves.text ∙ ap (λ t. t ++ run_text begun.db 1 more) (text ∙ ap (λ t. t ++ session_line s name) served.text)
-          ∙ ap (λ d. (all_text 1 no_tables names all ++ session_line s name) ++ run_text d 1 more) before
+          ∙ ap (λ d. (all_text 1 no_tables names all ++ session_line s name) ++ run_text d 1 more) from
           ∙ append_assoc (all_text 1 no_tables names all) (session_line s name) (run_text (all_db no_tables all) 1 more)
           ∙ sym (all_more_text 1 s no_tables names all name more (omega (arith, many, long)) number);
-      work = serves.work ∙ ap (λ n. n + work_from begun.db more) (work ∙ served.work) ∙ ap (λ d. all_work no_tables all + work_from d more) before ∙ sym (all_more_work no_tables all more);
+      work = serves.work ∙ ap (λ n. n + run_takes statement_work begun.db more) (work ∙ served.work) ∙ ap (λ d. all_takes statement_work no_tables all + run_takes statement_work d more) from ∙ sym (all_more_taken statement_work no_tables all more);
+      counted = counts_as start after _ _ _ _
+          (ap (λ d. all_takes statement_work no_tables all + run_takes statement_work d more) from ∙ sym (all_more_taken statement_work no_tables all more))
+          (ap (λ d. all_takes statement_lost no_tables all + run_takes statement_lost d more) from ∙ sym (all_more_taken statement_lost no_tables all more))
+          (counts_more start before after _ _ _ _ served.counted serves.counted);
     }
 
 -- the same for the next of a list of scripts
-pub scripts_more : (scripts : List Script) (i : ℕ) (script : Script) (old begun new : Run)
-    → i < length scripts → script ≡ slice_index_or scripts i script → HasServed (names_of (take i scripts)) (pieces_in (take i scripts)) old
+pub scripts_more : (scripts : List Script) (i : ℕ) (script : Script) (old begun new : Run) (start before after : ℕ)
+    → i < length scripts → script ≡ slice_index_or scripts i script → HasServed (names_of (take i scripts)) (pieces_in (take i scripts)) old start before
     → begun.db ≡ old.db → begun.log.items ≡ old.log.items → begun.work ≡ old.work → begun.text.items ≡ old.text.items ++ session_line (i + 1) script.name
-    → ServesPieces begun new (i + 1) script.pieces → HasServed (names_of (take (i + 1) scripts)) (pieces_in (take (i + 1) scripts)) new
-scripts_more scripts i script old begun new inside is served db log work text serves =
+    → ServesPieces begun new (i + 1) script.pieces before after → HasServed (names_of (take (i + 1) scripts)) (pieces_in (take (i + 1) scripts)) new start after
+scripts_more scripts i script old begun new start before after inside is served db log work text serves =
     let done = take i scripts in
     let more : done ++ script ∷ [] ≡ take (i + 1) scripts = ap (λ x. done ++ x ∷ []) is ∙ sym (take_more scripts i script inside) in
     let long : length done ≡ i = length-take-le i scripts (omega arith) in
     let names : length (names_of done) ≡ length done = length-map done (λ (s : Script). s.name) in
     let pieces : length (pieces_in done) ≡ length done = length-map done (λ (s : Script). s.pieces) in
-    let all = served_more (names_of done) (pieces_in done) old begun new (i + 1) script.name script.pieces (names ∙ sym pieces) (omega (arith, pieces, long)) served db log work text serves in
-    let P : List Script → Type 0 = λ ss. HasServed (names_of ss) (pieces_in ss) new in
-    let Q : List (List ℕ) → Type 0 = λ ns. HasServed ns (pieces_in done ++ script.pieces ∷ []) new in
-    let R : List (List (List ℕ)) → Type 0 = λ ps. HasServed (names_of (done ++ script ∷ [])) ps new in
+    let all = served_more (names_of done) (pieces_in done) old begun new (i + 1) script.name script.pieces start before after (names ∙ sym pieces) (omega (arith, pieces, long)) served db log work text serves in
+    let P : List Script → Type 0 = λ ss. HasServed (names_of ss) (pieces_in ss) new start after in
+    let Q : List (List ℕ) → Type 0 = λ ns. HasServed ns (pieces_in done ++ script.pieces ∷ []) new start after in
+    let R : List (List (List ℕ)) → Type 0 = λ ps. HasServed (names_of (done ++ script ∷ [])) ps new start after in
     subst P more (subst R (sym (map-append (λ (s : Script). s.pieces) done (script ∷ []))) (subst Q (sym (map-append (λ (s : Script). s.name) done (script ∷ []))) all))
 
 -- what the scripts log and print
-pub produces : (names : List (List ℕ)) (scripts : List (List (List ℕ))) (run : Run) (text : List ℕ) → HasServed names scripts run → text ≡ run.text.items ++ history_text (log_tree run.log.items) → Produces names scripts (log_tree run.log.items) text run.work
-produces names scripts run text served is =
+pub produces : (names : List (List ℕ)) (scripts : List (List (List ℕ))) (run : Run) (text : List ℕ) (before after : ℕ) → HasServed names scripts run before after → text ≡ run.text.items ++ history_text (log_tree run.log.items) → Produces names scripts (log_tree run.log.items) text run.work before after
+produces names scripts run text before after served is =
     let readings = served.readings in
     let P : List EventTree → Type 0 = λ log. IsOrdered readings log in
+    let works : run.work ≡ run_work readings (all_log 1 no_tables readings) = served.work ∙ sym (sessions_take statement_work readings) in
     record {
       readings = readings;
       read = served.read;
@@ -183,7 +202,9 @@ produces names scripts run text served is =
           ∙ ap (λ log. all_text 1 no_tables names readings ++ history_text log) served.log
           ∙ sym (sessions_printed names readings)
           ∙ ap (λ log. printed names readings log) (sym served.log);
-      work_is = served.work ∙ sym (sessions_work readings) ∙ ap (λ log. run_work readings log) (sym served.log);
+      work_is = works ∙ ap (λ log. run_work readings log) (sym served.log);
+      counted = counts_as before after _ _ _ _ (sym served.work)
+          (sym (sessions_take statement_lost readings) ∙ ap (λ log. run_lost readings log) (sym served.log)) served.counted;
       in_turn = subst (RiseFrom 1) (sym served.log) (sessions_rise 1 no_tables readings);
     }
 
@@ -203,7 +224,7 @@ tells_read old begun new s k begin code shown notes tells codes =
 
 -- a query's work counted, its two acts logged, and its reply written
 pub query_served : (old counted new : Run) (s k work begin : ℕ) (shown : Shown) (query : QueryTree)
-    → Counts old counted work → TellsRead counted new s k begin shown
+    → Adds old counted work → TellsRead counted new s k begin shown
     → shown ≡ shown_over old.db (Ok (Select query)) → work ≡ statement_work old.db (Ok (Select query)) → begin ≡ begin_code (refusal_over old.db (Select query))
     → Follows old new s k (Ok (Select query))
 query_served old counted new s k work begin shown query counts tells shows works begin_is =
@@ -216,38 +237,18 @@ query_served old counted new s k work begin shown query counts tells shows works
       work = tells.work ∙ counts.work ∙ ap (λ n. old.work + n) works;
     }
 
-explained : (statement : StmtTree) → is_explain statement ≡ true → (query : QueryTree) × (statement ≡ ExplainSelect query)
-explained (ExplainSelect query) h = (query, refl)
-explained (CreateTable table columns) h = cc
-explained (DropTable table) h = cc
-explained (AlterTable table column) h = cc
-explained (InsertInto table listed rows) h = cc
-explained (DeleteFrom table cond) h = cc
-explained (UpdateTable table sets cond) h = cc
-explained (Select query) h = cc
-
-explain_follows : (old new : Run) (s k begin : ℕ) (refusal : Refusal) (query : QueryTree)
-    → TellsRead old new s k begin (shown.Refused refusal)
-    → refusal ≡ explain_refusal (refusal_over old.db (ExplainSelect query)) → begin ≡ refusal_number refusal
+-- an EXPLAIN's two acts logged, and its reply written
+pub explain_served : (old new : Run) (s k begin : ℕ) (shown : Shown) (query : QueryTree)
+    → TellsRead old new s k begin shown → shown ≡ shown_over old.db (Ok (ExplainSelect query)) → begin ≡ code_of shown
     → Follows old new s k (Ok (ExplainSelect query))
-explain_follows old new s k begin refusal query tells is begin_is =
+explain_served old new s k begin shown query tells shows begin_is =
     record {
       db = tells.db ∙ sym (explain_keeps query old.db);
-      log = tells.log ∙ ap (λ (n : ℕ). log_tree old.log.items ++ events_of s k (Begins n ∷ Ends (refusal_number refusal) ∷ [])) begin_is
-          ∙ ap (λ (r : Refusal). log_tree old.log.items ++ events_of s k (Begins (refusal_number r) ∷ Ends (refusal_number r) ∷ [])) is;
-      text = tells.text ∙ ap (λ r. old.text.items ++ reply_text k (shown.Refused r)) is;
+      log = tells.log ∙ ap (λ (n : ℕ). log_tree old.log.items ++ events_of s k (Begins n ∷ Ends (code_of shown) ∷ [])) begin_is
+          ∙ ap (λ (sh : Shown). log_tree old.log.items ++ events_of s k (Begins (code_of sh) ∷ Ends (code_of sh) ∷ [])) shows;
+      text = tells.text ∙ ap (λ sh. old.text.items ++ reply_text k sh) shows;
       work = tells.work ∙ omega arith;
     }
-
--- an EXPLAIN refused, its two acts logged, and its reply written
-pub explain_served : (old new : Run) (s k begin : ℕ) (refusal : Refusal) (statement : StmtTree) → is_explain statement ≡ true
-    → TellsRead old new s k begin (shown.Refused refusal)
-    → refusal ≡ explain_refusal (refusal_over old.db statement) → begin ≡ refusal_number refusal
-    → Follows old new s k (Ok statement)
-explain_served old new s k begin refusal statement explains tells is begin_is =
-    let query = explained statement explains in
-    let P : StmtTree → Type 0 = λ stmt. Follows old new s k (Ok stmt) in
-    subst P (sym query.1) (explain_follows old new s k begin refusal query.0 tells (is ∙ ap (λ stmt. explain_refusal (refusal_over old.db stmt)) query.1) begin_is)
 
 -- what is logged and shown of a change, which takes no work
 record IsWritten (db : Db) (statement : StmtTree) : Type 0 where

@@ -14,9 +14,9 @@ use Rattle.sql_tree.specs.Tree.{StmtTree}
 use Rattle.sql_tree.specs.Tree.StmtTree.{CreateTable, DropTable, AlterTable, InsertInto, DeleteFrom, UpdateTable, Select, ExplainSelect}
 use Rattle.answer_text.specs.Log.{ActTree, EventTree, commits, tables_at, is_opening, is_place, statement_place, tables_met, acts_over, AreStatements, logged_of, shown_over, IsOrdered}
 use Rattle.answer_text.specs.Layout.{reply_text, replies_text, session_line, session_text, history_text, printed}
-use Rattle.sql_shell.specs.Session.{no_tables, events_of, db_after, run_db, run_log, run_text, work_from, all_db, all_log, all_text, all_work}
+use Rattle.sql_shell.specs.Session.{no_tables, events_of, db_after, run_db, run_log, run_text, run_takes, all_db, all_log, all_text, all_takes}
 use Rattle.sql_shell.specs.Served.{RiseFrom}
-use Rattle.sql_shell.specs.Work.{statement_work, session_work, run_work}
+use Rattle.sql_shell.specs.Work.{session_sum, run_sum}
 use Rattle.sql_shell.proofs.CommitLemmas.{commits_lead, commits-append, replay_from-append}
 
 -- ## Places
@@ -181,14 +181,14 @@ texts_from log front s k db (reading ∷ readings) more goes =
     ap (λ d. reply_text k (shown_over d reading) ++ tail) (goes_here log front s k db reading readings more goes)
     ∙ ap (λ text. reply_text k (shown_over db reading) ++ text) later
 
--- and with the work
-works_from : (log front : List EventTree) (s k : ℕ) (db : Db) (readings : List (Result StmtTree Refusal)) (more : List EventTree) → Goes log front s k db readings more → sum_by {X = ℕ × Result StmtTree Refusal} (λ (j, reading). statement_work (tables_met log s j) reading) (enumerate_from k readings) ≡ work_from db readings
-works_from log front s k db [] more goes = refl
-works_from log front s k db (reading ∷ readings) more goes =
-    let later = works_from log (front ++ events_of s k (acts_over db reading)) s (k + 1) (db_after db reading) readings more (goes_next log front s k db reading readings more goes) in
-    sum_by-cons {X = ℕ × Result StmtTree Refusal} (λ (j, reading). statement_work (tables_met log s j) reading) (k, reading) (enumerate_from (k + 1) readings)
-    ∙ ap (λ d. statement_work d reading + sum_by {X = ℕ × Result StmtTree Refusal} (λ (j, reading). statement_work (tables_met log s j) reading) (enumerate_from (k + 1) readings)) (goes_here log front s k db reading readings more goes)
-    ∙ ap (λ n. statement_work db reading + n) later
+-- and with what is taken
+takes_from : (takes : Db → Result StmtTree Refusal → ℕ) (log front : List EventTree) (s k : ℕ) (db : Db) (readings : List (Result StmtTree Refusal)) (more : List EventTree) → Goes log front s k db readings more → sum_by {X = ℕ × Result StmtTree Refusal} (λ (j, reading). takes (tables_met log s j) reading) (enumerate_from k readings) ≡ run_takes takes db readings
+takes_from takes log front s k db [] more goes = refl
+takes_from takes log front s k db (reading ∷ readings) more goes =
+    let later = takes_from takes log (front ++ events_of s k (acts_over db reading)) s (k + 1) (db_after db reading) readings more (goes_next log front s k db reading readings more goes) in
+    sum_by-cons {X = ℕ × Result StmtTree Refusal} (λ (j, reading). takes (tables_met log s j) reading) (k, reading) (enumerate_from (k + 1) readings)
+    ∙ ap (λ d. takes d reading + sum_by {X = ℕ × Result StmtTree Refusal} (λ (j, reading). takes (tables_met log s j) reading) (enumerate_from (k + 1) readings)) (goes_here log front s k db reading readings more goes)
+    ∙ ap (λ n. takes db reading + n) later
 
 -- ## All sessions in the log
 
@@ -330,17 +330,17 @@ pub sessions_printed : (names : List (List ℕ)) (scripts : List (List (Result S
 sessions_printed names scripts =
     ap (λ text. text ++ history_text (all_log 1 no_tables scripts)) (texts_of (all_log 1 no_tables scripts) [] 1 no_tables names scripts (goes_from_none scripts))
 
-works_of : (log front : List EventTree) (s : ℕ) (db : Db) (scripts : List (List (Result StmtTree Refusal))) → GoesAll log front s db scripts → sum_by {X = ℕ × List (Result StmtTree Refusal)} (λ (j, readings). session_work log j readings) (enumerate_from s scripts) ≡ all_work db scripts
-works_of log front s db [] goes = refl
-works_of log front s db (readings ∷ others) goes =
-    let later = works_of log (front ++ run_log s db 1 readings) (s + 1) (run_db db readings) others (goes_others log front s db readings others goes) in
-    sum_by-cons {X = ℕ × List (Result StmtTree Refusal)} (λ (j, readings). session_work log j readings) (s, readings) (enumerate_from (s + 1) others)
-    ∙ ap (λ n. n + sum_by {X = ℕ × List (Result StmtTree Refusal)} (λ (j, readings). session_work log j readings) (enumerate_from (s + 1) others)) (works_from log front s 1 db readings _ (goes_first log front s db readings others goes))
-    ∙ ap (λ n. work_from db readings + n) later
+all_from : (takes : Db → Result StmtTree Refusal → ℕ) (log front : List EventTree) (s : ℕ) (db : Db) (scripts : List (List (Result StmtTree Refusal))) → GoesAll log front s db scripts → sum_by {X = ℕ × List (Result StmtTree Refusal)} (λ (j, readings). session_sum takes log j readings) (enumerate_from s scripts) ≡ all_takes takes db scripts
+all_from takes log front s db [] goes = refl
+all_from takes log front s db (readings ∷ others) goes =
+    let later = all_from takes log (front ++ run_log s db 1 readings) (s + 1) (run_db db readings) others (goes_others log front s db readings others goes) in
+    sum_by-cons {X = ℕ × List (Result StmtTree Refusal)} (λ (j, readings). session_sum takes log j readings) (s, readings) (enumerate_from (s + 1) others)
+    ∙ ap (λ n. n + sum_by {X = ℕ × List (Result StmtTree Refusal)} (λ (j, readings). session_sum takes log j readings) (enumerate_from (s + 1) others)) (takes_from takes log front s 1 db readings _ (goes_first log front s db readings others goes))
+    ∙ ap (λ n. run_takes takes db readings + n) later
 
--- and the work is that of the statements one after the other
-pub sessions_work : (scripts : List (List (Result StmtTree Refusal))) → run_work scripts (all_log 1 no_tables scripts) ≡ all_work no_tables scripts
-sessions_work scripts = works_of (all_log 1 no_tables scripts) [] 1 no_tables scripts (goes_from_none scripts)
+-- and what is taken is taken by the statements one after the other
+pub sessions_take : (takes : Db → Result StmtTree Refusal → ℕ) (scripts : List (List (Result StmtTree Refusal))) → run_sum takes scripts (all_log 1 no_tables scripts) ≡ all_takes takes no_tables scripts
+sessions_take takes scripts = all_from takes (all_log 1 no_tables scripts) [] 1 no_tables scripts (goes_from_none scripts)
 
 -- ## Until sessions run in threads
 

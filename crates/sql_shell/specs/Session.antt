@@ -14,7 +14,7 @@ use Rattle.answer_text.specs.declared.event.Shown.{Shown}
 use Rattle.answer_text.specs.Log.{ActTree, EventTree, Begins, Ends, log_tree, code_of, acts_over, shown_over, shown_reply, IsOrdered}
 use Rattle.answer_text.specs.Layout.{reply_text, session_line, printed}
 use Rattle.sql_shell.specs.Served.{RiseFrom}
-use Rattle.sql_shell.specs.Work.{statement_work, run_work}
+use Rattle.sql_shell.specs.Work.{Counts, statement_work, statement_lost, run_work, run_lost}
 
 -- the database that every run begins with
 abbrev pub no_tables : Db
@@ -46,10 +46,10 @@ abbrev pub run_text : Db → ℕ → List (Result StmtTree Refusal) → List ℕ
 run_text db k [] = []
 run_text db k (reading ∷ readings) = reply_text k (shown_over db reading) ++ run_text (db_after db reading) (k + 1) readings
 
--- the work of the statements
-abbrev pub work_from : Db → List (Result StmtTree Refusal) → ℕ
-work_from db [] = 0
-work_from db (reading ∷ readings) = statement_work db reading + work_from (db_after db reading) readings
+-- the sum of what the statements take
+abbrev pub run_takes : (Db → Result StmtTree Refusal → ℕ) → Db → List (Result StmtTree Refusal) → ℕ
+run_takes takes db [] = 0
+run_takes takes db (reading ∷ readings) = takes db reading + run_takes takes (db_after db reading) readings
 
 -- ## Sessions one after the other
 
@@ -68,17 +68,12 @@ abbrev pub all_text : ℕ → Db → List (List ℕ) → List (List (Result Stmt
 all_text s db (name ∷ names) (readings ∷ others) = session_line s name ++ run_text db 1 readings ++ all_text (s + 1) (run_db db readings) names others
 all_text s db _ _ = []
 
--- the work of the sessions
-abbrev pub all_work : Db → List (List (Result StmtTree Refusal)) → ℕ
-all_work db [] = 0
-all_work db (readings ∷ others) = work_from db readings + all_work (run_db db readings) others
+-- the sum of what the sessions take
+abbrev pub all_takes : (Db → Result StmtTree Refusal → ℕ) → Db → List (List (Result StmtTree Refusal)) → ℕ
+all_takes takes db [] = 0
+all_takes takes db (readings ∷ others) = run_takes takes db readings + all_takes takes (run_db db readings) others
 
 -- ## What the code keeps, which no public clause names
-
--- an EXPLAIN
-abbrev pub is_explain : StmtTree → Bool
-is_explain (ExplainSelect query) = true
-is_explain _ = false
 
 -- a statement that is neither a query nor an EXPLAIN
 abbrev pub is_change : StmtTree → Bool
@@ -101,32 +96,35 @@ pub record Follows (old new : Run) (s k : ℕ) (reading : Result StmtTree Refusa
   pub text : new.text.items ≡ old.text.items ++ reply_text k (shown_over old.db reading)
   pub work : new.work ≡ old.work + statement_work old.db reading
 
--- the run goes on by statement k of session s, whatever its text reads as
-pub record Serves (old new : Run) (s k : ℕ) (text : List ℕ) : Type 0 where
+-- the run goes on by statement k of session s, whatever its text reads as, while the counter goes from here to there
+pub record Serves (old new : Run) (s k : ℕ) (text : List ℕ) (before after : ℕ) : Type 0 where
   pub reading : Result StmtTree Refusal
   pub read : Reads text reading
   pub formed : IsFormedReading reading
   pub follows : Follows old new s k reading
+  pub counted : Counts before after (statement_work old.db reading) (statement_lost old.db reading)
 
 -- the run goes on by these statements of session s, from its first on
-pub record ServesPieces (old new : Run) (s : ℕ) (pieces : List (List ℕ)) : Type 0 where
+pub record ServesPieces (old new : Run) (s : ℕ) (pieces : List (List ℕ)) (before after : ℕ) : Type 0 where
   pub readings : List (Result StmtTree Refusal)
   pub read : AreReadings pieces readings
   pub formed : AreFormed readings
   pub db : new.db ≡ run_db old.db readings
   pub log : log_tree new.log.items ≡ log_tree old.log.items ++ run_log s old.db 1 readings
   pub text : new.text.items ≡ old.text.items ++ run_text old.db 1 readings
-  pub work : new.work ≡ old.work + work_from old.db readings
+  pub work : new.work ≡ old.work + run_takes statement_work old.db readings
+  pub counted : Counts before after (run_takes statement_work old.db readings) (run_takes statement_lost old.db readings)
 
 -- the run has served scripts of these names and pieces, from no tables on
-pub record HasServed (names : List (List ℕ)) (scripts : List (List (List ℕ))) (run : Run) : Type 0 where
+pub record HasServed (names : List (List ℕ)) (scripts : List (List (List ℕ))) (run : Run) (before after : ℕ) : Type 0 where
   pub readings : List (List (Result StmtTree Refusal))
   pub read : AreAllRead scripts readings
   pub formed : AllByRecursion AreFormed readings
   pub db : run.db ≡ all_db no_tables readings
   pub log : log_tree run.log.items ≡ all_log 1 no_tables readings
   pub text : run.text.items ≡ all_text 1 no_tables names readings
-  pub work : run.work ≡ all_work no_tables readings
+  pub work : run.work ≡ all_takes statement_work no_tables readings
+  pub counted : Counts before after (all_takes statement_work no_tables readings) (all_takes statement_lost no_tables readings)
 
 -- the database is changed by the statement, which shows this, and nothing else changes
 pub record Changes (old new : Run) (statement : StmtTree) (shown : Shown) : Type 0 where
@@ -158,17 +156,18 @@ pub record TellsRead (old new : Run) (s k begin : ℕ) (shown : Shown) : Type 0 
   pub work : new.work ≡ old.work
 
 -- work is added, and nothing else changes
-pub record Counts (old new : Run) (more : ℕ) : Type 0 where
+pub record Adds (old new : Run) (more : ℕ) : Type 0 where
   pub log : new.log.items ≡ old.log.items
   pub db : new.db ≡ old.db
   pub text : new.text.items ≡ old.text.items
   pub work : new.work ≡ old.work + more
 
 -- the log, the text and the work of scripts with these names and pieces
-pub record Produces (names : List (List ℕ)) (scripts : List (List (List ℕ))) (log : List EventTree) (text : List ℕ) (work : ℕ) : Type 0 where
+pub record Produces (names : List (List ℕ)) (scripts : List (List (List ℕ))) (log : List EventTree) (text : List ℕ) (work before after : ℕ) : Type 0 where
   pub readings : List (List (Result StmtTree Refusal))
   pub read : AreAllRead scripts readings
   pub ordered : IsOrdered readings log
   pub printed_is : text ≡ printed names readings log
   pub work_is : work ≡ run_work readings log
+  pub counted : Counts before after work (run_lost readings log)
   pub in_turn : RiseFrom 1 log

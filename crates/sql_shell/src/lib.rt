@@ -3,10 +3,9 @@
 //!
 //! It stands on `command_words` for the words, on `causes` for reading and writing, on `sql_parse` for
 //! text, on `sql_semantics` for what SQL means, on `sql_check` for the refusals by the tables, on
-//! `sql_changes` for changes, on `sql_to_mal` and `mal_exec` for queries as plans, on `sql_meaning` for
-//! those that have no plan yet, on `sql_kinds` for what every statement keeps, and on `answer_text` for
-//! the layouts. Its clause `served` is the project's headline, and `work`
-//! tells the stated work of the plans.
+//! `sql_changes` for changes, on `group_to_mal` and `mal_exec` for queries as plans, on `sql_kinds` for
+//! what every statement keeps, and on `answer_text` for the layouts. Its clause `served` is the
+//! project's headline, and tells the stated work of the plans.
 #![tactic(auto)]
 
 mod columns;

@@ -1,4 +1,4 @@
-ghost use Rattle.std.specs.Prelude.{◌≡◌, ◌≤◌, ◌+◌, length, All, IfOk};
+ghost use Rattle.std.specs.Prelude.{◌≤◌, length, All, IfOk};
 ghost use Rattle.answer_text.specs.Log.{log_tree};
 ghost use Rattle.sql_shell.specs.Scripts.{names_of, pieces_in};
 ghost use Rattle.sql_shell.specs.Session.{Produces};
@@ -23,7 +23,7 @@ pub struct Produced {
 }
 
 /// Runs scripts one after the other: their log, what is printed of it, and their work, by which the
-/// counter rises.
+/// counter rises, and by no more than that of the plans that overflow beside it.
 pub fn produce<E: Operate, L: Ledger>(
     alloc: Global,
     scripts: &[Script],
@@ -32,8 +32,7 @@ pub fn produce<E: Operate, L: Ledger>(
 ) -> Result<Produced, Memory>
     requires few { length scripts.now ≤ 16 }
     requires short { All (λ script. length script.pieces ≤ 256) scripts.now }
-    ensures produced { IfOk result (λ run. Produces (names_of scripts.now) (pieces_in scripts.now) (log_tree run.log) run.text.items run.work) }
-    ensures counted { IfOk result (λ run. steps.new ≡ steps.old + run.work) }
+    ensures produced { IfOk result (λ run. Produces (names_of scripts.now) (pieces_in scripts.now) (log_tree run.log) run.text.items run.work steps.old steps.new) }
 {
     let run = run_scripts(alloc, scripts, kernel, steps)?;
     let mut text = run.text;

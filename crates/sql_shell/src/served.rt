@@ -37,7 +37,8 @@ pub struct Served {
 
 /// Does all that the program does: reads the scripts that the words name, runs them one after the
 /// other as sessions over one database, their queries as plans by the kernel, and writes the replies
-/// and the history of accepted changes. The counter rises by the work of the plans.
+/// and the history of accepted changes. The counter rises by the work of the plans, and beyond it by no
+/// more than the loads of those that overflow.
 pub fn top<S: Scripts, K: Sink, E: Operate, L: Ledger>(
     alloc: Global,
     words: &[Word],
@@ -48,9 +49,9 @@ pub fn top<S: Scripts, K: Sink, E: Operate, L: Ledger>(
 ) -> Served
     // The headline: what is written is the meaning of the scripts, by the log of this run.
     ensures served { result.status ≡ 0 → IfSome (run_files words.now) (λ names.
-        (text : List ℕ) × Appends (K.contents out.old) (K.contents out.new) text × IsRun (S.bytes_of scripts.old) names text (log_tree result.log) result.work) }
+        (text : List ℕ) × Appends (K.contents out.old) (K.contents out.new) text × IsRun (S.bytes_of scripts.old) names text (log_tree result.log) result.work steps.old steps.new) }
     ensures prefix { result.status ≡ 3 → IfSome (run_files words.now) (λ names.
-        (text : List ℕ) × AppendsPrefix (K.contents out.old) (K.contents out.new) text × IsRun (S.bytes_of scripts.old) names text (log_tree result.log) result.work) }
+        (text : List ℕ) × AppendsPrefix (K.contents out.old) (K.contents out.new) text × IsRun (S.bytes_of scripts.old) names text (log_tree result.log) result.work steps.old steps.new) }
     ensures in_turn { (result.status ≡ 0) ⊎ (result.status ≡ 3) → RiseFrom 1 (log_tree result.log) }
 
     // When each other status comes, and which file it is about.
@@ -75,8 +76,7 @@ pub fn top<S: Scripts, K: Sink, E: Operate, L: Ledger>(
     // What each of them leaves.
     ensures silent { (result.status ≡ 1) ⊎ (result.status ≡ 2) ⊎ (result.status ≡ 4) ⊎ (result.status ≡ 5) ⊎ (result.status ≡ 6) → (K.contents out.new ≡ K.contents out.old) × (result.log ≡ []) × (result.work ≡ 0) }
 
-    // The work of the run's plans is counted.
-    ensures counted { (result.status ≡ 0) ⊎ (result.status ≡ 3) → steps.new ≡ steps.old + result.work }
+    // No plan is run then; what is counted otherwise stands in the run's record.
     ensures idle { (result.status ≡ 1) ⊎ (result.status ≡ 2) ⊎ (result.status ≡ 4) ⊎ (result.status ≡ 6) → steps.new ≡ steps.old }
 {
     let files = match files_of(alloc, words) {
@@ -115,13 +115,12 @@ fn serve<K: Sink, E: Operate, L: Ledger>(
 ) -> Served
     requires few { length scripts.now ≤ 16 }
     requires short { All (λ script. length script.pieces ≤ 256) scripts.now }
-    ensures served { result.status ≡ 0 → (text : List ℕ) × Appends (K.contents out.old) (K.contents out.new) text × Produces (names_of scripts.now) (pieces_in scripts.now) (log_tree result.log) text result.work }
-    ensures prefix { result.status ≡ 3 → (text : List ℕ) × AppendsPrefix (K.contents out.old) (K.contents out.new) text × Produces (names_of scripts.now) (pieces_in scripts.now) (log_tree result.log) text result.work }
+    ensures served { result.status ≡ 0 → (text : List ℕ) × Appends (K.contents out.old) (K.contents out.new) text × Produces (names_of scripts.now) (pieces_in scripts.now) (log_tree result.log) text result.work steps.old steps.new }
+    ensures prefix { result.status ≡ 3 → (text : List ℕ) × AppendsPrefix (K.contents out.old) (K.contents out.new) text × Produces (names_of scripts.now) (pieces_in scripts.now) (log_tree result.log) text result.work steps.old steps.new }
     ensures write_fault { result.status ≡ 3 → Rose (K.faults out.old) (K.faults out.new) }
     ensures known { (result.status ≡ 0) ⊎ (result.status ≡ 3) ⊎ (result.status ≡ 5) }
     ensures silent { result.status ≡ 5 → (K.contents out.new ≡ K.contents out.old) × (result.log ≡ []) × (result.work ≡ 0) }
     ensures at { result.at ≡ 0 }
-    ensures counted { (result.status ≡ 0) ⊎ (result.status ≡ 3) → steps.new ≡ steps.old + result.work }
 {
     match produce(alloc, scripts, kernel, steps) {
         Err(Memory) => failed(alloc, Failure::Memory),

@@ -1,15 +1,16 @@
-ghost use Rattle.std.specs.Prelude.{◌≡◌, ◌≤◌, ◌+◌, true, length, All, OnOk, IfOk, Ok, Err, Some};
+ghost use Rattle.std.specs.Prelude.{◌≡◌, ◌≤◌, true, length, All, OnOk, IfOk, Ok, Err, Some};
 ghost use Rattle.sql_grammar.specs.Formed.{IsFormed};
 ghost use Rattle.sql_semantics.specs.Valid.{IsValid};
 ghost use Rattle.sql_tree.specs.Tree.{query_tree, stmt_tree};
-ghost use Rattle.sql_tree.specs.Tree.StmtTree.{Select};
+ghost use Rattle.sql_tree.specs.Tree.StmtTree.{Select, ExplainSelect};
 ghost use Rattle.answer_text.specs.Log.{Writes, act_tree, code_of, count_of};
 ghost use Rattle.sql_shell.specs.Scripts.{names_of, pieces_in};
-ghost use Rattle.sql_shell.specs.Session.{is_change, is_explain, Follows, Serves, ServesPieces, HasServed, Changes, Notes, Tells, TellsRead, Counts};
+ghost use Rattle.sql_shell.specs.Session.{is_change, Follows, Serves, ServesPieces, HasServed, Changes, Notes, Tells, TellsRead, Adds};
+ghost use Rattle.sql_shell.specs.Work.{Counts, statement_work, statement_lost};
 
 use crate::effect::apply;
 use crate::scripts::Script;
-use crate::show::{code, count, refuse_explain, show_query, show_reply};
+use crate::show::{code, count, show_explain, show_query, show_reply};
 use answer_text::{Act, Event, Shown, write_reply, write_session_line};
 use bat_core::Operate;
 use cell_core::{Db, Memory, Sequence, Steps, Word};
@@ -42,8 +43,7 @@ pub fn run_scripts<E: Operate, L: Ledger>(
 ) -> Result<Run, Memory>
     requires few { length scripts.now ≤ 16 }
     requires short { All (λ script. length script.pieces ≤ 256) scripts.now }
-    ensures served { IfOk result (λ run. HasServed (names_of scripts.now) (pieces_in scripts.now) run) }
-    ensures counted { IfOk result (λ run. steps.new ≡ steps.old + run.work) }
+    ensures served { IfOk result (λ run. HasServed (names_of scripts.now) (pieces_in scripts.now) run steps.old steps.new) }
 {
     let mut run = Run {
         db: Db {
@@ -75,8 +75,7 @@ impl Run {
     ) -> Result<(), Memory>
         requires short { length pieces.now ≤ 256 }
         requires valid { IsValid self.old.db }
-        ensures served { OnOk result (ServesPieces self.old self.new s pieces.now) }
-        ensures counted { OnOk result (steps.new + self.old.work ≡ steps.old + self.new.work) }
+        ensures served { OnOk result (ServesPieces self.old self.new s pieces.now steps.old steps.new) }
     {
         statements_keep_valid();
         'pieces: for i in 0..pieces.len() {
@@ -96,8 +95,7 @@ impl Run {
         steps: &mut Steps<L>,
     ) -> Result<(), Memory>
         requires { IsValid self.old.db }
-        ensures served { OnOk result (Serves self.old self.new s k text.now) }
-        ensures counted { OnOk result (steps.new + self.old.work ≡ steps.old + self.new.work) }
+        ensures served { OnOk result (Serves self.old self.new s k text.now steps.old steps.new) }
     {
         match parse(alloc, text) {
             Ok(stmt) => self.serve_stmt(alloc, s, k, stmt, kernel, steps),
@@ -119,11 +117,11 @@ impl Run {
         requires formed { IsFormed (stmt_tree stmt) }
         requires valid { IsValid self.old.db }
         ensures follows { OnOk result (Follows self.old self.new s k (Ok (stmt_tree stmt))) }
-        ensures counted { OnOk result (steps.new + self.old.work ≡ steps.old + self.new.work) }
+        ensures counted { OnOk result (Counts steps.old steps.new (statement_work self.old.db (Ok (stmt_tree stmt))) (statement_lost self.old.db (Ok (stmt_tree stmt)))) }
     {
         match &stmt {
             Stmt::Query(query) => self.serve_query(alloc, s, k, &stmt, query, kernel, steps),
-            Stmt::Explain(_) => self.serve_explain(alloc, s, k, &stmt),
+            Stmt::Explain(query) => self.serve_explain(alloc, s, k, &stmt, query),
             _ => self.serve_change(alloc, s, k, &stmt),
         }
     }
@@ -143,27 +141,35 @@ impl Run {
         requires formed { IsFormed (stmt_tree stmt.now) }
         requires valid { IsValid self.old.db }
         ensures follows { OnOk result (Follows self.old self.new s k (Ok (Select (query_tree query.now)))) }
-        ensures counted { OnOk result (steps.new + self.old.work ≡ steps.old + self.new.work) }
+        ensures counted { OnOk result (Counts steps.old steps.new (statement_work self.old.db (Ok (Select (query_tree query.now)))) (statement_lost self.old.db (Ok (Select (query_tree query.now))))) }
     {
         let answered = show_query(alloc, stmt, query, &self.db, kernel, steps)?;
-        self.count(answered.work)?;
+        self.add_work(answered.work)?;
         self.tell_read(alloc, s, k, answered.begin, &answered.shown)
     }
 
-    /// Serves an EXPLAIN.
-    fn serve_explain(&mut self, alloc: Global, s: u32, k: u32, stmt: &Stmt) -> Result<(), Memory>
-        requires { is_explain (stmt_tree stmt.now) ≡ true }
-        ensures follows { OnOk result (Follows self.old self.new s k (Ok (stmt_tree stmt.now))) }
-        ensures work { OnOk result (self.new.work ≡ self.old.work) }
+    /// Serves an EXPLAIN of a query. `stmt` is its statement.
+    fn serve_explain(
+        &mut self,
+        alloc: Global,
+        s: u32,
+        k: u32,
+        stmt: &Stmt,
+        query: &Query,
+    ) -> Result<(), Memory>
+        requires explain { stmt_tree stmt.now ≡ ExplainSelect (query_tree query.now) }
+        requires formed { IsFormed (stmt_tree stmt.now) }
+        requires valid { IsValid self.old.db }
+        ensures follows { OnOk result (Follows self.old self.new s k (Ok (ExplainSelect (query_tree query.now)))) }
     {
-        let refusal = refuse_explain(alloc, stmt, &self.db)?;
-        let begin = refusal.number();
-        self.tell_read(alloc, s, k, begin, &Shown::Refused(refusal))
+        let shown = show_explain(alloc, stmt, query, &self.db)?;
+        let begin = code(&shown);
+        self.tell_read(alloc, s, k, begin, &shown)
     }
 
     /// Adds work. A sum past 128 bits is want of memory.
-    fn count(&mut self, work: u128) -> Result<(), Memory>
-        ensures { OnOk result (Counts self.old self.new work) }
+    fn add_work(&mut self, work: u128) -> Result<(), Memory>
+        ensures { OnOk result (Adds self.old self.new work) }
     {
         self.work = self.work.checked_add(work).ok_or(Memory)?;
         Ok(())
@@ -173,7 +179,6 @@ impl Run {
     fn serve_change(&mut self, alloc: Global, s: u32, k: u32, stmt: &Stmt) -> Result<(), Memory>
         requires { is_change (stmt_tree stmt.now) ≡ true }
         ensures follows { OnOk result (Follows self.old self.new s k (Ok (stmt_tree stmt.now))) }
-        ensures work { OnOk result (self.new.work ≡ self.old.work) }
     {
         let shown = self.apply_change(alloc, stmt)?;
         let written = stmt.copy(alloc)?;
@@ -211,7 +216,6 @@ impl Run {
         refusal: Refusal,
     ) -> Result<(), Memory>
         ensures follows { OnOk result (Follows self.old self.new s k (Err refusal)) }
-        ensures work { OnOk result (self.new.work ≡ self.old.work) }
     {
         let act = Act::Write {
             stmt: None,

@@ -1,27 +1,34 @@
 //! What queries and changes show.
-ghost use Rattle.std.specs.Prelude.{◌≡◌, ◌+◌, Ok, Some, None, IfOk, IsSome};
+ghost use Rattle.std.specs.Prelude.{◌≡◌, Ok, Some, None, IfOk, IsSome};
+ghost use Rattle.std.specs.Option.{option_map};
+ghost use Rattle.cell_core.specs.declared.table.Db.{Db as DbSeen};
+ghost use Rattle.mal_check.specs.Checked.{plan_fault};
+ghost use Rattle.rows_to_mal.specs.Laws.{HoldsTables};
+ghost use Rattle.rows_to_mal.specs.Rows.{statement_scope};
+ghost use Rattle.answer_text.specs.Plans.{optimised_plan};
 ghost use Rattle.mal_meaning.specs.Meaning.{plan_load, plan_rows};
 ghost use Rattle.mal_meaning.specs.Runs.{Runs};
 ghost use Rattle.sql_grammar.specs.Formed.{IsFormed};
 ghost use Rattle.sql_semantics.specs.Valid.{IsValid};
-ghost use Rattle.sql_semantics.specs.Answer.{answer};
-ghost use Rattle.sql_to_mal.specs.Translation.{planned};
+ghost use Rattle.sql_semantics.specs.Answer.{answer_of_stmt, query_of};
 ghost use Rattle.sql_tree.specs.Tree.{query_tree, stmt_tree};
-ghost use Rattle.sql_tree.specs.Tree.StmtTree.{Select};
-ghost use Rattle.answer_text.specs.Log.{begin_code, code_of, count_of, explain_refusal, refusal_over, shown_over, shown_query, shown_reply};
-ghost use Rattle.sql_shell.specs.Work.{load_unless, sources_over, statement_work};
+ghost use Rattle.sql_tree.specs.Tree.StmtTree.{Select, ExplainSelect};
+ghost use Rattle.answer_text.specs.Log.{begin_code, code_of, count_of, refusal_over, shown_over, shown_query, shown_reply};
+ghost use Rattle.sql_shell.specs.Work.{Counts, load_where, lost_where, statement_lost, statement_work};
 
 use crate::columns::DbColumns;
 use crate::schema::schema_of;
 use answer_text::Shown;
 use bat_core::Operate;
-use cell_core::{Db, Memory, RunError, Steps, word_of};
+use cell_core::{Db, Memory, RunError, Sequence, Steps};
+use group_to_mal::compile_query;
+use mal_check::checked_plans_run;
 use mal_exec::run_plan;
 use mal_meaning::Plan;
-use sql_check::{CheckError, check, refusal_of};
-use sql_meaning::slow_answer;
+use mal_opt::optimise;
+use mal_text::print_mal;
+use sql_check::{CheckError, check};
 use sql_semantics::{Refusal, Reply, Typed};
-use sql_to_mal::compile_query;
 use sql_tree::{Query, Stmt};
 use std::alloc::Global;
 use std::sync::ledger::Ledger;
@@ -33,7 +40,7 @@ pub struct Answered {
     pub begin: u8,
     /// Its reply.
     pub shown: Shown,
-    /// The work of its plan, which is 0 where it is refused or has no plan yet.
+    /// The work of its plan, which is 0 where it is refused, also for an overflow.
     pub work: u128,
 }
 
@@ -52,12 +59,13 @@ pub fn show_query<E: Operate, L: Ledger>(
     ensures begin { IfOk result (λ answered. answered.begin ≡ begin_code (refusal_over db.now (Select (query_tree query.now)))) }
     ensures shown { IfOk result (λ answered. answered.shown ≡ shown_over db.now (Ok (Select (query_tree query.now)))) }
     ensures work { IfOk result (λ answered. answered.work ≡ statement_work db.now (Ok (Select (query_tree query.now)))) }
-    ensures counted { IfOk result (λ answered. steps.new ≡ steps.old + answered.work) }
+    ensures counted { IfOk result (λ answered. Counts steps.old steps.new answered.work (statement_lost db.now (Ok (Select (query_tree query.now))))) }
 {
     let schema = schema_of(alloc, db)?;
     match check(alloc, stmt, &schema) {
         Ok(typed) => {
-            let (shown, work) = run_query(alloc, query, &typed, db, kernel, steps)?;
+            let plan = plan_of(alloc, &typed)?;
+            let (shown, work) = show_plan(alloc, &plan, db, kernel, steps)?;
             Ok(Answered {
                 begin: 0,
                 shown,
@@ -73,73 +81,56 @@ pub fn show_query<E: Operate, L: Ledger>(
     }
 }
 
-/// What a query shows that nothing refuses, and the work of its plan: the rows of the plan, or those
-/// of the query's plain meaning where it has no plan yet.
-fn run_query<E: Operate, L: Ledger>(
-    alloc: Global,
-    query: &Query,
-    typed: &Typed,
-    db: &Db,
-    kernel: &E,
-    steps: &mut Steps<L>,
-) -> Result<(Shown, u128), Memory>
-    requires select { stmt_tree typed.now.stmt ≡ Select (query_tree query.now) }
-    requires accepted { refusal_over db.now (Select (query_tree query.now)) ≡ None }
-    requires sources { typed.now.sources ≡ sources_over db.now (Select (query_tree query.now)) }
-    requires valid { IsValid db.now }
-    ensures shown { IfOk result (λ out. out.0 ≡ shown_query None (answer (query_tree query.now) db.now)) }
-    ensures work { IfOk result (λ out. out.1 ≡ load_unless None (planned (query_tree query.now) (sources_over db.now (Select (query_tree query.now)))) db.now) }
-    ensures counted { IfOk result (λ out. steps.new ≡ steps.old + out.1) }
-{
-    match compile_query(alloc, query, typed.sources.as_slice())? {
-        Some(plan) => show_plan(alloc, query, &plan, db, kernel, steps),
-        None => Ok((show_slowly(alloc, query, typed, db)?, 0)),
-    }
-}
-
-/// The rows of a query's plan, and its work.
+/// The rows of a plan and its work, or that it overflows.
 fn show_plan<E: Operate, L: Ledger>(
     alloc: Global,
-    query: &Query,
     plan: &Plan,
     db: &Db,
     kernel: &E,
     steps: &mut Steps<L>,
 ) -> Result<(Shown, u128), Memory>
-    requires meaning { plan_rows plan.now db.now ≡ answer (query_tree query.now) db.now }
-    requires runs { Runs plan.now db.now }
-    requires answered { IsSome (answer (query_tree query.now) db.now) }
-    ensures shown { IfOk result (λ out. out.0 ≡ shown_query None (answer (query_tree query.now) db.now)) }
-    ensures work { IfOk result (λ out. out.1 ≡ plan_load plan.now db.now) }
-    ensures counted { IfOk result (λ out. steps.new ≡ steps.old + out.1) }
+    requires { Runs plan.now db.now }
+    ensures shown { IfOk result (λ out. out.0 ≡ shown_query None (plan_rows plan.now db.now)) }
+    ensures work { IfOk result (λ out. out.1 ≡ load_where None (plan_rows plan.now db.now) (plan_load plan.now db.now)) }
+    ensures counted { IfOk result (λ out. Counts steps.old steps.new out.1 (lost_where None (plan_rows plan.now db.now) (plan_load plan.now db.now))) }
 {
     match run_plan(alloc, plan, &DbColumns::new(db), kernel, steps) {
         Ok(ran) => Ok((Shown::Rows(ran.rows), ran.load)),
-        Err(RunError::Overflow) => unreachable!(),
+        Err(RunError::Overflow) => Ok((Shown::Refused(Refusal::Overflow), 0)),
         Err(RunError::Memory) => Err(Memory),
     }
 }
 
-/// What a query shows by its plain meaning.
-fn show_slowly(alloc: Global, query: &Query, typed: &Typed, db: &Db) -> Result<Shown, Memory>
-    requires { stmt_tree typed.now.stmt ≡ Select (query_tree query.now) }
-    ensures { IfOk result (λ shown. shown ≡ shown_query None (answer (query_tree query.now) db.now)) }
+/// The plan by which a checked query is run: its translation, optimised. `typed` is a SELECT or an EXPLAIN,
+/// over the tables of some valid database.
+fn plan_of(alloc: Global, typed: &Typed) -> Result<Plan, Memory>
+    requires query { IsSome (query_of (stmt_tree typed.now.stmt)) }
+    requires held { (db : DbSeen) × HoldsTables (stmt_tree typed.now.stmt) typed.now.sources db }
+    ensures plan { IfOk result (λ plan. option_map (optimised_plan (statement_scope (stmt_tree typed.now.stmt) typed.now.sources)) (query_of (stmt_tree typed.now.stmt)) ≡ Some plan) }
+    ensures checked { IfOk result (λ plan. plan_fault plan ≡ None) }
+    ensures meaning { IfOk result (λ plan. (db : DbSeen) → HoldsTables (stmt_tree typed.now.stmt) typed.now.sources db → plan_rows plan db ≡ answer_of_stmt (stmt_tree typed.now.stmt) db) }
+    ensures runs { IfOk result (λ plan. (db : DbSeen) → HoldsTables (stmt_tree typed.now.stmt) typed.now.sources db → Runs plan db) }
 {
-    match slow_answer(alloc, typed, db) {
-        Ok(rows) => Ok(Shown::Rows(rows)),
-        Err(RunError::Overflow) => Ok(Shown::Refused(Refusal::Overflow)),
-        Err(RunError::Memory) => Err(Memory),
-    }
+    checked_plans_run();
+    let plan = compile_query(alloc, typed)?;
+    optimise(alloc, &plan)
 }
 
-/// Why an EXPLAIN is refused over a database: by its tables, or since it isn't built yet.
-pub fn refuse_explain(alloc: Global, stmt: &Stmt, db: &Db) -> Result<Refusal, Memory>
-    ensures { IfOk result (λ refusal. refusal ≡ explain_refusal (refusal_over db.now (stmt_tree stmt.now))) }
+/// What an EXPLAIN of a query shows over a database. `stmt` is its statement.
+pub fn show_explain(alloc: Global, stmt: &Stmt, query: &Query, db: &Db) -> Result<Shown, Memory>
+    requires explain { stmt_tree stmt.now ≡ ExplainSelect (query_tree query.now) }
+    requires formed { IsFormed (stmt_tree stmt.now) }
+    requires valid { IsValid db.now }
+    ensures { IfOk result (λ shown. shown ≡ shown_over db.now (Ok (ExplainSelect (query_tree query.now)))) }
 {
     let schema = schema_of(alloc, db)?;
-    match refusal_of(alloc, stmt, &schema)? {
-        Some(refusal) => Ok(refusal),
-        None => Ok(Refusal::Unsupported(word_of(alloc, "NOT BUILT")?)),
+    match check(alloc, stmt, &schema) {
+        Ok(typed) => {
+            let text = print_mal(alloc, &plan_of(alloc, &typed)?)?;
+            Ok(Shown::Plan(Sequence::from_vec(text)))
+        }
+        Err(CheckError::Refused(refusal)) => Ok(Shown::Refused(refusal)),
+        Err(CheckError::Memory) => Err(Memory),
     }
 }
 

@@ -107,7 +107,7 @@ const SCRIPTS: [(&str, &str); 12] = [
     ),
     (
         "CREATE TABLE t (a INT); EXPLAIN SELECT a FROM t; EXPLAIN SELECT b FROM t; EXPLAIN DROP TABLE t",
-        "session 1 a.sql\n1 ok\n2 refused 2 unsupported NOT BUILT\n3 refused 5 no such column b\n4 refused 1 syntax\nhistory 1\n1 1 1 CREATE TABLE t (a INT);\n",
+        "session 1 a.sql\n1 ok\n2 plan 8\nfunction user.main():void;\n    X_1 := sql.bind(\"t\", \"a\", \"int\");\n    X_2 := algebra.mirror(X_1);\n    X_3 := algebra.markT(X_2, 0@0);\n    X_4 := algebra.reverse(X_3);\n    X_5 := algebra.join(X_4, X_1);\n    sql.output(X_5);\nend user.main;\n3 refused 5 no such column b\n4 refused 1 syntax\nhistory 1\n1 1 1 CREATE TABLE t (a INT);\n",
     ),
 ];
 

@@ -7,12 +7,12 @@ use Rattle.sql_shell.specs.Session.{Produces}
 use Rattle.sql_shell.proofs.ServedLemmas.{produces}
 use Rattle.sql_shell.proofs.produce.produce.Goals as goal
 
-pub returns-clause-produced : goal.returns-clause-produced
-returns-clause-produced g c =
+pub returns : goal.returns
+returns g c =
     let run = c.in_ok-run.run' in
     let names = names_of c.args.scripts.now in
     let scripts = pieces_in c.args.scripts.now in
     let whole : c.write_history.new.out.items ≡ run.text.items ++ history_text (log_tree run.log.items) =
     c.in_ok-write_history.ensures.ok ∙ ap (λ log. run.text.items ++ history_text (log_tree log)) c.as_slice.ensures.value in
-    let P : List Event → Type 0 = λ log. Produces names scripts (log_tree log) c.write_history.new.out.items run.work in
-    subst P (sym c.from_vec.ensures) (produces names scripts run c.write_history.new.out.items c.in_ok-run.ensures.served whole)
+    let P : List Event → Type 0 = λ log. Produces names scripts (log_tree log) c.write_history.new.out.items run.work c.args.steps.now c.run_scripts.new.steps in
+    record { produced = subst P (sym c.from_vec.ensures) (produces names scripts run c.write_history.new.out.items _ _ c.in_ok-run.ensures.served whole) }

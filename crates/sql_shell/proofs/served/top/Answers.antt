@@ -33,8 +33,8 @@ returns-in-Ok-clause-served g c zero =
     let P : List Script → Type 0 = λ ss. AreCut bytes names ss in
     let are = subst P (sym c.as_slice-in-Ok.ensures.value) c.in-Ok.ensures.cut in
     let served = c.serve.ensures.served zero in
-    let Q : List (List ℕ) → Type 0 = λ ns. (text : List ℕ) × Appends (g.K.Sink.contents c.args.out.now) (g.K.Sink.contents c.serve.new.out) text × IsRun bytes ns text (log_tree c.serve.result.log) c.serve.result.work in
-    lifted c.args.words.now names Q found (served.0, served.1, run_of bytes names c.as_slice-in-Ok.result.now (log_tree c.serve.result.log) served.0 c.serve.result.work are served.2)
+    let Q : List (List ℕ) → Type 0 = λ ns. (text : List ℕ) × Appends (g.K.Sink.contents c.args.out.now) (g.K.Sink.contents c.serve.new.out) text × IsRun bytes ns text (log_tree c.serve.result.log) c.serve.result.work c.args.steps.now c.serve.new.steps in
+    lifted c.args.words.now names Q found (served.0, served.1, run_of bytes names c.as_slice-in-Ok.result.now (log_tree c.serve.result.log) served.0 c.serve.result.work _ _ are served.2)
 
 pub returns-in-Ok-clause-prefix : goal.returns-in-Ok-clause-prefix
 returns-in-Ok-clause-prefix g c three =
@@ -44,8 +44,8 @@ returns-in-Ok-clause-prefix g c three =
     let P : List Script → Type 0 = λ ss. AreCut bytes names ss in
     let are = subst P (sym c.as_slice-in-Ok.ensures.value) c.in-Ok.ensures.cut in
     let served = c.serve.ensures.prefix three in
-    let Q : List (List ℕ) → Type 0 = λ ns. (text : List ℕ) × AppendsPrefix (g.K.Sink.contents c.args.out.now) (g.K.Sink.contents c.serve.new.out) text × IsRun bytes ns text (log_tree c.serve.result.log) c.serve.result.work in
-    lifted c.args.words.now names Q found (served.0, served.1, run_of bytes names c.as_slice-in-Ok.result.now (log_tree c.serve.result.log) served.0 c.serve.result.work are served.2)
+    let Q : List (List ℕ) → Type 0 = λ ns. (text : List ℕ) × AppendsPrefix (g.K.Sink.contents c.args.out.now) (g.K.Sink.contents c.serve.new.out) text × IsRun bytes ns text (log_tree c.serve.result.log) c.serve.result.work c.args.steps.now c.serve.new.steps in
+    lifted c.args.words.now names Q found (served.0, served.1, run_of bytes names c.as_slice-in-Ok.result.now (log_tree c.serve.result.log) served.0 c.serve.result.work _ _ are served.2)
 
 pub returns-in-Ok-clause-in_turn : goal.returns-in-Ok-clause-in_turn
 returns-in-Ok-clause-in_turn g c written =

@@ -9,7 +9,7 @@ use Rattle.sql_shell.proofs.session.run_scripts.Goals as goal
 pub serve_pieces-requires-clause-valid : goal.serve_pieces-requires-clause-valid
 serve_pieces-requires-clause-valid g c =
     let done = take c.scripts.i c.args.scripts.now in
-    served_valid c.statements_keep_valid.ensures.kept (names_of done) (pieces_in done) c.scripts.run c.statements_keep_valid.ensures.empty c.scripts.invariant.0
+    served_valid c.statements_keep_valid.ensures.kept (names_of done) (pieces_in done) c.scripts.run _ _ c.statements_keep_valid.ensures.empty c.scripts.invariant
 
 pub scripts-preserved : goal.scripts-preserved
 scripts-preserved g c =
@@ -18,8 +18,6 @@ scripts-preserved g c =
     let number = c.scripts.i + 1 in
     let line : c.write_session_line.new.out.items ≡ old.text.items ++ session_line number script.name =
     c.in_ok-write_session_line.ensures.ok ∙ ap (λ name. old.text.items ++ session_line number name) c.text.ensures.text in
-    let P : List (List ℕ) → Type 0 = λ pieces. ServesPieces (record { db = old.db; log = old.log; text = c.write_session_line.new.out; work = old.work }) c.serve_pieces.new.self number pieces in (
-      scripts_more c.args.scripts.now c.scripts.i script old (record { db = old.db; log = old.log; text = c.write_session_line.new.out; work = old.work }) c.serve_pieces.new.self
-          c.scripts-test.true c.index-scripts-i.is c.scripts.invariant.0 refl refl refl line (subst P c.as_slice.ensures c.in_ok-serve_pieces.ensures.served),
-      omega (arith, c.in_ok-serve_pieces.ensures.counted, c.scripts.invariant.1),
-    )
+    let P : List (List ℕ) → Type 0 = λ pieces. ServesPieces (record { db = old.db; log = old.log; text = c.write_session_line.new.out; work = old.work }) c.serve_pieces.new.self number pieces c.scripts.steps c.serve_pieces.new.steps in
+    scripts_more c.args.scripts.now c.scripts.i script old (record { db = old.db; log = old.log; text = c.write_session_line.new.out; work = old.work }) c.serve_pieces.new.self _ _ _
+    c.scripts-test.true c.index-scripts-i.is c.scripts.invariant refl refl refl line (subst P c.as_slice.ensures c.in_ok-serve_pieces.ensures.served)

@@ -5,4 +5,4 @@ use Rattle.sql_shell.proofs.session.run_scripts.Given as goal
 
 -- the scripts so far are served, and their work is counted
 abbrev pub invariant-scripts : goal.invariant-scripts
-invariant-scripts g l = HasServed (names_of (take l.i l.scripts)) (pieces_in (take l.i l.scripts)) l.run × (l.steps ≡ l.fn.steps + l.run.work)
+invariant-scripts g l = HasServed (names_of (take l.i l.scripts)) (pieces_in (take l.i l.scripts)) l.run l.fn.steps l.steps

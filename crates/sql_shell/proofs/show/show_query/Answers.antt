@@ -1,12 +1,16 @@
-use Rattle.std.proofs.Common.{◌≡◌, Some, None, ap, sym, ◌∙◌}
+use Rattle.std.proofs.Common.{◌≡◌, Some, None, refl, ap, sym, ◌∙◌, subst, Option}
 use Rattle.sql_semantics.specs.Answer.{answer}
 use Rattle.sql_semantics.specs.Refusals.{refusal_number}
-use Rattle.sql_to_mal.specs.Translation.{planned}
+use Rattle.mal_meaning.specs.declared.plan.Plan.{Plan}
+use Rattle.mal_meaning.specs.Meaning.{plan_load, plan_rows}
 use Rattle.sql_tree.specs.Tree.{query_tree, stmt_tree}
 use Rattle.sql_tree.specs.Tree.StmtTree.{Select}
 use Rattle.answer_text.specs.Log.{begin_code, refusal_over, shown_query}
-use Rattle.sql_shell.specs.Work.{load_unless, sources_over}
-use Rattle.sql_shell.proofs.ShowLemmas.{refusal_found}
+use Rattle.sql_semantics.specs.declared.refusal.Refusal.{Refusal}
+use Rattle.answer_text.specs.Plans.{plan_over}
+use Rattle.sql_shell.specs.Work.{Counts, load_where, lost_where}
+use Rattle.sql_shell.proofs.ServedLemmas.{counts_as, counts_none}
+use Rattle.sql_shell.proofs.ShowLemmas.{planned, refusal_found}
 use Rattle.sql_shell.proofs.show.show_query.Goals as goal
 
 pub returns-in-Ok-clause-begin : goal.returns-in-Ok-clause-begin
@@ -17,15 +21,37 @@ returns-in-Ok-clause-begin g c =
 
 pub returns-in-Ok-clause-shown : goal.returns-in-Ok-clause-shown
 returns-in-Ok-clause-shown g c =
+    let db = c.args.db.now in
     let query = query_tree c.args.query.now in
-    let found : refusal_over c.args.db.now (Select query) ≡ None = refusal_found (stmt_tree c.args.stmt.now) (Select query) c.in_ok-schema.schema c.args.db.now None c.in_ok-schema.ensures c.requires.select c.in-Ok.ensures.accepted in
-    c.in_ok-shown-in-Ok.ensures.shown ∙ ap (λ refusal. shown_query refusal (answer query c.args.db.now)) (sym found)
+    let plan = c.in_ok-plan-in-Ok.plan in
+    let known = planned db (stmt_tree c.in-Ok.typed.stmt) (stmt_tree c.args.stmt.now) query c.in-Ok.typed.sources c.in_ok-schema.schema plan c.requires.valid c.in-Ok.ensures.statement c.requires.select c.in_ok-schema.ensures c.in-Ok.ensures.sources
+    c.in_ok-plan-in-Ok.ensures.plan c.in_ok-plan-in-Ok.ensures.meaning in
+    let found : refusal_over db (Select query) ≡ None = refusal_found (stmt_tree c.args.stmt.now) (Select query) c.in_ok-schema.schema db None c.in_ok-schema.ensures c.requires.select c.in-Ok.ensures.accepted in
+    c.in_ok-shown-in-Ok.ensures.shown ∙ ap (shown_query None) known.meaning ∙ ap (λ refusal. shown_query refusal (answer query db)) (sym found)
 
 pub returns-in-Ok-clause-work : goal.returns-in-Ok-clause-work
 returns-in-Ok-clause-work g c =
+    let db = c.args.db.now in
     let query = query_tree c.args.query.now in
-    let found : refusal_over c.args.db.now (Select query) ≡ None = refusal_found (stmt_tree c.args.stmt.now) (Select query) c.in_ok-schema.schema c.args.db.now None c.in_ok-schema.ensures c.requires.select c.in-Ok.ensures.accepted in
-    c.in_ok-shown-in-Ok.ensures.work ∙ ap (λ refusal. load_unless refusal (planned query (sources_over c.args.db.now (Select query))) c.args.db.now) (sym found)
+    let plan = c.in_ok-plan-in-Ok.plan in
+    let known = planned db (stmt_tree c.in-Ok.typed.stmt) (stmt_tree c.args.stmt.now) query c.in-Ok.typed.sources c.in_ok-schema.schema plan c.requires.valid c.in-Ok.ensures.statement c.requires.select c.in_ok-schema.ensures c.in-Ok.ensures.sources
+    c.in_ok-plan-in-Ok.ensures.plan c.in_ok-plan-in-Ok.ensures.meaning in
+    let found : refusal_over db (Select query) ≡ None = refusal_found (stmt_tree c.args.stmt.now) (Select query) c.in_ok-schema.schema db None c.in_ok-schema.ensures c.requires.select c.in-Ok.ensures.accepted in
+    c.in_ok-shown-in-Ok.ensures.work ∙ ap (λ rows. load_where None rows (plan_load plan db)) known.meaning ∙ ap (λ (p : Plan). load_where None (answer query db) (plan_load p db)) known.is
+    ∙ ap (λ refusal. load_where refusal (answer query db) (plan_load (plan_over db query) db)) (sym found)
+
+pub returns-in-Ok-clause-counted : goal.returns-in-Ok-clause-counted
+returns-in-Ok-clause-counted g c =
+    let db = c.args.db.now in
+    let query = query_tree c.args.query.now in
+    let plan = c.in_ok-plan-in-Ok.plan in
+    let known = planned db (stmt_tree c.in-Ok.typed.stmt) (stmt_tree c.args.stmt.now) query c.in-Ok.typed.sources c.in_ok-schema.schema plan c.requires.valid c.in-Ok.ensures.statement c.requires.select c.in_ok-schema.ensures c.in-Ok.ensures.sources
+    c.in_ok-plan-in-Ok.ensures.plan c.in_ok-plan-in-Ok.ensures.meaning in
+    let found : refusal_over db (Select query) ≡ None = refusal_found (stmt_tree c.args.stmt.now) (Select query) c.in_ok-schema.schema db None c.in_ok-schema.ensures c.requires.select c.in-Ok.ensures.accepted in
+    let lost : lost_where None (plan_rows plan db) (plan_load plan db) ≡ lost_where (refusal_over db (Select query)) (answer query db) (plan_load (plan_over db query) db) =
+    ap (λ rows. lost_where None rows (plan_load plan db)) known.meaning ∙ ap (λ (p : Plan). lost_where None (answer query db) (plan_load p db)) known.is
+    ∙ ap (λ refusal. lost_where refusal (answer query db) (plan_load (plan_over db query) db)) (sym found) in
+    counts_as _ _ _ _ _ _ refl lost c.in_ok-shown-in-Ok.ensures.counted
 
 pub returns-in-Err-Refused-clause-begin : goal.returns-in-Err-Refused-clause-begin
 returns-in-Err-Refused-clause-begin g c =
@@ -47,4 +73,12 @@ returns-in-Err-Refused-clause-work g c =
     let query = query_tree c.args.query.now in
     let refusal = c.in-Err-Refused.refusal in
     let found : refusal_over c.args.db.now (Select query) ≡ Some refusal = refusal_found (stmt_tree c.args.stmt.now) (Select query) c.in_ok-schema.schema c.args.db.now (Some refusal) c.in_ok-schema.ensures c.requires.select (c.check.ensures.refused refusal (cc (c.in-Err-Refused.is, c.in-Err-Refused.field-0-is))) in
-    ap (λ found. load_unless found (planned query (sources_over c.args.db.now (Select query))) c.args.db.now) (sym found)
+    ap (λ found. load_where found (answer query c.args.db.now) (plan_load (plan_over c.args.db.now query) c.args.db.now)) (sym found)
+
+pub returns-in-Err-Refused-clause-counted : goal.returns-in-Err-Refused-clause-counted
+returns-in-Err-Refused-clause-counted g c =
+    let query = query_tree c.args.query.now in
+    let refusal = c.in-Err-Refused.refusal in
+    let found : refusal_over c.args.db.now (Select query) ≡ Some refusal = refusal_found (stmt_tree c.args.stmt.now) (Select query) c.in_ok-schema.schema c.args.db.now (Some refusal) c.in_ok-schema.ensures c.requires.select (c.check.ensures.refused refusal (cc (c.in-Err-Refused.is, c.in-Err-Refused.field-0-is))) in
+    let P : Option Refusal → Type 0 = λ why. Counts c.args.steps.now c.args.steps.now 0 (lost_where why (answer query c.args.db.now) (plan_load (plan_over c.args.db.now query) c.args.db.now)) in
+    subst P (sym found) (counts_none c.args.steps.now)

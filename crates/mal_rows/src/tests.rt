@@ -1,0 +1,151 @@
+//! What is wanted was told by an independent implementation.
+ghost use Rattle.std.specs.Prelude.{◌≡◌, None, IfOk};
+ghost use Rattle.mal_check.specs.Checked.{plan_fault};
+
+use crate::texts::{DROPPED, FOLDED, GIVEN, OPTIMISED, QUERY, QUERY_OPTIMISED, SHARED, TEXTS};
+use cell_core::Memory;
+use mal_check::{PlanError, check_plan};
+use mal_meaning::Plan;
+use mal_opt::{drop_dead, fold_constants, optimise, share_terms};
+use mal_text::{MalError, parse_mal, print_mal};
+use recycle_mark::marks;
+use std::alloc::Global;
+use std::test::Fail;
+
+/// What is done with a plan.
+#[derive(Clone, Copy, Drop)]
+enum Optimiser {
+    Fold,
+    Share,
+    Drop,
+    All,
+}
+
+/// A plan that a text reads as, which is looked at once more.
+fn read(alloc: Global, text: &str) -> Result<Plan, MalError>
+    ensures { IfOk result (λ plan. plan_fault plan ≡ None) }
+{
+    let plan = parse_mal(alloc, text)?;
+    match check_plan(alloc, &plan) {
+        Ok(()) => Ok(plan),
+        Err(fault) => Err(MalError::Plan(fault)),
+    }
+}
+
+/// The plan behind an optimiser.
+fn made(alloc: Global, optimiser: Optimiser, plan: &Plan) -> Result<Plan, Memory>
+    requires { plan_fault plan.now ≡ None }
+    ensures { IfOk result (λ made. plan_fault made ≡ None) }
+{
+    match optimiser {
+        Optimiser::Fold => fold_constants(alloc, plan),
+        Optimiser::Share => share_terms(alloc, plan),
+        Optimiser::Drop => drop_dead(alloc, plan),
+        Optimiser::All => optimise(alloc, plan),
+    }
+}
+
+/// The canonical text of a plan behind an optimiser.
+fn printed(alloc: Global, optimiser: Optimiser, plan: &Plan) -> Result<Vec<u8>, Memory>
+    requires { plan_fault plan.now ≡ None }
+{
+    let made = made(alloc, optimiser, plan)?;
+    print_mal(alloc, &made)
+}
+
+/// The text of the plan behind an optimiser. A text that isn't read counts as want of memory.
+fn optimised(alloc: Global, optimiser: Optimiser, text: &str) -> Result<Vec<u8>, Memory> {
+    match read(alloc, text) {
+        Ok(plan) => printed(alloc, optimiser, &plan),
+        Err(_) => Err(Memory),
+    }
+}
+
+/// The words of a fault.
+fn fault_words(fault: PlanError) -> &'static str {
+    match fault {
+        PlanError::UnknownVar(_) => "variable",
+        PlanError::KindsDiffer(_) => "kinds",
+        PlanError::WrongCount(_) => "count",
+        PlanError::NoOutput => "output",
+        PlanError::Memory => "memory",
+    }
+}
+
+/// Words as bytes.
+fn bytes(alloc: Global, text: &str) -> Result<Vec<u8>, Memory> {
+    let mut bytes = Vec::new(alloc);
+    bytes.extend_from_slice(text.as_bytes())?;
+    Ok(bytes)
+}
+
+/// What a text is answered with: its canonical text, or why it is refused.
+fn answer(alloc: Global, text: &str) -> Result<Vec<u8>, Memory> {
+    match read(alloc, text) {
+        Ok(plan) => print_mal(alloc, &plan),
+        Err(MalError::UnknownOp(word)) => bytes(alloc, word.text()),
+        Err(MalError::Plan(fault)) => bytes(alloc, fault_words(fault)),
+        Err(MalError::NoBlock) => bytes(alloc, "no block"),
+        Err(MalError::Memory) => Err(Memory),
+    }
+}
+
+#[test]
+fn texts_are_answered(rt: HostRuntime) -> Result<(), Fail> {
+    let alloc = rt.alloc();
+    for (text, want) in TEXTS {
+        assert!(rt; answer(alloc, text)?.as_slice() == want.as_bytes());
+    }
+    Ok(())
+}
+
+#[test]
+fn what_is_printed_reads_as_the_same(rt: HostRuntime) -> Result<(), Fail> {
+    let alloc = rt.alloc();
+    for text in [
+        GIVEN,
+        FOLDED,
+        SHARED,
+        DROPPED,
+        OPTIMISED,
+        QUERY,
+        QUERY_OPTIMISED,
+    ] {
+        assert!(rt; answer(alloc, text)?.as_slice() == text.as_bytes());
+    }
+    Ok(())
+}
+
+#[test]
+fn plans_behind_each_optimiser(rt: HostRuntime) -> Result<(), Fail> {
+    let alloc = rt.alloc();
+    for (optimiser, text, want) in [
+        (Optimiser::Fold, GIVEN, FOLDED),
+        (Optimiser::Share, GIVEN, SHARED),
+        (Optimiser::Drop, GIVEN, DROPPED),
+        (Optimiser::All, GIVEN, OPTIMISED),
+        (Optimiser::All, QUERY, QUERY_OPTIMISED),
+    ] {
+        assert!(rt; optimised(alloc, optimiser, text)?.as_slice() == want.as_bytes());
+    }
+    Ok(())
+}
+
+/// The marks of a text's plan.
+fn marked(alloc: Global, text: &str) -> Result<Vec<bool>, Memory> {
+    match parse_mal(alloc, text) {
+        Ok(plan) => marks(alloc, &plan),
+        Err(_) => Err(Memory),
+    }
+}
+
+#[test]
+fn scalars_and_what_they_lead_to_are_not_marked(rt: HostRuntime) -> Result<(), Fail> {
+    let alloc = rt.alloc();
+    let want = [true, true, false, false, false];
+    assert!(rt; marked(alloc, OPTIMISED)?.as_slice() == want.as_slice());
+    // the select has a sum of constants as its bound
+    let want = [true, false, false, true, false, true, false, false];
+    assert!(rt; marked(alloc, GIVEN)?.as_slice() == want.as_slice());
+    Ok(())
+}

@@ -1,9 +1,0 @@
-pub mod AnswerLemmas
-pub mod Serves
-pub mod ExactLemmas
-pub mod FitLemmas
-pub mod FormLemmas
-pub mod MeaningLemmas
-pub mod PlanLemmas
-pub mod RangeLemmas
-pub mod ServesLemmas
