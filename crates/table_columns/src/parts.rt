@@ -1,0 +1,56 @@
+//! Columns and versions of a table.
+ghost use Rattle.std.specs.Prelude.{◌≡◌, ◌<◌, [], length, replicate, slice_index_or, IfOk};
+
+use bat_core::{Bat, Shared};
+use cell_core::Memory;
+use std::alloc::Global;
+
+/// That many columns without cells.
+pub(crate) fn empty_columns(alloc: Global, count: usize) -> Result<Vec<Shared>, Memory>
+    ensures { IfOk result (λ columns. columns.items ≡ replicate count []) }
+{
+    let mut columns = Vec::with_capacity(alloc, count)?;
+    for _ in 0..count {
+        columns.push(Shared::new(alloc, Bat::new(alloc))?)?;
+    }
+    Ok(columns)
+}
+
+/// That many versions 0.
+pub(crate) fn zeros(alloc: Global, count: usize) -> Result<Vec<u64>, Memory>
+    ensures { IfOk result (λ versions. versions.items ≡ replicate count 0) }
+{
+    let mut versions = Vec::with_capacity(alloc, count)?;
+    for _ in 0..count {
+        versions.push(0)?;
+    }
+    Ok(versions)
+}
+
+/// The same columns, which both share.
+pub(crate) fn share_columns(alloc: Global, columns: &[Shared]) -> Result<Vec<Shared>, Memory>
+    ensures { IfOk result (λ copy. copy.items ≡ columns.now) }
+{
+    let mut copy = Vec::with_capacity(alloc, columns.len())?;
+    'columns: for column in columns {
+        copy.push(column.share()?)?;
+    }
+    Ok(copy)
+}
+
+/// The column at a place, which both share.
+pub(crate) fn share_at(columns: &[Shared], place: usize) -> Result<Shared, Memory>
+    requires { place < length columns.now }
+    ensures { IfOk result (λ column. column ≡ slice_index_or columns.now place []) }
+{
+    columns[place].share()
+}
+
+/// The same versions.
+pub(crate) fn copy_versions(alloc: Global, versions: &[u64]) -> Result<Vec<u64>, Memory>
+    ensures { IfOk result (λ copy. copy.items ≡ versions.now) }
+{
+    let mut copy = Vec::with_capacity(alloc, versions.len())?;
+    copy.extend_from_slice(versions)?;
+    Ok(copy)
+}

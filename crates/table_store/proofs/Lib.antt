@@ -1,0 +1,4 @@
+pub mod VersionLemmas
+pub mod TableLemmas
+pub mod AddedLemmas
+pub mod StampLemmas

@@ -1,0 +1,14 @@
+use Rattle.std.proofs.Common.{◌≡◌, length}
+use Rattle.cell_core.specs.Tables.{first_named}
+use Rattle.table_store.specs.Kept.{AreKept, tables_from}
+use Rattle.table_store.proofs.tables.column_among.Given as goal
+
+-- the first of the rest is the first of all
+abbrev pub invariant-tables : goal.invariant-tables
+invariant-tables l = record {
+  kept : AreKept l.names l.rest;
+  found : first_named l.table (tables_from l.names l.rest) ≡ first_named l.table (tables_from l.headings l.kept);
+}
+
+abbrev pub decreases-tables : goal.decreases-tables
+decreases-tables l = length l.names

@@ -1,0 +1,24 @@
+-- What a write touches of a database.
+use Rattle.std.specs.Prelude.{ℕ, List, [], length, map, Bool, ◌&&◌, bytes_eq}
+use Rattle.std.specs.List.{list_any}
+use Rattle.std.specs.Option.{option_map_or}
+use Rattle.cell_core.specs.declared.table.Column.{Column}
+use Rattle.cell_core.specs.declared.table.Table.{Table}
+use Rattle.cell_core.specs.declared.table.Db.{Db}
+use Rattle.cell_core.specs.Tables.{named_table}
+use Rattle.table_store.specs.declared.touched.Touched.{Touched}
+
+-- the column is one that the write touched
+abbrev pub is_of : Touched → List ℕ → List ℕ → Bool
+is_of touched table column = bytes_eq table touched.table && list_any (bytes_eq column) touched.columns
+
+abbrev pub names_in : List Column → List (List ℕ)
+names_in columns = map (λ (c : Column). c.name) columns
+
+-- the names of all columns of a table
+abbrev pub all_columns : List ℕ → Db → List (List ℕ)
+all_columns table db = option_map_or (λ (t : Table). names_in t.columns) (named_table table db) []
+
+-- how many rows a table has, 0 where it isn't there
+abbrev pub row_count : List ℕ → Db → ℕ
+row_count table db = option_map_or (λ (t : Table). length t.rows) (named_table table db) 0

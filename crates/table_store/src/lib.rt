@@ -1,0 +1,17 @@
+//! The tables of a run, kept as columns.
+//!
+//! It stands below SQL, on `table_columns`: a database here is what tables there are, under names, with
+//! columns, rows, and a version for each column. `Store` is the present one, `Snap` the one of an earlier
+//! moment, and a `Change` is prepared first and then applied, which can't fail.
+#![tactic(auto)]
+
+mod change;
+mod heading;
+mod store;
+mod tables;
+mod touched;
+
+pub use change::Change;
+pub use heading::Heading;
+pub use store::{Snap, Store};
+pub use touched::Touched;

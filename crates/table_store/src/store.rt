@@ -1,0 +1,154 @@
+//! The tables of a run, and snapshots of them.
+ghost use Rattle.std.specs.Prelude.{◌≡◌, ℕ, List, [], true, false, None, IfOk};
+ghost use Rattle.cell_core.specs.Relations.{bound};
+ghost use Rattle.table_store.specs.Content.{has_column, version_of};
+ghost use Rattle.table_store.specs.Headings.{headings_of};
+ghost use Rattle.table_store.specs.Changes.{IsPrepared, with_table, without_table};
+ghost use Rattle.table_store.specs.Touches.{all_columns, is_of, names_in, row_count};
+
+use crate::change::Change;
+use crate::heading::Heading;
+use crate::tables::{Tables, touch_one};
+use crate::touched::Touched;
+use bat_core::{Columns, Shared};
+use cell_core::{Memory, Word};
+use std::alloc::Global;
+use std::marker::Model;
+
+/// The tables of a run. Contracts see a database with one version for each column.
+#[derive(Drop)]
+pub struct Store {
+    tables: Tables,
+}
+
+impl Model for Store {
+    ghost use Rattle.table_store.specs.Content.{Content};
+
+    ghost Value = { Content };
+
+    ghost view = { λ s. s.tables };
+}
+
+/// The tables as they were when the snapshot was taken. It shares the columns, so it costs as much as
+/// there are columns, whatever their length.
+#[derive(Drop)]
+pub struct Snap {
+    tables: Tables,
+}
+
+impl Model for Snap {
+    ghost use Rattle.table_store.specs.Content.{Content};
+
+    ghost Value = { Content };
+
+    ghost view = { λ s. s.tables };
+}
+
+impl Store {
+    /// A store without tables, which takes no memory.
+    pub fn new(alloc: Global) -> Store
+        ensures db { result.db ≡ record { tables = [] } }
+        ensures versions { result.versions ≡ [] }
+    {
+        Store {
+            tables: Tables::new(alloc),
+        }
+    }
+
+    /// The tables without their rows.
+    pub fn schema(&self) -> &[Heading]
+        ensures { result.now ≡ headings_of self.now.db }
+    {
+        self.tables.schema()
+    }
+
+    /// The version of a column, which is 0 where there is no such column.
+    pub fn version(&self, table: &Word, column: &Word) -> u64
+        ensures { result ≡ version_of table.now column.now self.now }
+    {
+        self.tables.version(table, column)
+    }
+
+    /// The present content, for good.
+    pub fn snapshot(&self, alloc: Global) -> Result<Snap, Memory>
+        ensures { IfOk result (λ snap. snap ≡ self.now) }
+    {
+        let tables = self.tables.share(alloc)?;
+        Ok(Snap { tables })
+    }
+
+    /// A column of a snapshot, with the numbers of its rows as oids from 0; none where there is no such
+    /// column.
+    pub fn column(&self, snap: &Snap, table: &Word, column: &Word) -> Result<Option<Shared>, Memory>
+        ensures { IfOk result (λ found. found ≡ bound table.now column.now snap.now.db) }
+    {
+        snap.tables.column(table, column)
+    }
+
+    /// Prepares that a table without rows stands behind the others. Nothing changes yet.
+    pub fn add_table(&self, alloc: Global, heading: Heading) -> Result<Change, Memory>
+        ensures prepared { IfOk result (λ change. IsPrepared change self.now) }
+        ensures db { IfOk result (λ change. change.content.db ≡ with_table heading.name heading.columns self.now.db) }
+        ensures touched { IfOk result (λ change. change.touched ≡ record { table = heading.name; columns = names_in heading.columns; old_rows = 0; added = None }) }
+    {
+        let touched = touch_one(alloc, &heading.name, heading.columns.as_slice(), 0)?;
+        let tables = self.tables.with(alloc, heading)?;
+        Ok(Change { tables, touched })
+    }
+
+    /// Prepares that the tables of a name go. Nothing changes yet.
+    pub fn drop_table(&self, alloc: Global, name: &Word) -> Result<Change, Memory>
+        ensures prepared { IfOk result (λ change. IsPrepared change self.now) }
+        ensures db { IfOk result (λ change. change.content.db ≡ without_table name.now self.now.db) }
+        ensures touched { IfOk result (λ change. change.touched ≡ record { table = name.now; columns = all_columns name.now self.now.db; old_rows = row_count name.now self.now.db; added = None }) }
+    {
+        let touched = self.tables.touch_whole(alloc, name)?;
+        let tables = self.tables.without(alloc, name)?;
+        Ok(Change { tables, touched })
+    }
+
+    /// Carries out a change that was prepared on this content. What it touched and is still there has the
+    /// version that is handed in, and other columns keep theirs.
+    pub fn apply(&mut self, change: Change, version: u64)
+        requires { IsPrepared change self.old }
+        ensures db { self.new.db ≡ change.content.db }
+        ensures touched { (table column : List ℕ) → is_of change.touched table column ≡ true → has_column table column self.new.db ≡ true → version_of table column self.new ≡ version }
+        ensures others { (table column : List ℕ) → is_of change.touched table column ≡ false → version_of table column self.new ≡ version_of table column self.old }
+    {
+        let Change {
+            mut tables,
+            touched,
+        } = change;
+        tables.stamp(&touched, version);
+        self.tables = tables;
+    }
+}
+
+impl Snap {
+    /// The version of a column at the snapshot, which is 0 where there is no such column.
+    pub fn version(&self, table: &Word, column: &Word) -> u64
+        ensures { result ≡ version_of table.now column.now self.now }
+    {
+        self.tables.version(table, column)
+    }
+
+    /// The tables without their rows, at the snapshot.
+    pub fn schema(&self) -> &[Heading]
+        ensures { result.now ≡ headings_of self.now.db }
+    {
+        self.tables.schema()
+    }
+}
+
+impl Columns for Snap {
+    ghost database = { λ snap. snap.db };
+
+    fn column(
+        &self,
+        _alloc: Global,
+        table: &Word,
+        column: &Word,
+    ) -> Result<Option<Shared>, Memory> {
+        self.tables.column(table, column)
+    }
+}
