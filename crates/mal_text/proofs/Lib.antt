@@ -1,7 +1,3 @@
-pub mod ByteLemmas
-pub mod OptionLemmas
-pub mod QuotedLemmas
-pub mod TokensRead
 pub mod ReaderLemmas
 pub mod TermLemmas
 pub mod BlockLemmas

@@ -7,10 +7,10 @@ ghost use Rattle.mal_text.specs.Plans.{StandsFor};
 use crate::block::{Block, Key, Line, Term};
 use crate::error::ReadError;
 use crate::numbers::{day, huge, int, magnitude, small};
-use crate::operators::operator;
 use cell_core::{Arg, Cell, Instr, Memory, Op, Sequence, Word};
 use indexmap::IndexSet;
 use mal_meaning::{Out, Plan};
+use mal_tokens::operator;
 use std::alloc::Global;
 
 /// The plan that a block stands for, if it stands for one.

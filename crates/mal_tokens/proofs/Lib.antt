@@ -1,0 +1,4 @@
+pub mod ByteLemmas
+pub mod OptionLemmas
+pub mod QuotedLemmas
+pub mod TokensRead

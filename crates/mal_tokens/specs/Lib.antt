@@ -1,0 +1,5 @@
+pub mod Classes
+pub mod Tokens
+pub mod Bytes
+pub mod Operators
+pub mod Laws
