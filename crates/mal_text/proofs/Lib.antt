@@ -1,6 +1,5 @@
 pub mod ReaderLemmas
 pub mod TermLemmas
 pub mod BlockLemmas
-pub mod NumberLemmas
-pub mod DayLemmas
+pub mod PlaceLemmas
 pub mod MalLaws

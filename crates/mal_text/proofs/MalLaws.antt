@@ -10,7 +10,7 @@ use Rattle.mal_tokens.specs.Tokens.{AreTokens}
 use Rattle.mal_text.specs.declared.block.Block.{Block}
 use Rattle.mal_tokens.specs.declared.token.Token.{Token}
 use Rattle.mal_text.proofs.BlockLemmas.{block_found, block_told}
-use Rattle.mal_tokens.proofs.OptionLemmas.{value_found, pair_found}
+use Rattle.text_bytes.proofs.FoundLemmas.{value_found, pair_found}
 use Rattle.mal_tokens.proofs.TokensRead.{one_list_of}
 
 -- the block that is read of a text's tokens is written in them

@@ -1,6 +1,5 @@
 pub mod Blocks
 pub mod Reader
-pub mod Days
 pub mod Plans
 pub mod Reads
 pub mod Laws

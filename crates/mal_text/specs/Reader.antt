@@ -2,7 +2,7 @@
 -- don't speak of these: proofs/ shows that they read exactly what the grammar writes.
 use Rattle.std.specs.Prelude.{ℕ, zero, suc, List, [], ◌∷◌, ◌++◌, length, Bool, true, false, bytes_eq, codes, if◌then◌else◌, Option, Some, None, slice_get}
 use denote.Enum.Bare.{sameb}
-use Rattle.mal_tokens.specs.Bytes.{then_read}
+use Rattle.text_bytes.specs.Found.{then_read}
 use Rattle.mal_tokens.specs.contracts.token.Mark.{the_type as the_marks}
 use Rattle.mal_text.specs.declared.block.Block.{Block}
 use Rattle.mal_text.specs.declared.block.Key.{Key}

@@ -1,4 +1,2 @@
-pub mod ByteLemmas
-pub mod OptionLemmas
 pub mod QuotedLemmas
 pub mod TokensRead

@@ -1,11 +1,11 @@
 -- The reader of tokens gives exactly the tokens into which a text is cut.
-use Rattle.std.proofs.Common.{◌≡◌, ℕ, zero, suc, ◌+◌, List, [], ◌∷◌, ◌++◌, length, take, drop, Bool, true, false, not, ◌&&◌, cond, Option, Some, None, refl, ap, sym, ◌∙◌, arith, subst, append_assoc, append-nil}
+use Rattle.std.proofs.Common.{◌≡◌, ℕ, zero, suc, ◌+◌, List, [], ◌∷◌, ◌++◌, length, take, drop, Bool, true, false, not, ◌&&◌, cond, Option, Some, None, refl, ap, sym, ◌∙◌, subst, append_assoc, append-nil}
 use Rattle.std.specs.Prelude.{◌==◌, flat_map}
 use Rattle.std.specs.List.{list_all, prefix_len, AllByRecursion}
 use Rattle.std.proofs.lemmas.Bool.{and_parts, eqb-true}
 use Rattle.std.proofs.lemmas.List.{take-append-drop}
 use Rattle.std.proofs.Math.Seq.{drop-append_seam, take-append_seam}
-use Rattle.mal_tokens.specs.Classes.{is_blank, is_letter, is_digit, is_word_byte, is_in_line, begins, begins_with}
+use Rattle.text_bytes.specs.Classes.{is_blank, is_letter, is_digit, is_word_byte, is_in_line, begins, begins_with}
 use Rattle.mal_tokens.specs.Tokens.{Part, write_part, written, Fits, AllFit, token_of, with_token, tokens_of, AreTokens, mark_text, ends_mark, spelled}
 use Rattle.mal_tokens.specs.Tokens.Part.{Blank, Comment, Letters, Number, Quoted, Sign}
 use Rattle.mal_tokens.specs.declared.token.Mark.{Mark}
@@ -13,9 +13,10 @@ use Rattle.mal_tokens.specs.declared.token.Mark.TheVariants as mark
 use Rattle.mal_tokens.specs.declared.token.Token.{Token}
 use Rattle.mal_tokens.specs.declared.token.Token.TheVariants as token
 use Rattle.mal_tokens.specs.declared.token.TheConstants.{MARKS}
-use Rattle.mal_tokens.specs.Bytes.{then_read, Found, part_at, mark_at, digits_at, word_at, quoted_at, text_part, mark_part, mark_of, first_mark, tokens_after, listed}
-use Rattle.mal_tokens.proofs.ByteLemmas.{digit_no_letter, blank_cases, front_passes, front_stops, front_again, not_holds}
-use Rattle.mal_tokens.proofs.OptionLemmas.{then_found, value_found}
+use Rattle.mal_tokens.specs.Bytes.{Found, part_at, mark_at, digits_at, word_at, quoted_at, text_part, mark_part, mark_of, first_mark, tokens_after, listed}
+use Rattle.text_bytes.specs.Found.{then_read}
+use Rattle.text_bytes.proofs.ByteLemmas.{digit_no_letter, blank_cases, front_passes, front_stops, front_again, not_holds, behind_one}
+use Rattle.text_bytes.proofs.FoundLemmas.{then_found, value_found, at_first, at_second, ReadAt}
 use Rattle.mal_tokens.proofs.QuotedLemmas.{quoted_sound, quoted_told}
 
 -- ## Marks
@@ -208,19 +209,8 @@ skip_drop (suc skip) [] = refl
 skip_drop (suc skip) (b ∷ bs) = skip_drop skip bs
 
 -- a part is read where it is written
-record IsRead (part : Part) (rest : List ℕ) : Type 0 where
-  first : ℕ
-  after : List ℕ
-  size : ℕ
-  written_is : write_part part rest ≡ first ∷ after
-  told : part_at first after ≡ Some (token_of part, size)
-  rest_is : drop size after ≡ rest
-
-at_first : (t : Bool) (x y : Found) → t ≡ true → cond t x y ≡ x
-at_first t x y h = ap (λ t. cond t x y) h
-
-at_second : (t : Bool) (x y : Found) → t ≡ false → cond t x y ≡ y
-at_second t x y h = ap (λ t. cond t x y) h
+abbrev IsRead : Part → List ℕ → Type 0
+IsRead part rest = ReadAt part_at (write_part part rest) (token_of part) rest
 
 blank_read : (b : ℕ) (rest : List ℕ) → is_blank b ≡ true → IsRead (Blank b) rest
 blank_read b rest h = record {
@@ -279,11 +269,6 @@ comment_read bs rest fits =
       told = ap (λ n. Some (None, n)) size;
       rest_is = drop-append_seam bs rest;
     }
-
--- behind a text and one mark more
-behind_one : (xs rest : List ℕ) (x : ℕ) → drop (length xs + 1) (xs ++ x ∷ rest) ≡ rest
-behind_one [] rest x = refl
-behind_one (z ∷ xs) rest x = let more : length (z ∷ xs) + 1 ≡ suc (length xs + 1) = omega arith in rw more (behind_one xs rest x)
 
 text_read : (bs rest : List ℕ) → IsRead (Quoted bs) rest
 text_read bs rest = record {
@@ -374,7 +359,3 @@ module _ (whole : Option (List Token)) (tokens : List Token) (b : ℕ) (bs : Lis
   pub tokens_stop : part_at b bs ≡ None → whole ≡ None
   tokens_stop part =
       told ∙ ap (λ o. then_read (then_read o (λ part. then_read (tokens_after part.1 bs) (λ more. Some (with_token part.0 more)))) (λ more. Some (tokens ++ more))) part
-
--- a part moves in front
-pub part_moved : (before : List ℕ) (b n : ℕ) (bs text : List ℕ) → before ++ b ∷ bs ≡ text → (before ++ b ∷ take n bs) ++ drop n bs ≡ text
-part_moved before b n bs text whole = append_assoc before (b ∷ take n bs) (drop n bs) ∙ ap (λ cs. before ++ b ∷ cs) (take-append-drop n bs) ∙ whole

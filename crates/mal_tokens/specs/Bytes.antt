@@ -1,19 +1,15 @@
 -- What the private functions on bytes compute: a definition for each, on plain lists. The public clauses
 -- don't speak of these: proofs/ shows that they are the definition of tokens.
-use Rattle.std.specs.Prelude.{ℕ, zero, suc, ◌+◌, List, [], ◌∷◌, ◌++◌, take, Bool, true, false, not, ◌&&◌, ◌||◌, ◌==◌, if◌then◌else◌, Option, Some, None}
+use Rattle.std.specs.Prelude.{ℕ, zero, suc, List, [], ◌∷◌, take, Bool, true, false, not, ◌&&◌, ◌||◌, ◌==◌, if◌then◌else◌, Option, Some, None}
 use Rattle.std.specs.List.{prefix_len}
-use Rattle.mal_tokens.specs.Classes.{is_blank, is_letter, is_digit, is_word_byte, is_in_line, begins_with}
+use Rattle.text_bytes.specs.Classes.{is_blank, is_letter, is_digit, is_word_byte, is_in_line, begins_with}
 use Rattle.mal_tokens.specs.Tokens.{with_token}
+use Rattle.text_bytes.specs.Found.{then_read, joined}
 use Rattle.mal_tokens.specs.declared.token.Mark.{Mark}
 use Rattle.mal_tokens.specs.declared.token.Mark.TheVariants as mark
 use Rattle.mal_tokens.specs.declared.token.Token.{Token}
 use Rattle.mal_tokens.specs.declared.token.Token.TheVariants as token
 use Rattle.mal_tokens.specs.declared.token.TheConstants.{MARKS}
-
--- what follows a value that was found
-abbrev pub then_read : {X Y : Type 0} → Option X → (X → Option Y) → Option Y
-then_read None f = None
-then_read (Some x) f = f x
 
 -- ## Texts in quotes
 
@@ -31,11 +27,6 @@ is_open false b = b == 92
 abbrev pub is_refused : Bool → ℕ → Bool
 is_refused true b = not ((b == 92) || (b == 34) || (b == 110))
 is_refused false b = b == 10
-
--- the bytes, before what is found one byte further on
-abbrev pub joined : List ℕ → Option (List ℕ × ℕ) → Option (List ℕ × ℕ)
-joined kept None = None
-joined kept (Some found) = Some (kept ++ found.0, found.1 + 1)
 
 -- what stands before the closing quote, and how many bytes that takes, the quote too
 abbrev pub quoted_at : Bool → List ℕ → Option (List ℕ × ℕ)

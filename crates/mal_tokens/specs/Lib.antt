@@ -1,4 +1,3 @@
-pub mod Classes
 pub mod Tokens
 pub mod Bytes
 pub mod Operators

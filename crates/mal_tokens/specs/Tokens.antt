@@ -2,7 +2,7 @@
 -- and what may follow it.
 use Rattle.std.specs.Prelude.{◌≡◌, ℕ, ◌==◌, List, [], ◌∷◌, ◌++◌, flat_map, Bool, true, false, not, ◌&&◌, if◌then◌else◌, codes, Option, Some, None, IsTrue}
 use Rattle.std.specs.List.{list_all}
-use Rattle.mal_tokens.specs.Classes.{is_blank, is_letter, is_digit, is_word_byte, is_in_line, begins, begins_with}
+use Rattle.text_bytes.specs.Classes.{is_blank, is_letter, is_digit, is_word_byte, is_in_line, begins, begins_with}
 use Rattle.mal_tokens.specs.declared.token.Mark.{Mark}
 use Rattle.mal_tokens.specs.declared.token.Mark.TheVariants as mark
 use Rattle.mal_tokens.specs.declared.token.Token.{Token}

@@ -1,11 +1,10 @@
 //! From MAL text to tokens, and the words of the operators.
 //!
-//! It stands on `cell_core`. It promises that `tokens` gives the tokens of a text and refuses a text that
+//! It stands on `cell_core` and, for classes of bytes, on `text_bytes`. It promises that `tokens` gives the tokens of a text and refuses a text that
 //! has none, that no text has two lists of tokens (`one_list`), and that `operator` gives the operator
 //! that a module and a function call. Memory running out is the only answer that may come instead.
 #![tactic(auto)]
 
-mod bytes;
 mod error;
 mod laws;
 mod operators;

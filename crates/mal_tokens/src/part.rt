@@ -1,16 +1,16 @@
 ghost use Rattle.std.specs.Prelude.{◌≡◌, ◌≤◌, ◌++◌, ◌∷◌, ℕ, List, Some, None, true, length, IfOk, IsErrOf, IsTrue, IsUtf8, IsAscii};
 ghost use Rattle.std.specs.List.{list_all};
-ghost use Rattle.mal_tokens.specs.Classes as classes;
+ghost use Rattle.text_bytes.specs.Classes as classes;
 ghost use Rattle.mal_tokens.specs.Bytes as reader;
 
-use crate::bytes::{
-    begins_with, digits_length, is_blank, is_digit, is_letter, line_length, word_length,
-};
 use crate::error::TokensError;
 use crate::quoted::quoted;
 use crate::token::{MARKS, Mark, Token};
 use cell_core::{Memory, Word, word_of};
 use std::alloc::Global;
+use text_bytes::{
+    begins_with, digits_length, is_blank, is_digit, is_letter, line_length, word_length,
+};
 
 /// The part at the front: its token, where it has one, and how many bytes follow its first.
 pub(crate) fn part(
@@ -38,7 +38,7 @@ pub(crate) fn part(
 }
 
 /// A word.
-#[tactic(auto, using(crate::proofs::ByteLemmas::word_front))]
+#[tactic(auto, using(text_bytes::proofs::ByteLemmas::word_front))]
 fn word(alloc: Global, first: u8, after: &[u8]) -> Result<(Option<Token>, usize), TokensError>
     requires { classes.is_letter first ≡ true }
     ensures part { IfOk result (λ part. reader.word_at first after.now ≡ Some (part.0, part.1)) }
@@ -51,7 +51,7 @@ fn word(alloc: Global, first: u8, after: &[u8]) -> Result<(Option<Token>, usize)
 }
 
 /// Digits.
-#[tactic(auto, using(crate::proofs::ByteLemmas::digits_front))]
+#[tactic(auto, using(text_bytes::proofs::ByteLemmas::digits_front_word))]
 fn digits(alloc: Global, first: u8, after: &[u8]) -> Result<(Option<Token>, usize), TokensError>
     requires { classes.is_digit first ≡ true }
     ensures part { IfOk result (λ part. reader.digits_at first after.now ≡ Some (part.0, part.1)) }

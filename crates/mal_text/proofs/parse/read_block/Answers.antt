@@ -2,7 +2,7 @@ use Rattle.std.proofs.Common.{ap, sym, ◌∙◌}
 use Rattle.std.proofs.lemmas.Result.{err_from_is_err_and}
 use Rattle.mal_text.specs.Reader as reader
 use Rattle.mal_text.proofs.MalLaws.{block_read, no_block}
-use Rattle.mal_tokens.proofs.OptionLemmas.{same_err}
+use Rattle.text_bytes.proofs.FoundLemmas.{same_err}
 use Rattle.mal_text.proofs.parse.read_block.Goals as goal
 
 pub returns-in_err-found-clause-none : goal.returns-in_err-found-clause-none

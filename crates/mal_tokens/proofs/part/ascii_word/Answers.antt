@@ -1,7 +1,7 @@
 use Rattle.std.proofs.Common.{◌≡◌, ◌∷◌, ◌++◌, [], sym, ap, ◌∙◌, subst}
 use Rattle.std.specs.Prelude.{IsAscii}
 use Rattle.std.proofs.lemmas.Str.{IsUtf8-from_ascii}
-use Rattle.mal_tokens.proofs.ByteLemmas.{ascii_word_bytes}
+use Rattle.text_bytes.proofs.ByteLemmas.{ascii_word_bytes}
 use Rattle.mal_tokens.proofs.part.ascii_word.Goals as goal
 
 pub unreachable-requires : goal.unreachable-requires

@@ -1,5 +1,5 @@
 use Rattle.std.proofs.Common.{lit<}
-use Rattle.mal_tokens.proofs.QuotedLemmas.{around_ascii}
+use Rattle.text_bytes.proofs.TextLemmas.{around_ascii}
 use Rattle.mal_tokens.proofs.part.part.Goals as goal
 
 pub quoted-requires : goal.quoted-requires

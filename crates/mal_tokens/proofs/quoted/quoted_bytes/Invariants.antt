@@ -1,6 +1,6 @@
 use Rattle.std.proofs.Common.{◌≡◌, ◌+◌, length, false}
 use Rattle.mal_tokens.specs.Bytes as reader
-use Rattle.mal_tokens.proofs.QuotedLemmas.{resumed}
+use Rattle.text_bytes.proofs.FoundLemmas.{resumed}
 use Rattle.mal_tokens.proofs.quoted.quoted_bytes.Given as goal
 
 abbrev pub invariant-bytes : goal.invariant-bytes

@@ -1,7 +1,8 @@
 use Rattle.std.proofs.Common.{subst, ◌≡◌, ◌++◌, ◌∷◌, take}
 use Rattle.std.proofs.lemmas.List.{take_rest}
 use Rattle.mal_tokens.specs.Bytes as reader
-use Rattle.mal_tokens.proofs.TokensRead.{Continues, tokens_step, part_moved}
+use Rattle.mal_tokens.proofs.TokensRead.{Continues, tokens_step}
+use Rattle.text_bytes.proofs.ByteLemmas.{part_moved}
 use Rattle.mal_tokens.proofs.reading.read_tokens.Goals as goal
 
 pub parts-preserved : goal.parts-preserved

@@ -1,4 +1,4 @@
-use Rattle.mal_tokens.proofs.OptionLemmas.{same_err}
+use Rattle.text_bytes.proofs.FoundLemmas.{same_err}
 use Rattle.mal_tokens.proofs.TokensRead.{tokens_sound, no_tokens}
 use Rattle.mal_tokens.proofs.reading.tokens.Goals as goal
 

@@ -6,7 +6,7 @@ use Rattle.std.proofs.lemmas.Bool.Decides.{nat_tests, Decides-and, Decides-eqb, 
 use Rattle.std.proofs.lemmas.Int.{ints}
 use Rattle.jiff_core.specs.Calendar.{IsYear, days_in_month}
 use Rattle.cell_core.specs.Day.{HasTwoDigits, IsDayText, year_in, month_in, day_of_month_in, day_in}
-use Rattle.mal_text.specs.Days.{are_two_digits, are_day_digits, are_day_marks, is_calendar_day, is_day_text, day_named}
+use Rattle.text_bytes.specs.Days.{are_two_digits, are_day_digits, are_day_marks, is_calendar_day, is_day_text, day_named}
 
 le : (a b : ℕ) → Decides (nat_le a b) (a ≤ b)
 le a b = (λ h. grind (arith, nat_tests), λ h. grind (arith, nat_tests))

@@ -1,6 +1,6 @@
 use Rattle.std.proofs.Common.{◌≡◌, length}
 use Rattle.std.specs.Str.Parse.{digits_value, digits_value_after}
-use Rattle.mal_text.proofs.numbers.magnitude.Given as goal
+use Rattle.text_bytes.proofs.numbers.number_128.Given as goal
 
 -- the rest of the digits behind the number so far write the whole
 abbrev pub invariant-digits : goal.invariant-digits

@@ -1,11 +1,12 @@
 -- Classes of bytes, and the longest front that passes a test.
-use Rattle.std.proofs.Common.{◌≡◌, ℕ, suc, ◌<◌, ◌+◌, List, [], ◌∷◌, ◌++◌, length, take, drop, Bool, true, false, not, ◌&&◌, ◌||◌, cond, refl, ap, sym, ◌∙◌, arith, ⊎_elim, subst}
+use Rattle.std.proofs.Common.{◌≡◌, ℕ, suc, ◌<◌, ◌+◌, List, [], ◌∷◌, ◌++◌, length, take, drop, Bool, true, false, not, ◌&&◌, ◌||◌, cond, refl, ap, sym, ◌∙◌, arith, ⊎_elim, subst, append_assoc}
 use Rattle.std.specs.Prelude.{◌==◌, IsAscii}
 use Rattle.std.specs.List.{list_all, prefix_len}
 use Rattle.std.proofs.lemmas.Bool.{and_parts, or_cases, eqb-true}
 use Rattle.std.proofs.lemmas.Bool.Decides.{nat_tests}
+use Rattle.std.proofs.lemmas.List.{take-append-drop}
 use Rattle.std.proofs.lemmas.Str.Ascii.{IsAscii-nil, IsAscii-cons}
-use Rattle.mal_tokens.specs.Classes.{is_blank, is_letter, is_digit, is_word_byte, begins}
+use Rattle.text_bytes.specs.Classes.{is_blank, is_letter, is_digit, is_word_byte, begins}
 
 pub word_byte_ascii : (b : ℕ) → is_word_byte b ≡ true → b < 128
 word_byte_ascii b h = grind (arith, nat_tests)
@@ -79,9 +80,24 @@ digits_word_bytes (b ∷ bs) all =
     let here : is_word_byte b ≡ true = elim (is_letter b) as (λ l. (l || is_digit b) ≡ true) [ true ↦ refl | false ↦ parts.0 ] in
     ap (λ t. t && list_all is_word_byte bs) here ∙ digits_word_bytes bs parts.1
 
--- a letter or a digit and the front of such bytes after it are a word's bytes
+-- a letter and the front of a word after it are a word's bytes; a digit and the front of digits are digits,
+-- and so a word's bytes
 pub word_front : (b : ℕ) (bs : List ℕ) → is_letter b ≡ true → list_all is_word_byte (b ∷ take (prefix_len is_word_byte bs) bs) ≡ true
 word_front b bs h = ap (λ t. t && list_all is_word_byte (take (prefix_len is_word_byte bs) bs)) (letter_word_byte b h) ∙ front_passes is_word_byte bs
 
-pub digits_front : (b : ℕ) (bs : List ℕ) → is_digit b ≡ true → list_all is_word_byte (b ∷ take (prefix_len is_digit bs) bs) ≡ true
-digits_front b bs h = digits_word_bytes (b ∷ take (prefix_len is_digit bs) bs) (ap (λ t. t && list_all is_digit (take (prefix_len is_digit bs) bs)) h ∙ front_passes is_digit bs)
+pub digits_front : (b : ℕ) (bs : List ℕ) → is_digit b ≡ true → list_all is_digit (b ∷ take (prefix_len is_digit bs) bs) ≡ true
+digits_front b bs h = ap (λ t. t && list_all is_digit (take (prefix_len is_digit bs) bs)) h ∙ front_passes is_digit bs
+
+pub digits_front_word : (b : ℕ) (bs : List ℕ) → is_digit b ≡ true → list_all is_word_byte (b ∷ take (prefix_len is_digit bs) bs) ≡ true
+digits_front_word b bs h = digits_word_bytes (b ∷ take (prefix_len is_digit bs) bs) (digits_front b bs h)
+
+-- ## Parts of lists
+
+-- behind a text and one mark more
+pub behind_one : (xs rest : List ℕ) (x : ℕ) → drop (length xs + 1) (xs ++ x ∷ rest) ≡ rest
+behind_one [] rest x = refl
+behind_one (z ∷ xs) rest x = let more : length (z ∷ xs) + 1 ≡ suc (length xs + 1) = omega arith in rw more (behind_one xs rest x)
+
+-- a part moves in front
+pub part_moved : (before : List ℕ) (b n : ℕ) (bs text : List ℕ) → before ++ b ∷ bs ≡ text → (before ++ b ∷ take n bs) ++ drop n bs ≡ text
+part_moved before b n bs text whole = append_assoc before (b ∷ take n bs) (drop n bs) ∙ ap (λ cs. before ++ b ∷ cs) (take-append-drop n bs) ∙ whole

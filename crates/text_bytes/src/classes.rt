@@ -1,24 +1,23 @@
-ghost use Rattle.std.specs.Prelude.{◌≡◌, ◌≤◌, ◌<◌, ◌+◌, ◌==◌, length, IfSome};
+ghost use Rattle.std.specs.Prelude.{◌≡◌, ◌≤◌, ◌==◌, length};
 ghost use Rattle.std.specs.List.{prefix_len};
-ghost use Rattle.sql_tree.specs.Bytes as classes;
-ghost use Rattle.sql_tokens.specs.Reader as reader;
+ghost use Rattle.text_bytes.specs.Classes as classes;
 
 /// Whether a byte is a space, a tab, a carriage return or a line feed.
-pub(crate) fn is_blank(byte: u8) -> bool
+pub fn is_blank(byte: u8) -> bool
     ensures { result ≡ classes.is_blank byte }
 {
     byte == b' ' || byte == b'\t' || byte == b'\r' || byte == b'\n'
 }
 
 /// Whether a byte is a letter or `_`.
-pub(crate) fn is_letter(byte: u8) -> bool
+pub fn is_letter(byte: u8) -> bool
     ensures { result ≡ classes.is_letter byte }
 {
     (b'a' <= byte && byte <= b'z') || byte == b'_' || (b'A' <= byte && byte <= b'Z')
 }
 
 /// Whether a byte is a digit.
-pub(crate) fn is_digit(byte: u8) -> bool
+pub fn is_digit(byte: u8) -> bool
     ensures { result ≡ classes.is_digit byte }
 {
     b'0' <= byte && byte <= b'9'
@@ -31,7 +30,7 @@ fn is_word_byte(byte: u8) -> bool
     is_letter(byte) || is_digit(byte)
 }
 
-/// Whether a `--` comment goes on at the byte.
+/// Whether a comment goes on at the byte.
 fn is_in_line(byte: u8) -> bool
     ensures { result ≡ classes.is_in_line byte }
 {
@@ -39,7 +38,7 @@ fn is_in_line(byte: u8) -> bool
 }
 
 /// How many bytes of a word stand at the front.
-pub(crate) fn word_length(bytes: &[u8]) -> usize
+pub fn word_length(bytes: &[u8]) -> usize
     ensures value { result ≡ prefix_len classes.is_word_byte bytes.now }
     ensures within { result ≤ length bytes.now }
 {
@@ -47,7 +46,7 @@ pub(crate) fn word_length(bytes: &[u8]) -> usize
 }
 
 /// How many digits stand at the front.
-pub(crate) fn digits_length(bytes: &[u8]) -> usize
+pub fn digits_length(bytes: &[u8]) -> usize
     ensures value { result ≡ prefix_len classes.is_digit bytes.now }
     ensures within { result ≤ length bytes.now }
 {
@@ -55,7 +54,7 @@ pub(crate) fn digits_length(bytes: &[u8]) -> usize
 }
 
 /// How many bytes stand before the end of the line.
-pub(crate) fn line_length(bytes: &[u8]) -> usize
+pub fn line_length(bytes: &[u8]) -> usize
     ensures value { result ≡ prefix_len classes.is_in_line bytes.now }
     ensures within { result ≤ length bytes.now }
 {
@@ -63,7 +62,7 @@ pub(crate) fn line_length(bytes: &[u8]) -> usize
 }
 
 /// Whether a byte of a word stands at the front.
-pub(crate) fn begins_word_byte(bytes: &[u8]) -> bool
+pub fn begins_word_byte(bytes: &[u8]) -> bool
     ensures { result ≡ classes.begins classes.is_word_byte bytes.now }
 {
     match bytes {
@@ -73,28 +72,11 @@ pub(crate) fn begins_word_byte(bytes: &[u8]) -> bool
 }
 
 /// Whether this byte stands at the front.
-pub(crate) fn begins_with(byte: u8, bytes: &[u8]) -> bool
+pub fn begins_with(byte: u8, bytes: &[u8]) -> bool
     ensures { result ≡ classes.begins_with byte bytes.now }
 {
     match bytes {
         [] => false,
         [first, ..] => *first == byte,
     }
-}
-
-/// How many bytes stand before the first `*/`.
-pub(crate) fn block_length(bytes: &[u8]) -> Option<usize>
-    ensures value { result ≡ reader.block_length 0 bytes.now }
-    ensures within { IfSome result (λ n. n + 2 ≤ length bytes.now) }
-{
-    let mut length = 0;
-    let mut rest = bytes;
-    'bytes: while let [first, after @ ..] = rest {
-        if *first == b'*' && begins_with(b'/', after) {
-            return Some(length);
-        }
-        length += 1;
-        rest = after;
-    }
-    None
 }

@@ -1,6 +1,6 @@
 use Rattle.std.proofs.Common.{◌≡◌, ◌+◌, length}
 use Rattle.sql_tokens.specs.Reader as reader
-use Rattle.sql_tokens.proofs.bytes.block_length.Given as goal
+use Rattle.sql_tokens.proofs.block.block_length.Given as goal
 
 abbrev pub invariant-bytes : goal.invariant-bytes
 invariant-bytes l = record {
