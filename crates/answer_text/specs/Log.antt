@@ -15,7 +15,7 @@ use Rattle.sql_semantics.specs.declared.refusal.Refusal.{Refusal}
 use Rattle.sql_semantics.specs.declared.refusal.Refusal.TheVariants.{Overflow}
 use Rattle.sql_semantics.specs.declared.refusal.Reply.{Reply}
 use Rattle.sql_semantics.specs.declared.refusal.Reply.TheVariants as reply
-use Rattle.mal_text.specs.Canon.{plan_text}
+use Rattle.mal_print.specs.Canon.{plan_text}
 use Rattle.answer_text.specs.Plans.{plan_over}
 use Rattle.answer_text.specs.declared.event.Event.{Event}
 use Rattle.answer_text.specs.declared.event.Act.{Act}

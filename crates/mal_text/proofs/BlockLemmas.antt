@@ -6,13 +6,14 @@ use Rattle.mal_text.specs.declared.block.Block.{Block}
 use Rattle.mal_text.specs.declared.block.Key.{Key}
 use Rattle.mal_text.specs.declared.block.Line.{Line}
 use Rattle.mal_text.specs.declared.block.Term.{Term}
-use Rattle.mal_text.specs.declared.token.Mark.TheVariants as mark
-use Rattle.mal_text.specs.declared.token.Token.{Token}
-use Rattle.mal_text.specs.declared.token.Token.TheVariants.{Name, Digits, Text, Mark}
-use Rattle.mal_text.specs.Blocks.{write_each, write_term, write_terms, write_closing, write_line, write_call, write_keep, bit_word, write_key, write_limit, write_output, write_named, write_void, write_out, write_block}
-use Rattle.mal_text.specs.Bytes.{then_read}
+use Rattle.mal_tokens.specs.declared.token.Mark.TheVariants as mark
+use Rattle.mal_tokens.specs.declared.token.Token.{Token}
+use Rattle.mal_tokens.specs.declared.token.Token.TheVariants.{Name, Digits, Text, Mark}
+use Rattle.mal_text.specs.Blocks.{write_each, write_term, write_terms, write_closing, write_line, write_call, write_keep, write_key, write_limit, write_output, write_named, write_void, write_out, write_block}
+use Rattle.text_bytes.specs.Found.{then_read}
+use Rattle.mal_tokens.specs.Tokens.{bit_word}
 use Rattle.mal_text.specs.Reader.{Found, first_token, after_first, is_word, is_mark, skip_word, skip_mark, name, digits, bit_named, closing, opening, repeated, optional, term_of, terms, goes_line, path, line, goes_call, bit, key, named, void, header, lines, keys, nothing_left, ending, block}
-use Rattle.mal_text.proofs.OptionLemmas.{then_found, value_found, pair_found, guard_found}
+use Rattle.text_bytes.proofs.FoundLemmas.{then_found, value_found, pair_found, guard_found}
 use Rattle.mal_text.proofs.ReaderLemmas.{moved, then_told, mark_is, mark_told, word_told, bytes_same, skip_word_found, skip_mark_found, name_found, digits_found, skip_word_told, skip_mark_told, name_told, digits_told, closing_found, closing_told, opening_found, opening_told, Called, optional_found, optional_none, optional_some, repeated_found, repeated_told, each_longer}
 use Rattle.mal_text.proofs.TermLemmas.{term_found, terms_found, term_told, terms_told, close_ends, terms_longer}
 

@@ -1,10 +1,5 @@
-pub mod ByteLemmas
-pub mod OptionLemmas
-pub mod QuotedLemmas
-pub mod TokensRead
 pub mod ReaderLemmas
 pub mod TermLemmas
 pub mod BlockLemmas
-pub mod NumberLemmas
-pub mod DayLemmas
+pub mod PlaceLemmas
 pub mod MalLaws

@@ -3,34 +3,30 @@ use Rattle.std.proofs.Common.{◌≡◌, ℕ, List, [], Option, Some, None, ap, 
 use Rattle.mal_meaning.specs.declared.plan.Out.{Out}
 use Rattle.mal_meaning.specs.declared.plan.Plan.{Plan}
 use Rattle.mal_text.specs.Blocks.{write_block}
-use Rattle.mal_text.specs.Bytes.{tokens_after}
 use Rattle.mal_text.specs.Plans.{StandsFor}
 use Rattle.mal_text.specs.Reader.{Found, block}
 use Rattle.mal_text.specs.Reads.{Derives}
-use Rattle.mal_text.specs.Tokens.{AreTokens}
+use Rattle.mal_tokens.specs.Tokens.{AreTokens}
 use Rattle.mal_text.specs.declared.block.Block.{Block}
-use Rattle.mal_text.specs.declared.token.Token.{Token}
+use Rattle.mal_tokens.specs.declared.token.Token.{Token}
 use Rattle.mal_text.proofs.BlockLemmas.{block_found, block_told}
-use Rattle.mal_text.proofs.OptionLemmas.{value_found, pair_found}
-use Rattle.mal_text.proofs.TokensRead.{tokens_sound, tokens_complete}
+use Rattle.text_bytes.proofs.FoundLemmas.{value_found, pair_found}
+use Rattle.mal_tokens.proofs.TokensRead.{one_list_of}
 
 -- the block that is read of a text's tokens is written in them
-pub block_read : (text : List ℕ) (ts : List Token) (b : Block) (rest : List Token) → tokens_after 0 text ≡ Some ts → block ts ≡ Some (b, rest) → AreTokens text (write_block b)
-block_read text ts b rest tokens found = subst (AreTokens text) (sym (block_found ts b rest found)) (tokens_sound text ts tokens)
+pub block_read : (text : List ℕ) (ts : List Token) (b : Block) (rest : List Token) → AreTokens text ts → block ts ≡ Some (b, rest) → AreTokens text (write_block b)
+block_read text ts b rest tokens found = subst (AreTokens text) (sym (block_found ts b rest found)) tokens
 
--- a text without tokens, or from whose tokens no block is read, has none
-pub no_tokens : (text : List ℕ) → tokens_after 0 text ≡ None → (b : Block) → AreTokens text (write_block b) → ⊥
-no_tokens text none b are = let both : None ≡ Some (write_block b) = sym none ∙ tokens_complete text (write_block b) are in cc
-
-pub no_block : (text : List ℕ) (ts : List Token) → tokens_after 0 text ≡ Some ts → block ts ≡ None → (b : Block) → AreTokens text (write_block b) → ⊥
+-- a text from whose tokens no block is read has none
+pub no_block : (text : List ℕ) (ts : List Token) → AreTokens text ts → block ts ≡ None → (b : Block) → AreTokens text (write_block b) → ⊥
 no_block text ts tokens none b are =
-    let same : ts ≡ write_block b = value_found ts (write_block b) (sym tokens ∙ tokens_complete text (write_block b) are) in
+    let same : ts ≡ write_block b = one_list_of text ts (write_block b) tokens are in
     let both : ◌≡◌ {A = Found Block} None (Some (b, [])) = sym none ∙ ap block same ∙ block_told b in
     cc
 
 one_block : (text : List ℕ) (a b : Block) → AreTokens text (write_block a) → AreTokens text (write_block b) → a ≡ b
 one_block text a b first second =
-    let same : write_block a ≡ write_block b = value_found (write_block a) (write_block b) (sym (tokens_complete text (write_block a) first) ∙ tokens_complete text (write_block b) second) in
+    let same : write_block a ≡ write_block b = one_list_of text (write_block a) (write_block b) first second in
     let parts = pair_found a b [] [] (sym (block_told a) ∙ ap block same ∙ block_told b) in
     parts.0
 

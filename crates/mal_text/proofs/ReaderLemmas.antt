@@ -3,15 +3,15 @@ use Rattle.std.proofs.Common.{◌≡◌, ℕ, zero, suc, ◌+◌, ◌-◌, ◌<�
 use Rattle.std.specs.Prelude.{bytes_eq, slice_get}
 use Rattle.std.specs.Cmp.Lexicographic.{bytes_decides}
 use denote.Enum.Bare.{same_true}
-use Rattle.mal_text.specs.contracts.token.Mark.{the_type as the_marks}
-use Rattle.mal_text.specs.declared.token.Mark.{Mark as MarkSeen}
-use Rattle.mal_text.specs.declared.token.Mark.TheVariants as mark
-use Rattle.mal_text.specs.declared.token.Token.{Token}
-use Rattle.mal_text.specs.declared.token.Token.TheVariants.{Name, Digits, Text, Mark}
+use Rattle.mal_tokens.specs.contracts.token.Mark.{the_type as the_marks}
+use Rattle.mal_tokens.specs.declared.token.Mark.{Mark as MarkSeen}
+use Rattle.mal_tokens.specs.declared.token.Mark.TheVariants as mark
+use Rattle.mal_tokens.specs.declared.token.Token.{Token}
+use Rattle.mal_tokens.specs.declared.token.Token.TheVariants.{Name, Digits, Text, Mark}
 use Rattle.mal_text.specs.Blocks.{write_each, write_closing, write_call}
-use Rattle.mal_text.specs.Bytes.{then_read}
+use Rattle.text_bytes.specs.Found.{then_read}
 use Rattle.mal_text.specs.Reader.{Found, Parser, first_token, after_first, is_word, is_mark, is_zero, skip_word, skip_mark, skip_zero, name, digits, closing, opening, repeated, goes_call, optional}
-use Rattle.mal_text.proofs.OptionLemmas.{then_found, value_found, pair_found, guard_found}
+use Rattle.text_bytes.proofs.FoundLemmas.{then_found, value_found, pair_found, guard_found}
 
 -- ## What is found
 

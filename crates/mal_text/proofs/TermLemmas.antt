@@ -2,13 +2,13 @@
 use Rattle.std.proofs.Common.{◌≡◌, ℕ, ◌+◌, ◌<◌, ◌≤◌, arith, List, [], ◌∷◌, ◌++◌, length, Bool, true, false, cond, Option, Some, None, refl, ap, sym, ◌∙◌, codes}
 use Rattle.mal_text.specs.declared.block.Term.{Term}
 use Rattle.mal_text.specs.declared.block.Term.TheVariants as term
-use Rattle.mal_text.specs.declared.token.Mark.TheVariants as mark
-use Rattle.mal_text.specs.declared.token.Token.{Token}
-use Rattle.mal_text.specs.declared.token.Token.TheVariants.{Name, Digits, Text, Mark}
+use Rattle.mal_tokens.specs.declared.token.Mark.TheVariants as mark
+use Rattle.mal_tokens.specs.declared.token.Token.{Token}
+use Rattle.mal_tokens.specs.declared.token.Token.TheVariants.{Name, Digits, Text, Mark}
 use Rattle.mal_text.specs.Blocks.{write_each, write_sign, write_term, write_further, write_terms}
-use Rattle.mal_text.specs.Bytes.{then_read}
+use Rattle.text_bytes.specs.Found.{then_read}
 use Rattle.mal_text.specs.Reader.{Found, first_token, after_first, is_mark, skip_word, skip_mark, skip_zero, digits, repeated, text_behind, number_behind, digits_behind, negative_behind, term_at, term_of, goes_further, further, terms}
-use Rattle.mal_text.proofs.OptionLemmas.{then_found, pair_found}
+use Rattle.text_bytes.proofs.FoundLemmas.{then_found, pair_found}
 use Rattle.mal_text.proofs.ReaderLemmas.{moved, then_told, mark_is, mark_told, skip_word_found, skip_mark_found, skip_zero_found, digits_found, skip_word_told, skip_mark_told, skip_zero_told, digits_told, repeated_found, repeated_told, each_longer}
 
 -- arguments before the tokens behind them

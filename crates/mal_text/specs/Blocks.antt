@@ -5,9 +5,10 @@ use Rattle.mal_text.specs.declared.block.Key.{Key}
 use Rattle.mal_text.specs.declared.block.Line.{Line}
 use Rattle.mal_text.specs.declared.block.Term.{Term}
 use Rattle.mal_text.specs.declared.block.Term.TheVariants as term
-use Rattle.mal_text.specs.declared.token.Mark.TheVariants as mark
-use Rattle.mal_text.specs.declared.token.Token.{Token}
-use Rattle.mal_text.specs.declared.token.Token.TheVariants.{Name, Digits, Text, Mark}
+use Rattle.mal_tokens.specs.Tokens.{bit_word}
+use Rattle.mal_tokens.specs.declared.token.Mark.TheVariants as mark
+use Rattle.mal_tokens.specs.declared.token.Token.{Token}
+use Rattle.mal_tokens.specs.declared.token.Token.TheVariants.{Name, Digits, Text, Mark}
 
 -- things one behind the other
 abbrev pub write_each : {X : Type 0} → (X → List Token → List Token) → List X → List Token → List Token
@@ -57,10 +58,6 @@ write_call name rest = Name (codes "sql") ∷ Mark mark.Dot ∷ Name name ∷ Ma
 abbrev pub write_keep : Option Term → List Token → List Token
 write_keep None rest = rest
 write_keep (Some t) rest = write_call (codes "keep") (write_term t (write_closing rest))
-
-abbrev pub bit_word : Bool → List ℕ
-bit_word true = codes "true"
-bit_word false = codes "false"
 
 -- sql.order(digits, bit);
 abbrev pub write_key : Key → List Token → List Token

@@ -1,11 +1,5 @@
-pub mod Classes
-pub mod Tokens
-pub mod Bytes
 pub mod Blocks
 pub mod Reader
-pub mod Operators
-pub mod Days
 pub mod Plans
 pub mod Reads
-pub mod Canon
 pub mod Laws

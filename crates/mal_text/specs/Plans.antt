@@ -13,8 +13,8 @@ use Rattle.cell_core.specs.declared.operator.Instr.{Instr}
 use Rattle.cell_core.specs.declared.operator.Op.{Op}
 use Rattle.cell_core.specs.declared.operator.Op.TheVariants as op
 use Rattle.mal_meaning.specs.declared.plan.Plan.{Plan}
-use Rattle.mal_text.specs.Days.{day_named}
-use Rattle.mal_text.specs.Operators.{op_of}
+use Rattle.text_bytes.specs.Days.{day_named}
+use Rattle.mal_tokens.specs.Operators.{op_of}
 use Rattle.mal_text.specs.declared.block.Block.{Block}
 use Rattle.mal_text.specs.declared.block.Key.{Key}
 use Rattle.mal_text.specs.declared.block.Line.{Line}

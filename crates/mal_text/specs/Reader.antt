@@ -2,17 +2,17 @@
 -- don't speak of these: proofs/ shows that they read exactly what the grammar writes.
 use Rattle.std.specs.Prelude.{ℕ, zero, suc, List, [], ◌∷◌, ◌++◌, length, Bool, true, false, bytes_eq, codes, if◌then◌else◌, Option, Some, None, slice_get}
 use denote.Enum.Bare.{sameb}
-use Rattle.mal_text.specs.Bytes.{then_read}
-use Rattle.mal_text.specs.contracts.token.Mark.{the_type as the_marks}
+use Rattle.text_bytes.specs.Found.{then_read}
+use Rattle.mal_tokens.specs.contracts.token.Mark.{the_type as the_marks}
 use Rattle.mal_text.specs.declared.block.Block.{Block}
 use Rattle.mal_text.specs.declared.block.Key.{Key}
 use Rattle.mal_text.specs.declared.block.Line.{Line}
 use Rattle.mal_text.specs.declared.block.Term.{Term}
 use Rattle.mal_text.specs.declared.block.Term.TheVariants as term
-use Rattle.mal_text.specs.declared.token.Mark.{Mark as MarkSeen}
-use Rattle.mal_text.specs.declared.token.Mark.TheVariants as mark
-use Rattle.mal_text.specs.declared.token.Token.{Token}
-use Rattle.mal_text.specs.declared.token.Token.TheVariants.{Name, Digits, Text, Mark}
+use Rattle.mal_tokens.specs.declared.token.Mark.{Mark as MarkSeen}
+use Rattle.mal_tokens.specs.declared.token.Mark.TheVariants as mark
+use Rattle.mal_tokens.specs.declared.token.Token.{Token}
+use Rattle.mal_tokens.specs.declared.token.Token.TheVariants.{Name, Digits, Text, Mark}
 
 -- what a reader finds: a value and the tokens behind it
 abbrev pub Found : Type 0 → Type 0

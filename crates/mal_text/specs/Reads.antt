@@ -4,7 +4,7 @@ use Rattle.mal_check.specs.Checked.{plan_fault}
 use Rattle.mal_meaning.specs.declared.plan.Plan.{Plan}
 use Rattle.mal_text.specs.Blocks.{write_block}
 use Rattle.mal_text.specs.Plans.{StandsFor, unknown_op}
-use Rattle.mal_text.specs.Tokens.{AreTokens}
+use Rattle.mal_tokens.specs.Tokens.{AreTokens}
 use Rattle.mal_text.specs.declared.block.Block.{Block}
 use Rattle.mal_text.specs.declared.error.MalError.{MalError}
 use Rattle.mal_text.specs.declared.error.MalError.TheVariants.{NoBlock, UnknownOp, Plan as PlanRefused, Memory}

@@ -5,8 +5,8 @@ use crate::block::{Block, Key, Line, Term};
 use crate::cursor::{Cursor, is_mark, is_word};
 use crate::error::ReadError;
 use crate::terms::{Part, repeated, term, terms};
-use crate::token::Mark;
 use cell_core::{Sequence, Word};
+use mal_tokens::Mark;
 use std::alloc::Global;
 
 /// A block, which all the tokens are.

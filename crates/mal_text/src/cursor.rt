@@ -3,8 +3,8 @@ ghost use Rattle.mal_text.specs.Reader as reader;
 ghost use Rattle.mal_text.specs.Reader.{first_token, after_first};
 
 use crate::error::ReadError;
-use crate::token::{Mark, Token};
 use cell_core::Word;
+use mal_tokens::{Mark, Token};
 
 /// The tokens that are still to be read.
 #[derive(Drop)]

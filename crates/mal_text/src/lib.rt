@@ -1,26 +1,23 @@
-//! MAL text: plans that are read from text, and the canonical text of a plan.
+//! Plans that are read from MAL text.
+//!
+//! It stands on `mal_tokens` for the tokens of a text and the words of the operators, on `mal_meaning`
+//! for the plan and on `mal_check` for its faults. It promises that `parse_mal` reads a plan exactly where
+//! the grammar derives it, its functions are known and the plan has no fault, that it tells the first
+//! reason else, and that no text reads as two plans (`one_reading`). Memory running out is the only
+//! answer that may come instead.
 #![tactic(auto)]
 
 mod block;
 mod blocks;
-mod bytes;
 mod cursor;
 mod error;
 mod laws;
 mod numbers;
-mod operators;
 mod parse;
-mod part;
 mod plans;
-mod print;
-mod quoted;
 mod terms;
-mod token;
-mod tokens;
 
 pub use block::{Block, Key, Line, Term};
 pub use error::MalError;
 pub use laws::one_reading;
 pub use parse::parse_mal;
-pub use print::print_mal;
-pub use token::{Mark, Token};

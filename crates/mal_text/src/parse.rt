@@ -2,7 +2,7 @@ ghost use Rattle.std.specs.Prelude.{◌≡◌, ◌∷◌, ◌++◌, [], Some, No
 ghost use Rattle.mal_text.specs.Plans.{StandsFor, unknown_op};
 ghost use Rattle.mal_text.specs.Reads.{Derives, ReadsAs, IsRefused};
 ghost use Rattle.mal_text.specs.Blocks.{write_block};
-ghost use Rattle.mal_text.specs.Tokens.{AreTokens};
+ghost use Rattle.mal_tokens.specs.Tokens.{AreTokens};
 ghost use Rattle.mal_text.specs.declared.block.Block.{Block as BlockSeen};
 ghost use Rattle.mal_text.specs.Reader as reader;
 
@@ -10,12 +10,11 @@ use crate::block::{Block, Line};
 use crate::blocks::block;
 use crate::cursor::Cursor;
 use crate::error::{MalError, ReadError};
-use crate::operators::operator;
 use crate::plans::plan;
-use crate::tokens::tokens;
 use cell_core::{Memory, Word, word_of};
 use mal_check::{PlanError, check_plan};
 use mal_meaning::Plan;
+use mal_tokens::{TokensError, operator, tokens};
 use std::alloc::Global;
 
 /// The plan that a text reads as, or why it is refused: it is no block; or else a function is none of an
@@ -53,7 +52,11 @@ fn read_block(alloc: Global, text: &str) -> Result<Block, ReadError>
     ensures found { IfOk result (λ block. AreTokens text.now (write_block block)) }
     ensures none { IsErrOf result ReadError.NoBlock → (block : BlockSeen) → AreTokens text.now (write_block block) → ⊥ }
 {
-    let tokens = tokens(alloc, text)?;
+    let tokens = match tokens(alloc, text) {
+        Ok(tokens) => tokens,
+        Err(TokensError::Syntax) => return Err(ReadError::NoBlock),
+        Err(TokensError::Memory) => return Err(ReadError::Memory),
+    };
     let mut rest = Cursor::new(tokens.as_slice());
     let found = block(alloc, &mut rest)?;
     Ok(found)

@@ -6,12 +6,13 @@ ghost use Rattle.mal_text.specs.Plans.{StandsFor};
 
 use crate::block::{Block, Key, Line, Term};
 use crate::error::ReadError;
-use crate::numbers::{day, huge, int, magnitude, small};
-use crate::operators::operator;
+use crate::numbers::{huge, int, small};
 use cell_core::{Arg, Cell, Instr, Memory, Op, Sequence, Word};
 use indexmap::IndexSet;
 use mal_meaning::{Out, Plan};
+use mal_tokens::operator;
 use std::alloc::Global;
+use text_bytes::{named_day, number_128};
 
 /// The plan that a block stands for, if it stands for one.
 pub(crate) fn plan(alloc: Global, block: &Block) -> Result<Plan, ReadError>
@@ -96,7 +97,7 @@ fn arg(names: &IndexSet<Word>, term: &Term) -> Result<Arg, ReadError>
     let cell = match term {
         Term::Name(word) => return Ok(named(names, word)?),
         Term::Text(text) => Some(Cell::Text(text.share()?)),
-        Term::Date(text) => day(text.text()).map(Cell::Day),
+        Term::Date(text) => named_day(text.text()).map(Cell::Day),
         Term::Int(negative, digits) => int(*negative, digits.text()).map(Cell::Int),
         Term::Huge(negative, digits) => huge(*negative, digits.text()).map(Cell::Huge),
         Term::Oid(digits) => small(digits.text()).map(Cell::Oid),
@@ -189,7 +190,7 @@ fn keep(names: &IndexSet<Word>, keep: &Option<Term>) -> Result<Option<Arg>, Read
 fn key(key: &Key) -> Option<(u32, bool)>
     ensures { result ≡ plans.key_of key.now }
 {
-    match magnitude(key.place.text()) {
+    match number_128(key.place.text()) {
         Some(place) if 1 <= place && place <= 1 << 32 => Some(((place - 1) as u32, key.ascending)),
         _ => None,
     }

@@ -1,14 +1,14 @@
 ghost use Rattle.std.specs.Prelude.{◌≡◌, List, Bool, Some, None, length, IfOk, IsErrOf};
 ghost use Rattle.mal_text.specs.Reader as reader;
 ghost use Rattle.mal_text.specs.Reader.{first_token, after_first, Parser};
-ghost use Rattle.mal_text.specs.declared.token.Token.{Token as TokenSeen};
-ghost use Rattle.mal_text.specs.declared.token.Mark.TheVariants as mark;
+ghost use Rattle.mal_tokens.specs.declared.token.Token.{Token as TokenSeen};
+ghost use Rattle.mal_tokens.specs.declared.token.Mark.TheVariants as mark;
 
 use crate::block::Term;
 use crate::cursor::{Cursor, is_mark};
 use crate::error::ReadError;
-use crate::token::{Mark, Token};
 use cell_core::{Sequence, Word};
+use mal_tokens::{Mark, Token};
 use std::alloc::Global;
 
 /// What stands one behind the other.

@@ -15,7 +15,7 @@ use Rattle.sql_reader.specs.Chain.{Found, Parser, first_token, after_first, then
 use Rattle.sql_reader.specs.Derived.{expr_with}
 use Rattle.sql_reader.specs.Reader.{sign_in, star_in, is_dot, digits_in, name_in, column, date, term, expr, negative, factor_at, factor}
 use Rattle.sql_reader.proofs.ChainLemmas.{then_found, given_found, pair_found, chain_found, no_steps_found}
-use Rattle.sql_reader.proofs.DayLemmas.{day_found}
+use Rattle.text_bytes.proofs.DayLemmas.{day_found}
 use Rattle.sql_reader.proofs.TokenLemmas.{sign_found, star_found, dot_found, digits_found, text_found, name_found, closed_found}
 use Rattle.sql_tree.specs.Tree.{ExprTree}
 use Rattle.sql_tree.specs.Tree.ExprTree.{Literal, ColumnOf, Operator}

@@ -16,7 +16,7 @@ use Rattle.sql_reader.specs.Chain.{Found, first_token, after_first, then_read, g
 use Rattle.sql_reader.specs.Derived.{expr_with}
 use Rattle.sql_reader.specs.Reader.{sign_in, star_in, is_dot, digits_in, name_in, column, date, term, expr, negative, factor, closed}
 use Rattle.sql_reader.proofs.ChainLemmas.{then_told, chain_ends, chain_goes_on}
-use Rattle.sql_reader.proofs.DayLemmas.{day_told}
+use Rattle.text_bytes.proofs.DayLemmas.{day_told}
 use Rattle.sql_reader.proofs.TokenLemmas.{sign_told}
 use Rattle.sql_tree.specs.Tree.{ExprTree}
 use Rattle.sql_tree.specs.Tree.ExprTree.{Literal, ColumnOf, Operator}

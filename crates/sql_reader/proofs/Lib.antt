@@ -1,5 +1,4 @@
 pub mod ChainLemmas
-pub mod DayLemmas
 pub mod InsideLaws
 pub mod NumberLemmas
 pub mod TokenLemmas

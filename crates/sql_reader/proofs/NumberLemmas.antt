@@ -1,16 +1,9 @@
 -- Numbers and the cells that they become.
-use Rattle.std.proofs.Common.{◌≡◌, ℕ, zero, suc, ◌+◌, ◌*◌, ◌^◌, ◌≤◌, List, [], ◌∷◌, true, false, pos, neg_ℤ, refl, arith}
-use Rattle.std.specs.Char.{digit_value}
-use Rattle.std.specs.Str.Parse.{digits_value_after}
+use Rattle.std.proofs.Common.{◌≡◌, ℕ, zero, suc, ◌^◌, ◌≤◌, true, false, pos, neg_ℤ, refl, arith}
 use Rattle.std.proofs.lemmas.Bool.Decides.{nat_tests}
 use Rattle.sql_refusals.specs.Unread.{unread_cell}
 use Rattle.sql_reader.specs.Bounded.{number_cell}
 use Rattle.sql_reader.specs.Reader.{signed_cell}
-
--- digits behind a number make it no smaller
-pub value_grows : (n : ℕ) (ds : List ℕ) → n ≤ digits_value_after 10 n ds
-value_grows n [] = omega arith
-value_grows n (d ∷ ds) = let more = value_grows (n * 10 + digit_value d) ds in omega (arith, more)
 
 pub signed_plain : (n : ℕ) → signed_cell false n ≡ number_cell (pos n)
 signed_plain n = grind (arith, nat_tests)

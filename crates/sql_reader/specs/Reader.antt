@@ -1,13 +1,12 @@
 -- What the functions that read expressions compute, on plain lists of tokens: a definition for each.
 -- The public clauses don't speak of these.
 use Rattle.std.specs.Prelude.{ℕ, zero, suc, ◌+◌, ◌==◌, List, length, slice_index, Bool, true, false, ◌&&◌, nat_le, nat_lt, ◌^◌, neg_ℤ, if◌then◌else◌, Option, Some, None, ℤ, pos}
-use Rattle.jiff_core.specs.Calendar.{days_in_month}
-use Rattle.cell_core.specs.Day.{year_in, month_in, day_of_month_in, day_in}
 use Rattle.cell_core.specs.declared.cell.Cell.{Cell}
 use Rattle.cell_core.specs.declared.cell.Cell.TheVariants as cell
 use Rattle.sql_grammar.specs.Grammar.{number_of, negative_of}
 use Rattle.sql_reader.specs.Bounded.{Builder}
 use Rattle.sql_refusals.specs.Unread.{unread_cell}
+use Rattle.text_bytes.specs.Days.{day_named}
 use Rattle.sql_reader.specs.Chain.{Found, Parser, first_token, after_first, then_read, given, chain}
 use Rattle.sql_tree.specs.Tree.{ExprTree}
 use Rattle.sql_tree.specs.Tree.ExprTree.{Literal, ColumnOf}
@@ -67,32 +66,6 @@ closed found = if is_close (first_token found.1) then Some (found.0, after_first
 abbrev pub signed_cell : Bool → ℕ → Cell
 signed_cell true n = if nat_le n (2 ^ 63) then cell.Int (neg_ℤ (pos n)) else unread_cell
 signed_cell false n = if nat_lt n (2 ^ 63) then cell.Int (pos n) else unread_cell
-
--- ## Days
-
--- two digits stand at a place
-abbrev pub are_two_digits : List ℕ → ℕ → Bool
-are_two_digits text place =
-    (nat_le 48 (slice_index text place) && nat_le (slice_index text place) 57) && (nat_le 48 (slice_index text (place + 1)) && nat_le (slice_index text (place + 1)) 57)
-
-abbrev pub are_day_digits : List ℕ → Bool
-are_day_digits text = (are_two_digits text 0 && are_two_digits text 2) && (are_two_digits text 5 && are_two_digits text 8)
-
-abbrev pub are_day_marks : List ℕ → Bool
-are_day_marks text = (length text == 10) && ((slice_index text 4 == 45) && (slice_index text 7 == 45))
-
--- the calendar has the date, in a year from 1 to 9999
-abbrev pub is_calendar_day : ℕ → ℕ → ℕ → Bool
-is_calendar_day year month day =
-    (nat_le 1 year && nat_le year 9999) && ((nat_le 1 month && nat_le month 12) && (nat_le 1 day && nat_le day (days_in_month (pos year) month)))
-
--- the text names a day
-abbrev pub is_day_text : List ℕ → Bool
-is_day_text text = are_day_marks text && (are_day_digits text && is_calendar_day (year_in text) (month_in text) (day_of_month_in text))
-
--- the day that the text names, if it names one
-abbrev pub day_named : List ℕ → Option ℤ
-day_named text = if is_day_text text then Some (day_in text) else None
 
 -- ## Expressions, as a builder keeps them
 

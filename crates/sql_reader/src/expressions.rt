@@ -4,15 +4,17 @@ ghost use Rattle.sql_tree.specs.Tree.{expr_tree};
 ghost use Rattle.sql_reader.specs.Chain.{first_token, after_first};
 ghost use Rattle.sql_reader.specs.Bounded.{bounded, bounded_operator};
 ghost use Rattle.sql_reader.specs.Reader as reader;
+ghost use Rattle.text_bytes.specs.Days.{day_named};
 
 use crate::cursor::{Cursor, digits, is_dot, name, sign, star, text};
 use crate::number::{negative_number, plain_number};
 use crate::reading::TreeError;
 use crate::signs::with_signs;
-use cell_core::{Cell, Memory, Word, read_day};
+use cell_core::{Cell, Memory, Word};
 use sql_refusals::is_large_expr;
 use sql_tree::{ArithOp, ColRef, Expr, Keyword, Symbol, Token};
 use std::alloc::Global;
+use text_bytes::named_day;
 
 /// An expression of at most so many levels: expr = term {("+" | "-") term}.
 #[cycle(expr)]
@@ -195,9 +197,9 @@ fn date(tokens: &mut Cursor<'_>) -> Result<Expr, TreeError>
 
 /// The day that a text names.
 pub fn day(text: &Word) -> Option<i32>
-    ensures { result ≡ reader.day_named text.now }
+    ensures { result ≡ day_named text.now }
 {
-    read_day(text.text())
+    named_day(text.text())
 }
 
 /// A column that begins with the name: `column` or `table.column`.

@@ -33,6 +33,6 @@ pub use conditions::{both, whole_cond};
 pub use cursor::{Cursor, comma, digits, is_key, is_symbol, name, text};
 pub use expressions::{column, day};
 pub use laws::{one_cond, one_expr};
-pub use number::{magnitude, negative_number, plain_number};
+pub use number::{negative_number, plain_number};
 pub use predicates::{value, whole_expr};
 pub use reading::{TreeError, read_cond, read_expr, read_having};

@@ -26,7 +26,7 @@ use mal_check::checked_plans_run;
 use mal_exec::run_plan;
 use mal_meaning::Plan;
 use mal_opt::optimise;
-use mal_text::print_mal;
+use mal_print::print_mal;
 use sql_check::{CheckError, check};
 use sql_semantics::{Refusal, Reply, Typed};
 use sql_tree::{Query, Stmt};

@@ -18,7 +18,7 @@ use Rattle.sql_reader.specs.Parts.{is_key, behind_key}
 use Rattle.sql_reader.proofs.ChainLemmas.{then_found, guard_found, pair_found}
 use Rattle.sql_reader.proofs.CondFound.{whole_found}
 use Rattle.sql_reader.proofs.CondLaws.{where_sound}
-use Rattle.sql_reader.proofs.DayLemmas.{day_found}
+use Rattle.text_bytes.proofs.DayLemmas.{day_found}
 use Rattle.sql_reader.proofs.ExprFound.{IsWritten, IsSound}
 use Rattle.sql_reader.proofs.TokenLemmas.{key_found, symbol_found, digits_found, text_found, closed_found}
 use Rattle.sql_tree.specs.Tree.{ExprTree, StmtTree}

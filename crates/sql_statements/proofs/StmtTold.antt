@@ -15,7 +15,7 @@ use Rattle.sql_reader.specs.Parts.{is_key, is_symbol}
 use Rattle.sql_reader.proofs.ChainLemmas.{then_told, branch_false}
 use Rattle.sql_reader.proofs.CondLaws.{where_cond_told}
 use Rattle.sql_reader.proofs.CondTold.{cond_longer}
-use Rattle.sql_reader.proofs.DayLemmas.{day_told}
+use Rattle.text_bytes.proofs.DayLemmas.{day_told}
 use Rattle.sql_reader.proofs.ExprTold.{name_longer, expr_longer}
 use Rattle.sql_reader.proofs.OperandTold.{whole_told, expr_operand}
 use Rattle.sql_tree.specs.declared.token.Keyword.TheVariants as word

@@ -12,7 +12,8 @@ use Rattle.sql_reader.specs.Bounded.{Builder}
 use Rattle.sql_reader.specs.Chain.{Found, Parser, first_token, after_first, then_read, given, chain}
 use Rattle.sql_reader.specs.CondReader.{whole_expr, value, whole_cond}
 use Rattle.sql_reader.specs.Parts.{is_key, is_symbol, behind_key, behind_symbol, comma_in}
-use Rattle.sql_reader.specs.Reader.{digits_in, text_in, name_in, day_named, closed}
+use Rattle.sql_reader.specs.Reader.{digits_in, text_in, name_in, closed}
+use Rattle.text_bytes.specs.Days.{day_named}
 use Rattle.sql_reader.specs.Reader as expressions
 use Rattle.sql_statements.specs.declared.from.Joint.{Joint}
 use Rattle.sql_statements.specs.declared.from.Joint.TheVariants as joint

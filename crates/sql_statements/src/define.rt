@@ -11,9 +11,10 @@ ghost use Rattle.sql_statements.specs.Reader as reader;
 use crate::part::{Part, enclosed, name, takes};
 use crate::values::literal;
 use cell_core::{Cell, Column, Kind, Word};
-use sql_reader::{Cursor, TreeError, digits, is_key, magnitude};
+use sql_reader::{Cursor, TreeError, digits, is_key};
 use sql_tree::{Keyword, Stmt, Symbol, Token};
 use std::alloc::Global;
+use text_bytes::number_64;
 
 /// The width that stands for VARCHAR(0), past the most that is allowed: 0 would be no limit.
 const PAST_WIDTHS: u32 = 65536;
@@ -122,7 +123,7 @@ fn varchar(tokens: &mut Cursor<'_>) -> Result<(Kind, u32), TreeError>
 fn width(digits: &Word) -> u32
     ensures { result ≡ length_32 (length_of (number_of digits.now)) }
 {
-    match magnitude(digits.text()) {
+    match number_64(digits.text()) {
         Some(0) => PAST_WIDTHS,
         Some(length) => narrow(length),
         None => u32::MAX,

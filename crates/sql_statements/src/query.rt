@@ -12,11 +12,10 @@ use crate::change::where_cond;
 use crate::from::{alias, also, sources};
 use crate::part::{Part, column, listed_by, takes};
 use cell_core::{Sequence, Word};
-use sql_reader::{
-    Cursor, TreeError, comma, digits, is_key, is_symbol, magnitude, value, whole_cond,
-};
+use sql_reader::{Cursor, TreeError, comma, digits, is_key, is_symbol, value, whole_cond};
 use sql_tree::{Cond, Item, Keyword, Place, Query, SortKey, Symbol};
 use std::alloc::Global;
+use text_bytes::number_64;
 
 /// What follows SELECT.
 #[tactic(auto, unfolding(crate::specs::Reader::query))]
@@ -231,7 +230,7 @@ fn ascending(tokens: &mut Cursor<'_>) -> bool
 fn count(digits: &Word) -> u64
     ensures { result ≡ count_64 (number_of digits.now) }
 {
-    match magnitude(digits.text()) {
+    match number_64(digits.text()) {
         Some(number) => number,
         None => u64::MAX,
     }

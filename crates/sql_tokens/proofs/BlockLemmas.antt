@@ -4,7 +4,7 @@ use Rattle.std.specs.Prelude.{◌==◌}
 use Rattle.std.proofs.lemmas.Bool.{eqb-true, and_parts}
 use Rattle.sql_tree.specs.Bytes.{begins_with, holds_close}
 use Rattle.sql_tokens.specs.Reader.{block_length}
-use Rattle.sql_tokens.proofs.OptionLemmas.{value_found}
+use Rattle.text_bytes.proofs.FoundLemmas.{value_found}
 
 -- the first `*/` stands behind so many bytes
 pub record Closes (bs : List ℕ) (k : ℕ) : Type 0 where

@@ -1,4 +1,3 @@
-pub mod OptionLemmas
 pub mod PieceLemmas
 pub mod ByteLemmas
 pub mod QuotedLemmas

@@ -1,14 +1,15 @@
 -- What stands between marks, each mark in it doubled.
-use Rattle.std.proofs.Common.{◌≡◌, ℕ, suc, ◌<◌, ◌+◌, List, [], ◌∷◌, ◌++◌, length, drop, get_or, Bool, true, false, not, cond, Option, Some, None, refl, ap, sym, ◌∙◌, arith, subst, append_assoc, length-append}
+use Rattle.std.proofs.Common.{◌≡◌, ℕ, suc, ◌<◌, ◌+◌, List, [], ◌∷◌, ◌++◌, length, drop, Bool, true, false, not, cond, Option, Some, None, refl, ap, sym, ◌∙◌, arith, subst, append_assoc}
 use Rattle.std.specs.Prelude.{◌==◌, flat_map}
 use Rattle.std.specs.Str.{IsUtf8}
 use Rattle.std.proofs.lemmas.Bool.{eqb-true, eq-eqb}
-use Rattle.std.proofs.lemmas.Str.{IsUtf8-append, IsUtf8-take, IsUtf8-drop, IsUtf8-from_ascii, IsCharBoundary-before_ascii, IsCharBoundary-after_ascii}
+use Rattle.std.proofs.lemmas.Str.{IsUtf8-append, IsUtf8-from_ascii}
 use Rattle.std.proofs.lemmas.Str.Ascii.{IsAscii-nil, IsAscii-cons}
-use Rattle.std.proofs.Math.Seq.{get_or-append_seam, take-append_seam, drop-append_seam}
 use Rattle.sql_tree.specs.Bytes.{begins_with, doubled}
-use Rattle.sql_tokens.specs.Reader.{quoted_at, joined}
-use Rattle.sql_tokens.proofs.OptionLemmas.{value_found}
+use Rattle.sql_tokens.specs.Reader.{quoted_at}
+use Rattle.text_bytes.specs.Found.{joined}
+use Rattle.text_bytes.proofs.FoundLemmas.{value_found, joined_found}
+use Rattle.text_bytes.proofs.TextLemmas.{around_ascii}
 
 doubled_mark : (mark : ℕ) → doubled mark mark ≡ mark ∷ mark ∷ []
 doubled_mark mark = ap (λ t. cond t (mark ∷ mark ∷ []) (mark ∷ [])) (eq-eqb mark mark refl)
@@ -22,10 +23,6 @@ doubled_other mark b h = ap (λ t. cond t (mark ∷ mark ∷ []) (b ∷ [])) h
 pub record Quoted (mark : ℕ) (closing : Bool) (bs text : List ℕ) (n : ℕ) : Type 0 where
   pub text_is : flat_map (doubled mark) text ++ mark ∷ drop n bs ≡ cond closing (mark ∷ bs) bs
   pub ends : begins_with mark (drop n bs) ≡ false
-
-joined_found : (kept : List ℕ) (o : Option (List ℕ × ℕ)) (p : List ℕ × ℕ) → joined kept o ≡ Some p → (q : List ℕ × ℕ) × (o ≡ Some q) × ((kept ++ q.0, q.1 + 1) ≡ p)
-joined_found kept None p h = cc
-joined_found kept (Some q) p h = (q, refl, value_found (kept ++ q.0, q.1 + 1) p h)
 
 add_one : (n : ℕ) → n + 1 ≡ suc n
 add_one n = omega arith
@@ -108,41 +105,7 @@ module _ (mark : ℕ) where
           let sum : length (flat_map (doubled mark) text) + 1 + 1 ≡ length (b ∷ flat_map (doubled mark) text) + 1 = omega arith in
           rw (doubled_other mark b e) (at_other b (flat_map (doubled mark) text ++ mark ∷ rest) e ∙ ap (joined (b ∷ [])) more ∙ ap (λ n. Some (b ∷ text, n)) sum)
 
--- ## The loop over the bytes
-
--- what is found behind the bytes so far
-abbrev pub resumed : List ℕ → ℕ → Option (List ℕ × ℕ) → Option (List ℕ × ℕ)
-resumed bytes n None = None
-resumed bytes n (Some found) = Some (bytes ++ found.0, n + found.1)
-
-pub resumed_start : (o : Option (List ℕ × ℕ)) → resumed [] 0 o ≡ o
-resumed_start None = refl
-resumed_start (Some found) = let same : 0 + found.1 ≡ found.1 = omega arith in ap (λ n. Some (found.0, n)) same
-
-pub resumed_step : (bytes kept new : List ℕ) (n : ℕ) (o : Option (List ℕ × ℕ)) → new ≡ bytes ++ kept → resumed new (n + 1) o ≡ resumed bytes n (joined kept o)
-resumed_step bytes kept new n None added = refl
-resumed_step bytes kept new n (Some found) added =
-    let sum : (n + 1) + found.1 ≡ n + (found.1 + 1) = omega arith in
-    ap (λ k. Some (new ++ found.0, k)) sum ∙ ap (λ bs. Some (bs ++ found.0, n + (found.1 + 1))) added ∙ ap (λ bs. Some (bs, n + (found.1 + 1))) (append_assoc bytes kept found.0)
-
 -- ## Texts
-
--- round an ASCII byte of a text stand texts
-pub around_ascii : (xs : List ℕ) (b : ℕ) (ys : List ℕ) → b < 128 → IsUtf8 (xs ++ b ∷ ys) → IsUtf8 xs × IsUtf8 ys
-around_ascii xs b ys h text =
-    let here : get_or (xs ++ b ∷ ys) (length xs) 0 ≡ b = get_or-append_seam xs b ys 0 in
-    let size : length (xs ++ b ∷ ys) ≡ length xs + length (b ∷ ys) = length-append xs (b ∷ ys) in
-    let within : length xs < length (xs ++ b ∷ ys) = omega (arith, size) in
-    let ascii : get_or (xs ++ b ∷ ys) (length xs) 0 < 128 = omega (arith, here) in
-    let front = IsUtf8-take (xs ++ b ∷ ys) (length xs) text (IsCharBoundary-before_ascii (xs ++ b ∷ ys) (length xs) within ascii) in
-    let back = IsUtf8-drop (xs ++ b ∷ ys) (length xs + 1) text (IsCharBoundary-after_ascii (xs ++ b ∷ ys) (length xs) text within ascii) in
-    (subst IsUtf8 (take-append_seam xs (b ∷ ys)) front, subst IsUtf8 (after xs b ys) back)
-  where
-    after : (xs : List ℕ) (b : ℕ) (ys : List ℕ) → drop (length xs + 1) (xs ++ b ∷ ys) ≡ ys
-    after xs b ys =
-        let size : length (xs ++ b ∷ []) ≡ length xs + 1 = length-append xs (b ∷ []) in
-        let whole : (xs ++ b ∷ []) ++ ys ≡ xs ++ b ∷ ys = append_assoc xs (b ∷ []) ys in
-        rw (sym size, sym whole) (drop-append_seam (xs ++ b ∷ []) ys)
 
 -- a byte moves in front
 moved : (before : List ℕ) (b : ℕ) (bs : List ℕ) → IsUtf8 (before ++ b ∷ bs) → IsUtf8 ((before ++ b ∷ []) ++ bs)

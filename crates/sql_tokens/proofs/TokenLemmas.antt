@@ -1,10 +1,10 @@
 -- The steps of the loop over a text's parts.
-use Rattle.std.proofs.Common.{◌≡◌, ℕ, zero, suc, ◌-◌, List, [], ◌∷◌, ◌++◌, length, take, drop, Option, Some, None, refl, ap, sym, ◌∙◌, append_assoc, append-nil}
-use Rattle.std.proofs.lemmas.List.{take-append-drop}
+use Rattle.std.proofs.Common.{◌≡◌, ℕ, zero, suc, ◌-◌, List, [], ◌∷◌, ◌++◌, length, drop, Option, Some, None, refl, ap, sym, ◌∙◌, append_assoc, append-nil}
 use Rattle.sql_tree.specs.Tokens.{with_token}
+use Rattle.text_bytes.specs.Found.{then_read}
 use Rattle.sql_tree.specs.declared.token.Placed.{Placed}
 use Rattle.sql_tree.specs.declared.token.Token.{Token}
-use Rattle.sql_tokens.specs.Reader.{then_read, part_at, tokens_after, placed}
+use Rattle.sql_tokens.specs.Reader.{part_at, tokens_after, placed}
 
 -- a skip is a cut
 pub skip_drop : (all skip : ℕ) (bs : List ℕ) → tokens_after all skip bs ≡ tokens_after all 0 (drop skip bs)
@@ -43,7 +43,3 @@ module _ (all : ℕ) (whole : Option (List Placed)) (tokens : List Placed) (b : 
   pub tokens_stop : part_at b bs ≡ None → whole ≡ None
   tokens_stop part =
       told ∙ ap (λ o. then_read (then_read o (λ part. then_read (tokens_after all part.1 bs) (λ more. Some (with_token all (length (b ∷ bs)) (length (drop part.1 bs)) part.0 more)))) (λ more. Some (tokens ++ more))) part
-
--- a part moves in front
-pub part_moved : (before : List ℕ) (b n : ℕ) (bs text : List ℕ) → before ++ b ∷ bs ≡ text → (before ++ b ∷ take n bs) ++ drop n bs ≡ text
-part_moved before b n bs text whole = append_assoc before (b ∷ take n bs) (drop n bs) ∙ ap (λ cs. before ++ b ∷ cs) (take-append-drop n bs) ∙ whole

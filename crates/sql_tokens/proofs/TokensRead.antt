@@ -14,10 +14,12 @@ use Rattle.sql_tree.specs.declared.token.Symbol.{Symbol}
 use Rattle.sql_tree.specs.declared.token.Symbol.TheVariants as symbol
 use Rattle.sql_tree.specs.declared.token.Token.{Token}
 use Rattle.sql_tree.specs.declared.token.Token.TheVariants as token
-use Rattle.sql_tokens.specs.Reader.{then_read, Found, part_at, mark_at, digits_at, word_at, quoted_at, text_part, name_part, block_part, block_length, symbol_part, pair_at, pair_of, single_of, tokens_after}
-use Rattle.sql_tokens.proofs.ByteLemmas.{digit_no_letter, blank_cases, front_passes, front_stops, front_again, no_digit, not_holds}
+use Rattle.sql_tokens.specs.Reader.{Found, part_at, mark_at, digits_at, word_at, quoted_at, text_part, name_part, block_part, block_length, symbol_part, pair_at, pair_of, single_of, tokens_after}
+use Rattle.sql_tokens.proofs.ByteLemmas.{no_digit}
+use Rattle.text_bytes.specs.Found.{then_read}
+use Rattle.text_bytes.proofs.ByteLemmas.{digit_no_letter, blank_cases, front_passes, front_stops, front_again, not_holds, behind_one}
 use Rattle.sql_tokens.proofs.BlockLemmas.{block_sound, block_told}
-use Rattle.sql_tokens.proofs.OptionLemmas.{then_found, value_found}
+use Rattle.text_bytes.proofs.FoundLemmas.{then_found, value_found, at_first, at_second, ReadAt}
 use Rattle.sql_tokens.proofs.QuotedLemmas.{quoted_sound, quoted_told}
 use Rattle.sql_tokens.proofs.SymbolLemmas.{single_sound, pair_sound, single_ends}
 use Rattle.sql_tokens.proofs.TokenLemmas.{skip_drop}
@@ -230,19 +232,8 @@ tokens_sound text ts h =
 -- ## A cut is read
 
 -- a part is read where it is written
-record IsRead (part : Part) (rest : List ℕ) : Type 0 where
-  first : ℕ
-  after : List ℕ
-  size : ℕ
-  written_is : write_part part rest ≡ first ∷ after
-  told : part_at first after ≡ Some (token_of part, size)
-  rest_is : drop size after ≡ rest
-
-at_first : (t : Bool) (x y : Found) → t ≡ true → cond t x y ≡ x
-at_first t x y h = ap (λ t. cond t x y) h
-
-at_second : (t : Bool) (x y : Found) → t ≡ false → cond t x y ≡ y
-at_second t x y h = ap (λ t. cond t x y) h
+abbrev IsRead : Part → List ℕ → Type 0
+IsRead part rest = ReadAt part_at (write_part part rest) (token_of part) rest
 
 blank_read : (b : ℕ) (rest : List ℕ) → is_blank b ≡ true → IsRead (Blank b) rest
 blank_read b rest h = record {
@@ -309,11 +300,6 @@ line_read bs rest fits =
 behind : (xs rest : List ℕ) (x y : ℕ) → drop (length xs + 2) (xs ++ x ∷ y ∷ rest) ≡ rest
 behind [] rest x y = refl
 behind (z ∷ xs) rest x y = let more : length (z ∷ xs) + 2 ≡ suc (length xs + 2) = omega arith in rw more (behind xs rest x y)
-
--- and one
-behind_one : (xs rest : List ℕ) (x : ℕ) → drop (length xs + 1) (xs ++ x ∷ rest) ≡ rest
-behind_one [] rest x = refl
-behind_one (z ∷ xs) rest x = let more : length (z ∷ xs) + 1 ≡ suc (length xs + 1) = omega arith in rw more (behind_one xs rest x)
 
 block_read : (bs rest : List ℕ) → Fits (Block bs) rest → IsRead (Block bs) rest
 block_read bs rest fits =

@@ -12,12 +12,8 @@ use Rattle.sql_tree.specs.declared.token.Placed.{Placed}
 use Rattle.sql_tree.specs.declared.token.Symbol.{Symbol}
 use Rattle.sql_tree.specs.declared.token.Token.{Token}
 use Rattle.sql_tree.specs.declared.token.Token.TheVariants as token
+use Rattle.text_bytes.specs.Found.{then_read, joined}
 use Rattle.sql_tree.specs.declared.token.TheConstants.{SINGLES, PAIRS}
-
--- what follows a value that was found
-abbrev pub then_read : {X Y : Type 0} → Option X → (X → Option Y) → Option Y
-then_read None f = None
-then_read (Some x) f = f x
 
 -- ## Pieces
 
@@ -39,11 +35,6 @@ kept_byte mark closing b = if b == mark then (if closing then mark ∷ [] else [
 -- whether a mark stands open behind the byte
 abbrev pub next_closing : ℕ → Bool → ℕ → Bool
 next_closing mark closing b = if b == mark then not closing else false
-
--- the bytes, before what is found one byte further on
-abbrev pub joined : List ℕ → Option (List ℕ × ℕ) → Option (List ℕ × ℕ)
-joined kept None = None
-joined kept (Some found) = Some (kept ++ found.0, found.1 + 1)
 
 -- what stands before the mark that isn't doubled, and how many bytes that takes, the mark too
 abbrev pub quoted_at : ℕ → Bool → List ℕ → Option (List ℕ × ℕ)

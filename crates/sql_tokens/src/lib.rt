@@ -7,7 +7,7 @@
 //! answer that may come instead.
 #![tactic(auto)]
 
-mod bytes;
+mod block;
 mod laws;
 mod part;
 mod pieces;

@@ -5,16 +5,17 @@ ghost use Rattle.sql_tree.specs.Bytes as classes;
 ghost use Rattle.sql_tree.specs.Words as words;
 ghost use Rattle.sql_tokens.specs.Reader as reader;
 
-use crate::bytes::{
-    begins_with, begins_word_byte, block_length, digits_length, is_blank, is_digit, is_letter,
-    line_length, word_length,
-};
+use crate::block::block_length;
 use crate::quoted::quoted;
 use crate::reading::TokensError;
 use crate::symbols::{pair, single};
 use cell_core::{Memory, Word, word_of};
 use sql_tree::{Token, is_unsupported, keyword};
 use std::alloc::Global;
+use text_bytes::{
+    begins_with, begins_word_byte, digits_length, is_blank, is_digit, is_letter, line_length,
+    word_length,
+};
 
 /// The part at the front: its token, where it has one, and how many bytes follow its first.
 pub(crate) fn part(
@@ -44,7 +45,7 @@ pub(crate) fn part(
 }
 
 /// A word, as a name or as the reserved word that it is.
-#[tactic(auto, using(crate::proofs::ByteLemmas::word_front))]
+#[tactic(auto, using(text_bytes::proofs::ByteLemmas::word_front))]
 fn word(alloc: Global, first: u8, after: &[u8]) -> Result<(Option<Token>, usize), TokensError>
     requires { classes.is_letter first ≡ true }
     ensures part { IfOk result (λ part. reader.word_at first after.now ≡ Some (part.0, part.1)) }
@@ -68,7 +69,7 @@ fn word_token(word: Word) -> Token
 }
 
 /// Digits, which no letter and no `_` follows.
-#[tactic(auto, using(crate::proofs::ByteLemmas::digits_front))]
+#[tactic(auto, using(text_bytes::proofs::ByteLemmas::digits_front))]
 fn digits(alloc: Global, first: u8, after: &[u8]) -> Result<(Option<Token>, usize), TokensError>
     requires { classes.is_digit first ≡ true }
     ensures part { IfOk result (λ part. reader.digits_at first after.now ≡ Some (part.0, part.1)) }

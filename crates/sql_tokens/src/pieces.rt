@@ -3,10 +3,10 @@ ghost use Rattle.sql_tree.specs.Pieces as told;
 ghost use Rattle.sql_tree.specs.declared.inside.Inside.TheVariants.{Outside};
 ghost use Rattle.sql_tokens.specs.Reader as reader;
 
-use crate::bytes::{begins_with, is_blank};
 use cell_core::{Memory, Word, word_of};
 use sql_tree::Inside;
 use std::alloc::{AllocFailed, Global};
+use text_bytes::{begins_with, is_blank};
 use thiserror::Error;
 
 /// The most statements of a script.

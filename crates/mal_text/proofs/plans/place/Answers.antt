@@ -1,6 +1,6 @@
 use Rattle.std.proofs.Common.{sym, ◌∙◌}
 use Rattle.std.specs.Prelude.{bytes_eq}
-use Rattle.mal_text.proofs.NumberLemmas.{no_place}
+use Rattle.mal_text.proofs.PlaceLemmas.{no_place}
 use Rattle.mal_text.proofs.plans.place.Goals as goal
 
 pub returns-in-None : goal.returns-in-None

@@ -2,7 +2,7 @@
 use Rattle.std.proofs.Common.{◌≡◌, true, false, ◌∙◌, ◌-◌, arith, rules}
 use Rattle.std.proofs.lemmas.Grind.{common_steps}
 use Rattle.std.proofs.lemmas.Result.{err_from_is_err_and}
-use Rattle.mal_text.proofs.OptionLemmas.{same_err}
+use Rattle.text_bytes.proofs.FoundLemmas.{same_err}
 use Rattle.mal_text.proofs.ReaderLemmas.{repeated_ends, turn_goes_on, turn_breaks, last_turn}
 use Rattle.mal_text.proofs.terms.repeated.Goals as goal
 

@@ -1,5 +1,5 @@
 use Rattle.std.proofs.Common.{◌≡◌, Some, None, ap, sym, ◌∙◌}
-use Rattle.mal_text.specs.Canon.{plan_text}
+use Rattle.mal_print.specs.Canon.{plan_text}
 use Rattle.sql_tree.specs.Tree.{query_tree, stmt_tree}
 use Rattle.sql_tree.specs.Tree.StmtTree.{ExplainSelect}
 use Rattle.answer_text.specs.declared.event.Shown.TheVariants as shown

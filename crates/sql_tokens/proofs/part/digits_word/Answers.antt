@@ -1,6 +1,6 @@
 use Rattle.std.proofs.Common.{◌≡◌, ◌∷◌, sym, ◌∙◌, subst}
 use Rattle.std.specs.Prelude.{IsAscii}
-use Rattle.sql_tokens.proofs.ByteLemmas.{ascii_word_bytes, digits_word_bytes}
+use Rattle.text_bytes.proofs.ByteLemmas.{ascii_word_bytes, digits_word_bytes}
 use Rattle.sql_tokens.proofs.part.digits_word.Goals as goal
 
 pub ascii_word-requires : goal.ascii_word-requires

@@ -1,5 +1,5 @@
 use Rattle.std.proofs.Common.{lit<}
-use Rattle.sql_tokens.proofs.QuotedLemmas.{around_ascii}
+use Rattle.text_bytes.proofs.TextLemmas.{around_ascii}
 use Rattle.sql_tokens.proofs.part.part.Goals as goal
 
 pub quoted-requires-clause-text : goal.quoted-requires-clause-text

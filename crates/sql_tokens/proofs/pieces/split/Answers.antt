@@ -1,6 +1,6 @@
 use Rattle.std.proofs.Common.{rules, sym, ◌∙◌, append-nil}
 use Rattle.std.proofs.lemmas.Result.{err_from_is_err_and}
-use Rattle.sql_tokens.proofs.OptionLemmas.{same_err}
+use Rattle.text_bytes.proofs.FoundLemmas.{same_err}
 use Rattle.sql_tokens.proofs.PieceLemmas.{told_more, too_many}
 use Rattle.sql_tokens.proofs.pieces.split.Goals as goal
 

@@ -1,7 +1,7 @@
 use Rattle.std.proofs.Common.{◌≡◌, ◌+◌, length, false}
 use Rattle.sql_tokens.specs.Reader as reader
 use Rattle.sql_tokens.proofs.quoted.quoted_bytes.Given as goal
-use Rattle.sql_tokens.proofs.QuotedLemmas.{resumed}
+use Rattle.text_bytes.proofs.FoundLemmas.{resumed}
 
 abbrev pub invariant-bytes : goal.invariant-bytes
 invariant-bytes l = record {

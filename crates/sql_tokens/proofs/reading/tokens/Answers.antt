@@ -1,4 +1,4 @@
-use Rattle.sql_tokens.proofs.OptionLemmas.{same_err}
+use Rattle.text_bytes.proofs.FoundLemmas.{same_err}
 use Rattle.sql_tokens.proofs.TokensRead.{tokens_sound, no_tokens}
 use Rattle.sql_tokens.proofs.reading.tokens.Goals as goal
 

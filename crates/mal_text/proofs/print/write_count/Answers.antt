@@ -1,7 +1,0 @@
-use Rattle.std.proofs.Common.{append_assoc}
-use Rattle.mal_text.proofs.print.write_count.Goals as goal
-
-pub returns : goal.returns
-returns c =
-    let last = rw (c.in_ok-write_number.ensures, c.in_ok-write_bytes.ensures) at c.write_bytes-2.ensures in
-    simp append_assoc (simp append_assoc at last)

@@ -1,0 +1,13 @@
+-- What is said of texts without tokens, and of texts with two lists of them.
+use Rattle.std.specs.Prelude.{◌≡◌, ℕ, List}
+use Rattle.mal_tokens.specs.Tokens.{AreTokens}
+use Rattle.mal_tokens.specs.declared.token.Token.{Token}
+
+-- the text can't be cut into tokens: a character begins none, or a text in quotes isn't closed or holds a
+-- byte that none holds
+abbrev pub HasNoTokens : List ℕ → Type 0
+HasNoTokens text = (tokens : List Token) → AreTokens text tokens → ⊥
+
+-- a text has one list of tokens at most
+abbrev pub OneList : Type 0
+OneList = (text : List ℕ) (a b : List Token) → AreTokens text a → AreTokens text b → a ≡ b

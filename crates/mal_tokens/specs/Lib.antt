@@ -1,0 +1,4 @@
+pub mod Tokens
+pub mod Bytes
+pub mod Operators
+pub mod Laws

@@ -1,0 +1,5 @@
+pub mod ByteLemmas
+pub mod FoundLemmas
+pub mod TextLemmas
+pub mod NumberLemmas
+pub mod DayLemmas
