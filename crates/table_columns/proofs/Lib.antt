@@ -1,2 +1,5 @@
 pub mod RowLemmas
 pub mod StampLemmas
+pub mod ColumnLemmas
+pub mod GrownLemmas
+pub mod ChangedLemmas

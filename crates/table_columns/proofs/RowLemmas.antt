@@ -7,7 +7,7 @@ use Rattle.cell_core.specs.declared.cell.Cell.TheVariants.{Nil}
 use Rattle.cell_core.specs.Pairs.{Pairs, tails_of, numbered}
 use Rattle.cell_core.specs.Relations.{column_cells}
 use Rattle.bat_core.proofs.PairLemmas.{length-tails}
-use Rattle.table_columns.specs.Rows.{AreColumns, AreWide, IsColumn, before_rows, rows_beside}
+use Rattle.table_columns.specs.Rows.{AreWide, IsColumn, before_rows, rows_beside}
 
 -- ## From columns to rows
 

@@ -1,5 +1,5 @@
 -- Versions of which one more is set.
-use Rattle.std.proofs.Common.{◌≡◌, ℕ, zero, suc, ◌<◌, List, [], ◌∷◌, length, take, Bool, true, false, cond, refl, ap, ◌∙◌, arith, slice_set}
+use Rattle.std.proofs.Common.{◌≡◌, ℕ, zero, suc, ◌<◌, List, [], ◌∷◌, length, take, true, false, cond, ap, ◌∙◌, arith, slice_set}
 use Rattle.std.specs.Prelude.{bytes_eq, slice_index_or}
 use Rattle.std.specs.List.{list_any}
 use Rattle.cell_core.specs.declared.table.Column.{Column}

@@ -1,13 +1,20 @@
 //! The rows of a table.
-ghost use Rattle.std.specs.Prelude.{◌≡◌, ◌<◌, [], length, replicate, IfOk};
+ghost use Rattle.std.specs.Prelude.{◌≡◌, ◌<◌, ◌+◌, ◌++◌, List, [], ◌∷◌, length, map, replicate, IfOk};
+ghost use Rattle.cell_core.specs.declared.cell.Cell.{Cell as CellSeen};
 ghost use Rattle.cell_core.specs.Pairs.{numbered};
 ghost use Rattle.cell_core.specs.Relations.{column_cells};
 ghost use Rattle.table_columns.specs.Rows.{AreWide, stamped};
+ghost use Rattle.table_columns.specs.Changed.{set_rows, unflagged};
 
-use crate::parts::{copy_versions, empty_columns, share_at, share_columns, zeros};
+use crate::grow::followed_columns;
+use crate::parts::{
+    columns_and, copy_versions, empty_columns, share_at, share_columns, versions_and_zero, zeros,
+};
+use crate::set::changed_columns;
+use crate::shrink::{count_left, left_columns};
 use crate::stamp::stamp_versions;
-use bat_core::Shared;
-use cell_core::{Column, Memory, Word};
+use bat_core::{Cells, Shared};
+use cell_core::{Cell, Column, Memory, Sequence, Word};
 use std::alloc::Global;
 use std::marker::Model;
 
@@ -74,6 +81,65 @@ impl Kept {
     {
         Ok(Kept {
             columns: share_columns(alloc, &self.columns)?,
+            versions: copy_versions(alloc, &self.versions)?,
+            count: self.count,
+        })
+    }
+
+    /// The same rows, in columns that both share, and at the end of each row one more cell. Its column has
+    /// the version 0.
+    pub fn with_column(&self, alloc: Global, cell: &Cell) -> Result<Kept, Memory>
+        ensures { IfOk result (λ kept. kept ≡ record { width = self.now.width + 1; rows = map (λ (row : List CellSeen). row ++ cell.now ∷ []) self.now.rows; versions = self.now.versions ++ 0 ∷ [] }) }
+    {
+        Ok(Kept {
+            columns: columns_and(alloc, &self.columns, cell, self.count)?,
+            versions: versions_and_zero(alloc, &self.versions)?,
+            count: self.count,
+        })
+    }
+
+    /// The same rows, and more behind them. The full chunks of the columns are shared.
+    pub fn followed_by(&self, alloc: Global, rows: &[Sequence<Cell>]) -> Result<Kept, Memory>
+        requires { AreWide self.now.width rows.now }
+        ensures { IfOk result (λ kept. kept ≡ record self.now { rows = self.now.rows ++ rows.now }) }
+    {
+        let Some(count) = self.count.checked_add(rows.len() as u64) else {
+            return Err(Memory);
+        };
+        Ok(Kept {
+            columns: followed_columns(alloc, &self.columns, rows)?,
+            versions: copy_versions(alloc, &self.versions)?,
+            count,
+        })
+    }
+
+    /// The rows beside which there is no flag.
+    pub fn without(&self, alloc: Global, gone: &[bool]) -> Result<Kept, Memory>
+        requires { length gone.now ≡ length self.now.rows }
+        ensures { IfOk result (λ kept. kept ≡ record self.now { rows = unflagged gone.now self.now.rows }) }
+    {
+        Ok(Kept {
+            columns: left_columns(alloc, &self.columns, gone)?,
+            versions: copy_versions(alloc, &self.versions)?,
+            count: count_left(gone) as u64,
+        })
+    }
+
+    /// The same rows, but those with a flag have other cells in the columns that are set: the first with a
+    /// flag has the first cell of each set, and so on. Columns that aren't set are shared.
+    pub fn with_cells(
+        &self,
+        alloc: Global,
+        columns: &[Column],
+        hits: &[bool],
+        sets: &[(Word, Cells)],
+    ) -> Result<Kept, Memory>
+        requires columns { length columns.now ≡ self.now.width }
+        requires hits { length hits.now ≡ length self.now.rows }
+        ensures { IfOk result (λ kept. kept ≡ record self.now { rows = set_rows sets.now columns.now 0 hits.now self.now.rows }) }
+    {
+        Ok(Kept {
+            columns: changed_columns(alloc, &self.columns, columns, hits, sets)?,
             versions: copy_versions(alloc, &self.versions)?,
             count: self.count,
         })

@@ -6,8 +6,11 @@
 //! columns, and as the cells that are new.
 #![tactic(auto)]
 
+mod grow;
 mod kept;
 mod parts;
+mod set;
+mod shrink;
 mod stamp;
 
 pub use kept::Kept;

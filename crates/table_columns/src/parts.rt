@@ -1,8 +1,9 @@
 //! Columns and versions of a table.
-ghost use Rattle.std.specs.Prelude.{◌≡◌, ◌<◌, [], length, replicate, slice_index_or, IfOk};
+ghost use Rattle.std.specs.Prelude.{◌≡◌, ◌<◌, [], ◌∷◌, ◌++◌, length, replicate, slice_index_or, IfOk};
+ghost use Rattle.cell_core.specs.Pairs.{numbered};
 
-use bat_core::{Bat, Shared};
-use cell_core::Memory;
+use bat_core::{Bat, Cells, Shared};
+use cell_core::{Cell, Memory};
 use std::alloc::Global;
 
 /// That many columns without cells.
@@ -53,4 +54,36 @@ pub(crate) fn copy_versions(alloc: Global, versions: &[u64]) -> Result<Vec<u64>,
     let mut copy = Vec::with_capacity(alloc, versions.len())?;
     copy.extend_from_slice(versions)?;
     Ok(copy)
+}
+
+/// A column of these cells, each beside its number.
+pub(crate) fn numbered_column(alloc: Global, cells: Cells) -> Result<Shared, Memory>
+    ensures { IfOk result (λ column. column ≡ numbered cells) }
+{
+    let heads = Cells::oids(alloc, 0, cells.len())?;
+    Shared::new(alloc, Bat::from_columns(heads, cells))
+}
+
+/// The same columns, which both share, and behind them one that has the same cell in each row.
+pub(crate) fn columns_and(
+    alloc: Global,
+    columns: &[Shared],
+    cell: &Cell,
+    count: u64,
+) -> Result<Vec<Shared>, Memory>
+    ensures { IfOk result (λ out. out.items ≡ columns.now ++ numbered (replicate count cell.now) ∷ []) }
+{
+    let mut out = share_columns(alloc, columns)?;
+    let cells = Cells::repeated(alloc, cell, count)?;
+    out.push(numbered_column(alloc, cells)?)?;
+    Ok(out)
+}
+
+/// The same versions, and behind them 0.
+pub(crate) fn versions_and_zero(alloc: Global, versions: &[u64]) -> Result<Vec<u64>, Memory>
+    ensures { IfOk result (λ out. out.items ≡ versions.now ++ 0 ∷ []) }
+{
+    let mut out = copy_versions(alloc, versions)?;
+    out.push(0)?;
+    Ok(out)
 }
