@@ -1,6 +1,6 @@
 -- Versions of columns, once a table is replaced, stamped, added or gone.
-use Rattle.std.proofs.Common.{◌≡◌, ℕ, zero, suc, ◌+◌, ◌<◌, List, [], ◌∷◌, ◌++◌, length, map, Bool, true, false, not, ◌&&◌, ◌||◌, cond, Option, Some, None, refl, ap, sym, subst, ◌∙◌, arith, slice_set}
-use Rattle.std.specs.Prelude.{bytes_eq, slice_index_or}
+use Rattle.std.proofs.Common.{◌≡◌, ℕ, zero, suc, List, [], ◌∷◌, length, map, Bool, true, false, ◌||◌, cond, Option, Some, None, refl, ap, sym, ◌∙◌, arith}
+use Rattle.std.specs.Prelude.{bytes_eq}
 use Rattle.std.specs.List.{list_any}
 use Rattle.std.specs.Option.{option_map, option_map_or}
 use Rattle.cell_core.specs.declared.table.Column.{Column}
@@ -10,7 +10,7 @@ use Rattle.std.proofs.lemmas.Slice.Eq.{bytes_eq-Decides}
 use Rattle.table_store.specs.declared.heading.Heading.{Heading}
 use Rattle.table_columns.specs.Rows.{KeptTable, stamped}
 use Rattle.table_store.specs.Content.{column_version, version_in}
-use Rattle.table_store.specs.Kept.{AreKept, IsKept, heading_place, stamped_at, stamped_table, table_from, tables_from}
+use Rattle.table_store.specs.Kept.{AreKept, heading_place, stamped_at, table_from, tables_from}
 
 abbrev pub versions_from : List KeptTable → List (List ℕ)
 versions_from kept = map (λ (k : KeptTable). k.versions) kept

@@ -1,10 +1,12 @@
 -- Tables that are kept as columns; private contracts alone speak of them.
 use Rattle.std.specs.Prelude.{◌≡◌, ℕ, suc, List, [], ◌∷◌, length, map, if◌then◌else◌, bytes_eq, slice_index_or, slice_set, Option, Some, None}
 use Rattle.std.specs.Option.{option_map}
+use Rattle.cell_core.specs.declared.cell.Cell.{Cell}
 use Rattle.cell_core.specs.declared.table.Column.{Column}
 use Rattle.cell_core.specs.declared.table.Table.{Table}
 use Rattle.table_store.specs.declared.heading.Heading.{Heading}
 use Rattle.table_columns.specs.Rows.{KeptTable, stamped}
+use Rattle.cell_core.specs.declared.table.Db.{Db}
 use Rattle.table_store.specs.Content.{Content}
 
 abbrev pub table_from : Heading → KeptTable → Table
@@ -35,6 +37,26 @@ AreKept (heading ∷ headings) (first ∷ kept) = IsKept heading first × AreKep
 abbrev pub heading_place : List ℕ → List Heading → Option ℕ
 heading_place name [] = None
 heading_place name (heading ∷ headings) = if bytes_eq heading.name name then Some 0 else option_map suc (heading_place name headings)
+
+-- the place of the first table with this name among tables
+abbrev pub table_place : List ℕ → List Table → Option ℕ
+table_place name [] = None
+table_place name (table ∷ tables) = if bytes_eq table.name name then Some 0 else option_map suc (table_place name tables)
+
+-- the table at a place, and what is kept of it
+abbrev pub table_at : ℕ → Db → Table
+table_at place db = slice_index_or db.tables place (record { name = []; columns = []; rows = [] })
+
+abbrev pub heading_at : ℕ → Db → Heading
+heading_at place db = record { name = (table_at place db).name; columns = (table_at place db).columns }
+
+abbrev pub kept_at : ℕ → Content → KeptTable
+kept_at place content =
+    record { width = length (table_at place content.db).columns; rows = (table_at place content.db).rows; versions = slice_index_or content.versions place [] }
+
+-- the tables, of which that at a place has other rows
+abbrev pub rows_at : ℕ → List (List Cell) → List Table → List Table
+rows_at place rows tables = slice_set tables place (record (slice_index_or tables place (record { name = []; columns = []; rows = [] })) { rows = rows })
 
 -- ## Versions after a write
 

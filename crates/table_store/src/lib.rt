@@ -6,6 +6,7 @@
 #![tactic(auto)]
 
 mod change;
+mod changed;
 mod heading;
 mod store;
 mod tables;

@@ -1,17 +1,21 @@
 //! The tables of a run, and snapshots of them.
-ghost use Rattle.std.specs.Prelude.{◌≡◌, ℕ, List, [], true, false, None, IfOk};
+ghost use Rattle.std.specs.Prelude.{◌≡◌, ℕ, List, [], ◌∷◌, ◌++◌, length, map, true, false, None, Some, IfOk, IfSome};
+ghost use Rattle.cell_core.specs.declared.table.Table.{Table};
 ghost use Rattle.cell_core.specs.Relations.{bound};
+ghost use Rattle.cell_core.specs.Tables.{named_table};
+ghost use Rattle.table_columns.specs.Rows.{AreWide};
+ghost use Rattle.table_columns.specs.Changed.{NewCells, set_rows, unflagged};
 ghost use Rattle.table_store.specs.Content.{has_column, version_of};
 ghost use Rattle.table_store.specs.Headings.{headings_of};
-ghost use Rattle.table_store.specs.Changes.{IsPrepared, with_table, without_table};
-ghost use Rattle.table_store.specs.Touches.{all_columns, is_of, names_in, row_count};
+ghost use Rattle.table_store.specs.Changes.{IsPrepared, NamesDiffer, columns_of, rows_of, with_last_column, with_rows, with_table, without_table};
+ghost use Rattle.table_store.specs.Touches.{all_columns, is_of, names_in, row_count, whole_columns};
 
 use crate::change::Change;
 use crate::heading::Heading;
 use crate::tables::{Tables, touch_one};
-use crate::touched::Touched;
-use bat_core::{Columns, Shared};
-use cell_core::{Memory, Word};
+use crate::touched::{Touched, one_name, set_names, touch};
+use bat_core::{Cells, Columns, Shared};
+use cell_core::{Cell, Column, Memory, Sequence, Word};
 use std::alloc::Global;
 use std::marker::Model;
 
@@ -69,6 +73,13 @@ impl Store {
         self.tables.version(table, column)
     }
 
+    /// How many rows a table has, 0 where it isn't there.
+    pub fn row_count(&self, table: &Word) -> u64
+        ensures { result ≡ row_count table.now self.now.db }
+    {
+        self.tables.row_count(table)
+    }
+
     /// The present content, for good.
     pub fn snapshot(&self, alloc: Global) -> Result<Snap, Memory>
         ensures { IfOk result (λ snap. snap ≡ self.now) }
@@ -104,6 +115,73 @@ impl Store {
     {
         let touched = self.tables.touch_whole(alloc, name)?;
         let tables = self.tables.without(alloc, name)?;
+        Ok(Change { tables, touched })
+    }
+
+    /// Prepares that a table has one more column at its end, with its default in each row. Nothing changes
+    /// yet.
+    pub fn add_column(&self, alloc: Global, table: &Word, column: Column) -> Result<Change, Memory>
+        requires { NamesDiffer self.now.db }
+        ensures prepared { IfOk result (λ change. IsPrepared change self.now) }
+        ensures db { IfOk result (λ change. change.content.db ≡ with_last_column table.now column self.now.db) }
+        ensures touched { IfOk result (λ change. change.touched ≡ record { table = table.now; columns = column.name ∷ []; old_rows = row_count table.now self.now.db; added = None }) }
+    {
+        let names = one_name(alloc, &column.name)?;
+        let touched = touch(table, names, self.tables.row_count(table))?;
+        let tables = self.tables.with_column(alloc, table, column)?;
+        Ok(Change { tables, touched })
+    }
+
+    /// Prepares that a table has more rows behind the others. Nothing changes yet.
+    pub fn append_rows(
+        &self,
+        alloc: Global,
+        table: &Word,
+        rows: &[Sequence<Cell>],
+    ) -> Result<Change, Memory>
+        requires differ { NamesDiffer self.now.db }
+        requires wide { IfSome (named_table table.now self.now.db) (λ (t : Table). AreWide (length t.columns) rows.now) }
+        ensures prepared { IfOk result (λ change. IsPrepared change self.now) }
+        ensures db { IfOk result (λ change. change.content.db ≡ with_rows table.now (rows_of table.now self.now.db ++ rows.now) self.now.db) }
+        ensures touched { IfOk result (λ change. change.touched ≡ record { table = table.now; columns = all_columns table.now self.now.db; old_rows = row_count table.now self.now.db; added = Some (whole_columns table.now change.content.db) }) }
+    {
+        let mut touched = self.tables.touch_whole(alloc, table)?;
+        let tables = self.tables.with_more_rows(alloc, table, rows)?;
+        touched.added = Some(tables.whole_columns(alloc, table)?);
+        Ok(Change { tables, touched })
+    }
+
+    /// Prepares that a table lacks the rows that have a flag. Nothing changes yet.
+    pub fn keep_rows(&self, alloc: Global, table: &Word, gone: &[bool]) -> Result<Change, Memory>
+        requires differ { NamesDiffer self.now.db }
+        requires flags { length gone.now ≡ row_count table.now self.now.db }
+        ensures prepared { IfOk result (λ change. IsPrepared change self.now) }
+        ensures db { IfOk result (λ change. change.content.db ≡ with_rows table.now (unflagged gone.now (rows_of table.now self.now.db)) self.now.db) }
+        ensures touched { IfOk result (λ change. change.touched ≡ record { table = table.now; columns = all_columns table.now self.now.db; old_rows = row_count table.now self.now.db; added = None }) }
+    {
+        let touched = self.tables.touch_whole(alloc, table)?;
+        let tables = self.tables.without_rows(alloc, table, gone)?;
+        Ok(Change { tables, touched })
+    }
+
+    /// Prepares that some columns of a table have other cells in the rows that have a flag: the first row
+    /// with a flag gets the first cell of each set, and so on. Nothing changes yet.
+    pub fn set_cells(
+        &self,
+        alloc: Global,
+        table: &Word,
+        hits: &[bool],
+        sets: &[(Word, Cells)],
+    ) -> Result<Change, Memory>
+        requires differ { NamesDiffer self.now.db }
+        requires flags { length hits.now ≡ row_count table.now self.now.db }
+        ensures prepared { IfOk result (λ change. IsPrepared change self.now) }
+        ensures db { IfOk result (λ change. change.content.db ≡ with_rows table.now (set_rows sets.now (columns_of table.now self.now.db) 0 hits.now (rows_of table.now self.now.db)) self.now.db) }
+        ensures touched { IfOk result (λ change. change.touched ≡ record { table = table.now; columns = map (λ (set : NewCells). set.0) sets.now; old_rows = row_count table.now self.now.db; added = None }) }
+    {
+        let names = set_names(alloc, sets)?;
+        let touched = touch(table, names, self.tables.row_count(table))?;
+        let tables = self.tables.with_cells(alloc, table, hits, sets)?;
         Ok(Change { tables, touched })
     }
 

@@ -1,5 +1,5 @@
 //! Tables kept as columns.
-ghost use Rattle.std.specs.Prelude.{◌≡◌, ℕ, ◌<◌, List, [], ◌&&◌, length, map, true, false, bytes_eq, None, IfOk, IfSome};
+ghost use Rattle.std.specs.Prelude.{◌≡◌, ℕ, ◌<◌, List, [], ◌∷◌, ◌++◌, ◌&&◌, length, map, true, false, bytes_eq, slice_index_or, slice_set, None, IfOk, IfSome};
 ghost use Rattle.std.specs.List.{list_any};
 ghost use Rattle.std.specs.Option.{option_map, option_and_then};
 ghost use Rattle.cell_core.specs.declared.table.Table.{Table as TableSeen};
@@ -10,7 +10,7 @@ ghost use Rattle.table_columns.specs.Rows.{KeptTable};
 ghost use Rattle.table_store.specs.Content.{column_version, has_column, version_in, version_of};
 ghost use Rattle.table_store.specs.Changes.{with_table, without_table};
 ghost use Rattle.table_store.specs.Headings.{headings_of};
-ghost use Rattle.table_store.specs.Kept.{AreKept, IsKept, headings_without, heading_place, kept_without, stamped_at, table_from, tables_from};
+ghost use Rattle.table_store.specs.Kept.{AreKept, IsKept, headings_without, heading_at, heading_place, kept_at, kept_without, stamped_at, table_from, table_place, tables_from};
 ghost use Rattle.table_store.specs.Touches.{all_columns, is_of, names_in, row_count};
 
 use crate::heading::Heading;
@@ -112,6 +112,51 @@ impl Tables {
         touch_among(alloc, &self.headings, &self.kept, name)
     }
 
+    /// The place of the first table with this name.
+    pub fn place(&self, name: &Word) -> Option<usize>
+        ensures place { result ≡ table_place name.now self.now.db.tables }
+        ensures within { IfSome result (λ place. place < length self.now.db.tables) }
+    {
+        find_place(&self.headings, name)
+    }
+
+    /// The table at a place, without its rows.
+    pub fn heading(&self, place: usize) -> &Heading
+        requires { place < length self.now.db.tables }
+        ensures { result.now ≡ heading_at place self.now.db }
+    {
+        heading_in(&self.headings, place)
+    }
+
+    /// What is kept of the table at a place.
+    pub fn kept(&self, place: usize) -> &Kept
+        requires { place < length self.now.db.tables }
+        ensures kept { result.now ≡ kept_at place self.now }
+        ensures beside { length result.now.versions ≡ result.now.width }
+    {
+        kept_in(&self.kept, place)
+    }
+
+    /// These tables, whose columns both share, with another in place of that at a place.
+    pub fn replaced(
+        &self,
+        alloc: Global,
+        place: usize,
+        heading: Heading,
+        table: Kept,
+    ) -> Result<Tables, Memory>
+        requires within { place < length self.now.db.tables }
+        requires kept { IsKept heading table }
+        ensures tables { IfOk result (λ tables. tables.db.tables ≡ slice_set self.now.db.tables place (table_from heading table)) }
+        ensures versions { IfOk result (λ tables. tables.versions ≡ slice_set self.now.versions place table.versions) }
+    {
+        let mut headings = copy_headings(alloc, &self.headings)?;
+        let mut kept = share_all(alloc, &self.kept)?;
+        headings[place] = heading;
+        kept[place] = table;
+        Ok(Tables { headings, kept })
+    }
+
     /// Gives the touched columns a version.
     pub fn stamp(&mut self, touched: &Touched, version: u64)
         ensures db { self.new.db ≡ self.old.db }
@@ -129,6 +174,22 @@ impl Tables {
             version,
         );
     }
+}
+
+/// The table at a place, without its rows.
+fn heading_in(headings: &[Heading], place: usize) -> &Heading
+    requires { place < length headings.now }
+    ensures { result.now ≡ slice_index_or headings.now place result.now }
+{
+    &headings[place]
+}
+
+/// What is kept of the table at a place.
+fn kept_in(kept: &[Kept], place: usize) -> &Kept
+    requires { place < length kept.now }
+    ensures { result.now ≡ slice_index_or kept.now place result.now }
+{
+    &kept[place]
 }
 
 /// Gives columns of the table at a place a version.
@@ -278,13 +339,27 @@ fn copy_headings(alloc: Global, headings: &[Heading]) -> Result<Vec<Heading>, Me
 }
 
 /// The same table without its rows.
-fn copy_heading(alloc: Global, heading: &Heading) -> Result<Heading, Memory>
+pub(crate) fn copy_heading(alloc: Global, heading: &Heading) -> Result<Heading, Memory>
     ensures { IfOk result (λ copy. copy ≡ heading.now) }
 {
     Ok(Heading {
         name: heading.name.share()?,
         columns: copy_columns(alloc, heading.columns.as_slice())?,
     })
+}
+
+/// A table without its rows, with one more column at its end.
+pub(crate) fn heading_and(
+    alloc: Global,
+    heading: &Heading,
+    column: Column,
+) -> Result<Heading, Memory>
+    ensures { IfOk result (λ longer. longer ≡ record heading.now { columns = heading.now.columns ++ column ∷ [] }) }
+{
+    let name = heading.name.share()?;
+    let mut columns = copy_columns(alloc, heading.columns.as_slice())?;
+    columns.push(column)?;
+    Ok(Heading { name, columns })
 }
 
 /// The same columns of each table, which both share.
