@@ -30,19 +30,21 @@ created_is name columns db after e f =
 
 -- ## ALTER
 
-alter_first : (column : Column) (table : Table) → alter_refusal column table ≡ slice_get (column_refused column table) 0
-alter_first column table =
-    first_is (is_long_default column) (is_null_refused column column.default && not (length table.rows == 0)) (nat_lt column_limit (length table.columns + 1)) TextTooLong NullStored (Limit (codes "columns"))
+-- why the column isn't added to a table with so many columns and rows
+pub alter_first : (column : Column) (columns rows : ℕ) (table : Table) → length table.columns ≡ columns → length table.rows ≡ rows → alter_refusal column columns rows ≡ slice_get (column_refused column table) 0
+alter_first column columns rows table e f =
+    ap (λ n. alter_refusal column n rows) (sym e) ∙ ap (alter_refusal column (length table.columns)) (sym f)
+    ∙ first_is (is_long_default column) (is_null_refused column column.default && not (length table.rows == 0)) (nat_lt column_limit (length table.columns + 1)) TextTooLong NullStored (Limit (codes "columns"))
 
 pub altered_not : (name : List ℕ) (column : Column) (table : Table) (found : Option Table) (db : Db) (refusal : Refusal)
-    → Some table ≡ found → Some refusal ≡ alter_refusal column table → (db, reply.Refused refusal) ≡ altered name column found db
+    → Some table ≡ found → Some refusal ≡ slice_get (column_refused column table) 0 → (db, reply.Refused refusal) ≡ altered name column found db
 altered_not name column table found db refusal is e =
-    sym (ap (λ (r : Result Db Refusal). done_by r db) (refused_as (column_refused column table) (record { tables = map (with_column name column) db.tables }) refusal (e ∙ alter_first column table)))
+    sym (ap (λ (r : Result Db Refusal). done_by r db) (refused_as (column_refused column table) (record { tables = map (with_column name column) db.tables }) refusal e))
     ∙ ap (λ (f : Option Table). altered name column f db) is
 
 pub altered_is : (name : List ℕ) (column : Column) (table : Table) (found : Option Table) (db after : Db)
-    → Some table ≡ found → None ≡ alter_refusal column table → after.tables ≡ map (with_column name column) db.tables → (after, reply.Done) ≡ altered name column found db
+    → Some table ≡ found → None ≡ slice_get (column_refused column table) 0 → after.tables ≡ map (with_column name column) db.tables → (after, reply.Done) ≡ altered name column found db
 altered_is name column table found db after is none f =
     ap (λ (l : List Table). let left : Db = record { tables = l } in (left, reply.Done)) f
-    ∙ sym (ap (λ (r : Result Db Refusal). done_by r db) (accepted_as (column_refused column table) (record { tables = map (with_column name column) db.tables }) (none ∙ alter_first column table)))
+    ∙ sym (ap (λ (r : Result Db Refusal). done_by r db) (accepted_as (column_refused column table) (record { tables = map (with_column name column) db.tables }) none))
     ∙ ap (λ (o : Option Table). altered name column o db) is

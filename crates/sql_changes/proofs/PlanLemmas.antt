@@ -1,6 +1,6 @@
 -- Plans are what INSERT, DELETE and UPDATE mean.
 use Rattle.std.proofs.Common.{◌≡◌, ℕ, ◌+◌, List, [], ◌∷◌, ◌++◌, map, filter, length, Bool, true, false, not, ◌&&◌, ◌||◌, cond, refl, ap, sym, ◌∙◌, Option, Some, None}
-use Rattle.std.specs.Prelude.{codes, nat_lt, slice_get, Ok}
+use Rattle.std.specs.Prelude.{codes, nat_lt, slice_get, Ok, Err}
 use Rattle.std.specs.List.{list_any}
 use Rattle.std.proofs.lemmas.List.{length-map}
 use Rattle.cell_core.specs.declared.cell.Cell.{Cell}
@@ -14,8 +14,9 @@ use Rattle.sql_semantics.specs.Kept.{cond_overflows}
 use Rattle.sql_semantics.specs.Effect.{Change, unless_refused, is_hit, deleted, updated, updated_row, inserted, placed, is_too_long_row, is_null_row, is_too_long_set, is_null_set, overflows_in, is_any_set, row_limit}
 use Rattle.sql_changes.specs.declared.fate.Fate.{Fate}
 use Rattle.sql_changes.specs.declared.fate.Fate.TheVariants.{Stays, Goes, Becomes}
-use Rattle.sql_changes.specs.declared.plan.Work.TheVariants.{Adds, Settles}
+use Rattle.sql_changes.specs.declared.plan.Work.TheVariants.{Settles}
 use Rattle.sql_changes.specs.declared.plan.PlannedChange.TheVariants.{Refused, Accepted}
+use Rattle.sql_changes.specs.Added.{added_to}
 use Rattle.sql_changes.specs.Plans.{change_of}
 use Rattle.sql_changes.specs.Faults.{in_turn}
 use Rattle.sql_changes.specs.Parts.{is_true_of, deleted_fate, updated_fate, constants_overflow, update_refusal, insert_refusal}
@@ -113,32 +114,36 @@ updated_is sets c table rows fates is none e =
 
 -- ## INSERT
 
-abbrev insert_list : List Column → List (List Cell) → List (List Cell) → Table → List Refusal
-insert_list found rows more table =
-    in_turn (list_any (is_too_long_row found) rows) TextTooLong (list_any (is_null_row table.columns) more) NullStored (nat_lt row_limit (length table.rows + length rows)) (Limit (codes "rows"))
+abbrev insert_list : List Column → List (List Cell) → List (List Cell) → List Column → ℕ → List Refusal
+insert_list found rows more columns count =
+    in_turn (list_any (is_too_long_row found) rows) TextTooLong (list_any (is_null_row columns) more) NullStored (nat_lt row_limit (count + length rows)) (Limit (codes "rows"))
 
-insert_first : (listed : List (List ℕ)) (rows more : List (List Cell)) (table : Table) (found : List Column)
-    → found ≡ targets table.columns listed → more ≡ map (placed table.columns listed) rows
-    → insert_refusal found rows more table ≡ slice_get (insert_list (targets table.columns listed) rows (map (placed table.columns listed) rows) table) 0
-insert_first listed rows more table found is m =
-    first_is (list_any (is_too_long_row found) rows) (list_any (is_null_row table.columns) more) (nat_lt row_limit (length table.rows + length rows)) TextTooLong NullStored (Limit (codes "rows"))
-    ∙ ap (λ (l : List Column). slice_get (insert_list l rows more table) 0) is
-    ∙ ap (λ (l : List (List Cell)). slice_get (insert_list (targets table.columns listed) rows l table) 0) m
+module _ (listed : List (List ℕ)) (rows : List (List Cell)) (columns : List Column) (count : ℕ) where
+  abbrev placed_here : List (List Cell)
+  placed_here = map (placed columns listed) rows
 
-abbrev Inserted : List (List ℕ) → List (List Cell) → Table → List (List Cell) × ℕ
-Inserted listed rows table = (table.rows ++ map (placed table.columns listed) rows, length rows)
+  abbrev refusals_here : List Refusal
+  refusals_here = insert_list (targets columns listed) rows placed_here columns count
 
-pub inserted_not : (listed : List (List ℕ)) (rows more : List (List Cell)) (table : Table) (found : List Column) (refusal : Refusal)
-    → found ≡ targets table.columns listed → more ≡ map (placed table.columns listed) rows → Some refusal ≡ insert_refusal found rows more table
-    → change_of (Refused refusal) table.rows ≡ inserted listed rows table
-inserted_not listed rows more table found refusal is m e =
-    sym (refused_as (insert_list (targets table.columns listed) rows (map (placed table.columns listed) rows) table)
-    (Inserted listed rows table) refusal (e ∙ insert_first listed rows more table found is m))
+  -- what an INSERT leaves of a table with these columns and so many rows
+  inserted_here : (table : Table) → table.columns ≡ columns → length table.rows ≡ count → inserted listed rows table ≡ unless_refused refusals_here (table.rows ++ placed_here, length rows)
+  inserted_here table e f =
+      ap (λ (cs : List Column). unless_refused (insert_list (targets cs listed) rows (map (placed cs listed) rows) cs (length table.rows)) (table.rows ++ map (placed cs listed) rows, length rows)) e
+      ∙ ap (λ n. unless_refused (insert_list (targets columns listed) rows placed_here columns n) (table.rows ++ placed_here, length rows)) f
 
-pub inserted_is : (listed : List (List ℕ)) (rows more : List (List Cell)) (table : Table) (found : List Column)
-    → found ≡ targets table.columns listed → more ≡ map (placed table.columns listed) rows → None ≡ insert_refusal found rows more table
-    → change_of (Accepted (Adds more)) table.rows ≡ inserted listed rows table
-inserted_is listed rows more table found is m none =
-    both_same _ _ _ _ (ap (λ l. table.rows ++ l) m) (ap (λ (l : List (List Cell)). length l) m ∙ length-map rows (placed table.columns listed))
-    ∙ sym (accepted_as (insert_list (targets table.columns listed) rows (map (placed table.columns listed) rows) table)
-    (Inserted listed rows table) (none ∙ insert_first listed rows more table found is m))
+  insert_first : (found : List Column) (more : List (List Cell)) → found ≡ targets columns listed → more ≡ placed_here → insert_refusal found rows more columns count ≡ slice_get refusals_here 0
+  insert_first found more is m =
+      first_is (list_any (is_too_long_row found) rows) (list_any (is_null_row columns) more) (nat_lt row_limit (count + length rows)) TextTooLong NullStored (Limit (codes "rows"))
+      ∙ ap (λ (l : List Column). slice_get (insert_list l rows more columns count) 0) is
+      ∙ ap (λ (l : List (List Cell)). slice_get (insert_list (targets columns listed) rows l columns count) 0) m
+
+  pub inserted_not : (found : List Column) (more : List (List Cell)) (refusal : Refusal) → found ≡ targets columns listed → more ≡ placed_here → Some refusal ≡ insert_refusal found rows more columns count
+      → (table : Table) → table.columns ≡ columns → length table.rows ≡ count → added_to table (Err refusal) ≡ inserted listed rows table
+  inserted_not found more refusal is m e table f g =
+      sym (inserted_here table f g ∙ refused_as refusals_here (table.rows ++ placed_here, length rows) refusal (e ∙ insert_first found more is m))
+
+  pub inserted_is : (found : List Column) (more : List (List Cell)) → found ≡ targets columns listed → more ≡ placed_here → None ≡ insert_refusal found rows more columns count
+      → (table : Table) → table.columns ≡ columns → length table.rows ≡ count → added_to table (Ok more) ≡ inserted listed rows table
+  inserted_is found more is m none table f g =
+      both_same _ _ _ _ (ap (λ l. table.rows ++ l) m) (ap (λ (l : List (List Cell)). length l) m ∙ length-map rows (placed columns listed))
+      ∙ sym (inserted_here table f g ∙ accepted_as refusals_here (table.rows ++ placed_here, length rows) (none ∙ insert_first found more is m))

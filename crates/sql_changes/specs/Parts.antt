@@ -43,16 +43,16 @@ update_refusal sets cond table rows =
     (is_any_set (is_null_set table) sets rows) NullStored
     (constants_overflow sets cond || is_any_set (overflows_in table) sets rows) Overflow
 
--- why an INSERT is refused whose values go to these columns, and make these rows of the table
-abbrev pub insert_refusal : List Column → List (List Cell) → List (List Cell) → Table → Option Refusal
-insert_refusal targets rows placed table =
+-- why an INSERT is refused whose values go to these columns, and make these rows of a table with other columns and so many rows
+abbrev pub insert_refusal : List Column → List (List Cell) → List (List Cell) → List Column → ℕ → Option Refusal
+insert_refusal targets rows placed columns count =
     first_of (list_any (is_too_long_row targets) rows) TextTooLong
-    (list_any (is_null_row table.columns) placed) NullStored
-    (nat_lt row_limit (length table.rows + length rows)) (Limit (codes "rows"))
+    (list_any (is_null_row columns) placed) NullStored
+    (nat_lt row_limit (count + length rows)) (Limit (codes "rows"))
 
--- why an ALTER is refused
-abbrev pub alter_refusal : Column → Table → Option Refusal
-alter_refusal column table =
+-- why an ALTER of a table with so many columns and rows is refused
+abbrev pub alter_refusal : Column → ℕ → ℕ → Option Refusal
+alter_refusal column columns rows =
     first_of (is_long_default column) TextTooLong
-    (is_null_refused column column.default && not (length table.rows == 0)) NullStored
-    (nat_lt column_limit (length table.columns + 1)) (Limit (codes "columns"))
+    (is_null_refused column column.default && not (rows == 0)) NullStored
+    (nat_lt column_limit (columns + 1)) (Limit (codes "columns"))

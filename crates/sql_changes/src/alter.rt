@@ -1,8 +1,8 @@
 //! ALTER.
-ghost use Rattle.std.specs.Prelude.{◌≡◌, ◌++◌, ◌<◌, [], ◌∷◌, List, length, map, slice_index_or, slice_set, IfOk, OnOk, OnErr};
+ghost use Rattle.std.specs.Prelude.{◌≡◌, ◌++◌, ◌<◌, [], ◌∷◌, List, length, map, slice_get, slice_index_or, slice_set, IfOk, OnOk, OnErr};
 ghost use Rattle.cell_core.specs.declared.cell.Cell.{Cell as CellSeen};
 ghost use Rattle.cell_core.specs.declared.table.Table.{Table as TableSeen};
-ghost use Rattle.sql_semantics.specs.Effect.{with_column};
+ghost use Rattle.sql_semantics.specs.Effect.{column_refused, with_column};
 ghost use Rattle.sql_changes.specs.Parts.{alter_refusal};
 ghost use Rattle.sql_changes.specs.Plans.{grown};
 
@@ -19,24 +19,37 @@ use std::mem;
 /// The most columns of a table.
 const COLUMN_LIMIT: usize = 64;
 
-/// Why a column isn't added to a table.
-pub(crate) fn refusal_for(
+/// Why a column isn't added to a table with so many columns and rows, exactly.
+fn refusal_for(
     alloc: Global,
     column: &Column,
-    table: &Table,
+    columns: usize,
+    rows: usize,
 ) -> Result<Option<Refusal>, Memory>
-    ensures { IfOk result (λ found. found ≡ alter_refusal column.now table.now) }
+    ensures { IfOk result (λ found. found ≡ alter_refusal column.now columns rows) }
 {
     if is_too_long(column, &column.default) {
         return Ok(Some(Refusal::TextTooLong));
     }
-    if is_null_refused(column, &column.default) && table.rows.len() != 0 {
+    if is_null_refused(column, &column.default) && rows != 0 {
         return Ok(Some(Refusal::NullStored));
     }
-    if table.columns.len() >= COLUMN_LIMIT {
+    if columns >= COLUMN_LIMIT {
         return Ok(Some(Refusal::Limit(word_of(alloc, "columns")?)));
     }
     Ok(None)
+}
+
+/// Why a column isn't added to a table with so many columns and rows.
+pub fn why_not_added(
+    alloc: Global,
+    column: &Column,
+    columns: usize,
+    rows: usize,
+) -> Result<Option<Refusal>, Memory>
+    ensures { IfOk result (λ found. (table : TableSeen) → length table.columns ≡ columns → length table.rows ≡ rows → found ≡ slice_get (column_refused column.now table) 0) }
+{
+    refusal_for(alloc, column, columns, rows)
 }
 
 /// A row with one more cell.

@@ -13,7 +13,7 @@ ghost use Rattle.sql_semantics.specs.Sources.{schema_of};
 ghost use Rattle.sql_semantics.specs.Check.{check_refusal};
 ghost use Rattle.sql_semantics.specs.Effect.{accepted, altered, changed, created, deleted, dropped, effect, inserted, updated};
 
-use crate::alter::{add_column, refusal_for};
+use crate::alter::{add_column, why_not_added};
 use crate::carry::carry_out;
 use crate::copy::copy_db;
 use crate::delete::delete_plan;
@@ -77,7 +77,7 @@ fn alter(alloc: Global, name: &Word, column: &Column, db: &mut Db) -> Result<Rep
     let Some(table) = db.table(name) else {
         return no_table(alloc, name);
     };
-    if let Some(refusal) = refusal_for(alloc, column, table)? {
+    if let Some(refusal) = why_not_added(alloc, column, table.columns.len(), table.rows.len())? {
         return Ok(Reply::Refused(refusal));
     }
     add_column(alloc, name, column, db)?;

@@ -2,7 +2,9 @@
 ghost use Rattle.std.specs.Prelude.{◌≡◌, ◌+◌, bytes_eq, length, map, nat_lt, slice_index_or, IfOk};
 ghost use Rattle.std.specs.List.{position_or_len};
 ghost use Rattle.cell_core.specs.declared.table.Column.{Column as ColumnSeen};
+ghost use Rattle.cell_core.specs.declared.table.Table.{Table as TableSeen};
 ghost use Rattle.sql_semantics.specs.Effect.{inserted, placed, row_limit};
+ghost use Rattle.sql_changes.specs.Added.{added_to};
 ghost use Rattle.sql_changes.specs.Plans.{change_of};
 ghost use Rattle.sql_changes.specs.Parts.{insert_refusal};
 
@@ -98,26 +100,54 @@ fn passes_limit(rows: usize, more: usize) -> bool
     more > ROW_LIMIT || rows > ROW_LIMIT - more
 }
 
-/// Why an INSERT is refused whose values go to these columns, and make these rows of the table.
+/// Why an INSERT is refused whose values go to these columns, and make these rows of a table with other
+/// columns and so many rows.
 fn refusal_for(
     alloc: Global,
     targets: &[Column],
     rows: &[Sequence<Cell>],
     placed: &[Sequence<Cell>],
-    table: &Table,
+    columns: &[Column],
+    count: usize,
 ) -> Result<Option<Refusal>, Memory>
-    ensures { IfOk result (λ found. found ≡ insert_refusal targets.now rows.now placed.now table.now) }
+    ensures { IfOk result (λ found. found ≡ insert_refusal targets.now rows.now placed.now columns.now count) }
 {
     if are_rows_too_long(targets, rows) {
         return Ok(Some(Refusal::TextTooLong));
     }
-    if has_null_row(table.columns.as_slice(), placed) {
+    if has_null_row(columns, placed) {
         return Ok(Some(Refusal::NullStored));
     }
-    if passes_limit(table.rows.len(), rows.len()) {
+    if passes_limit(count, rows.len()) {
         return Ok(Some(Refusal::Limit(word_of(alloc, "rows")?)));
     }
     Ok(None)
+}
+
+/// The rows that an INSERT adds to a table with these columns and so many rows, each with one cell for each
+/// column, or why it is refused.
+pub fn rows_to_add(
+    alloc: Global,
+    columns: &[Column],
+    listed: &[Word],
+    rows: &[Sequence<Cell>],
+    count: usize,
+) -> Result<Result<Sequence<Sequence<Cell>>, Refusal>, Memory>
+    ensures { IfOk result (λ added. (table : TableSeen) → table.columns ≡ columns.now → length table.rows ≡ count → added_to table added ≡ inserted listed.now rows.now table) }
+{
+    let targets = targets(alloc, columns, listed)?;
+    let placed = placed_rows(alloc, columns, listed, rows)?;
+    match refusal_for(
+        alloc,
+        targets.as_slice(),
+        rows,
+        placed.as_slice(),
+        columns,
+        count,
+    )? {
+        Some(refusal) => Ok(Err(refusal)),
+        None => Ok(Ok(placed)),
+    }
 }
 
 /// What an INSERT is to do to a table.
@@ -130,10 +160,8 @@ pub(crate) fn insert_plan(
     ensures { IfOk result (λ plan. change_of plan table.now.rows ≡ inserted listed.now rows.now table.now) }
 {
     let columns = table.columns.as_slice();
-    let targets = targets(alloc, columns, listed)?;
-    let placed = placed_rows(alloc, columns, listed, rows)?;
-    match refusal_for(alloc, targets.as_slice(), rows, placed.as_slice(), table)? {
-        Some(refusal) => Ok(PlannedChange::Refused(refusal)),
-        None => Ok(PlannedChange::Accepted(Work::Adds(placed))),
+    match rows_to_add(alloc, columns, listed, rows, table.rows.len())? {
+        Err(refusal) => Ok(PlannedChange::Refused(refusal)),
+        Ok(placed) => Ok(PlannedChange::Accepted(Work::Adds(placed))),
     }
 }

@@ -6,6 +6,10 @@
 //! then carried out: all memory is taken before the table changes. INSERT leaves the rows that are
 //! there where they are, DELETE moves those that stay, and UPDATE makes rows for those alone of which
 //! its condition is true. ALTER makes the rows of its table anew.
+//!
+//! What is decided without the rows of a table has calls of its own, for a store that keeps no rows: the
+//! rows that an INSERT adds (`rows_to_add`), why a column isn't added (`why_not_added`), and which cells a
+//! column refuses (`is_too_long`, `is_null_refused`, `has_long_default`).
 #![tactic(auto)]
 
 mod alter;
@@ -21,4 +25,7 @@ mod plan;
 mod stored;
 mod update;
 
+pub use alter::why_not_added;
 pub use effect::{change, slow_effect};
+pub use insert::rows_to_add;
+pub use stored::{has_long_default, is_null_refused, is_too_long};

@@ -13,7 +13,7 @@ fn character_count(text: &str) -> usize
 }
 
 /// Whether a text has more characters than its column allows.
-pub(crate) fn is_too_long(column: &Column, cell: &Cell) -> bool
+pub fn is_too_long(column: &Column, cell: &Cell) -> bool
     ensures { result ≡ is_too_long_of column.now cell.now }
 {
     match cell {
@@ -25,7 +25,7 @@ pub(crate) fn is_too_long(column: &Column, cell: &Cell) -> bool
 }
 
 /// Whether the default of one of the columns is too long for it.
-pub(crate) fn has_long_default(columns: &[Column]) -> bool
+pub fn has_long_default(columns: &[Column]) -> bool
     ensures { result ≡ list_any is_long_default columns.now }
 {
     columns
@@ -34,7 +34,7 @@ pub(crate) fn has_long_default(columns: &[Column]) -> bool
 }
 
 /// Whether a cell is Nil and its column refuses that.
-pub(crate) fn is_null_refused(column: &Column, cell: &Cell) -> bool
+pub fn is_null_refused(column: &Column, cell: &Cell) -> bool
     ensures { result ≡ is_null_refused_of column.now cell.now }
 {
     column.not_null && matches!(cell, Cell::Nil)
