@@ -45,7 +45,6 @@ pub(crate) fn part(
 }
 
 /// A word, as a name or as the reserved word that it is.
-#[tactic(auto, using(crate::proofs::ByteLemmas::word_front))]
 fn word(alloc: Global, first: u8, after: &[u8]) -> Result<(Option<Token>, usize), TokensError>
     requires { classes.is_letter first ≡ true }
     ensures part { IfOk result (λ part. reader.word_at first after.now ≡ Some (part.0, part.1)) }
