@@ -5,8 +5,8 @@ use Rattle.std.specs.List.{count_by, enumerate_from, cons_option}
 use Rattle.std.proofs.lemmas.List.{take_more, append-nil, map-append}
 use Rattle.std.proofs.lemmas.List.Elements.{filter_map-append}
 use Rattle.std.proofs.lemmas.List.Sums.{sum_by-cons}
-use Rattle.answer_text.specs.declared.event.Event.{Event}
-use Rattle.answer_text.specs.Log.{EventTree, act_tree, event_tree, log_tree, committed}
+use Rattle.run_log.specs.declared.event.Event.{Event}
+use Rattle.run_log.specs.Events.{EventTree, act_tree, event_tree, log_tree, committed}
 use Rattle.answer_text.specs.Layout.{Change, changes_of, change_from, change_line}
 
 -- the change of an event

@@ -13,9 +13,12 @@ use Rattle.sql_tree.specs.Tree.StmtTree.{CreateTable, DropTable, InsertInto, Sel
 use Rattle.sql_semantics.specs.declared.refusal.Refusal.{Refusal}
 use Rattle.sql_semantics.specs.declared.refusal.Refusal.TheVariants.{Syntax, NoTable}
 use Rattle.mal_opt.specs.Passes.{constant_value}
-use Rattle.answer_text.specs.declared.event.Shown.TheVariants as shown
-use Rattle.answer_text.specs.Log.{EventTree, ActTree, Begins, Writes, Ends, acts_over, tables_met, AreStatements, logged_of, IsOrdered}
-use Rattle.answer_text.specs.Plans.{optimised_plan}
+use Rattle.answer_text.specs.declared.shown.Shown.TheVariants as shown
+use Rattle.answer_text.specs.Log.{acts_over, tables_met, AreStatements, logged_of, IsOrdered}
+use Rattle.run_log.specs.Events.{EventTree, ActTree, Begins, Writes, Ends}
+use Rattle.mal_meaning.specs.declared.plan.Plan.{Plan}
+use Rattle.plan_queries.specs.Plans.{optimised_plan, plan_over}
+use Rattle.sql_semantics.specs.Effect.{replay}
 use Rattle.answer_text.specs.Layout.{record_text, reply_text, printed}
 
 -- ## Records and replies
@@ -84,10 +87,14 @@ script = Ok create_t ∷ Ok insert_t ∷ Ok select_a ∷ []
 abbrev pub event : ℕ → ℕ → ActTree → EventTree
 event session statement act = record { session = session; statement = statement; act = act }
 
+-- the plan of the query over the table
+abbrev pub plan_a : Plan
+plan_a = plan_over (replay (create_t ∷ insert_t ∷ [])) query_a
+
 abbrev pub log : List EventTree
 log =
     event 1 1 (Writes (Some create_t) 0 0) ∷ event 1 2 (Writes (Some insert_t) 0 3)
-    ∷ event 1 3 (Begins 0) ∷ event 1 3 (Ends 0) ∷ []
+    ∷ event 1 3 (Begins 0 (Some plan_a)) ∷ event 1 3 (Ends 0) ∷ []
 
 -- the acts of a session's statements from k on, each with its statement's number
 abbrev acts_from : List EventTree → ℕ → ℕ → List (Result StmtTree Refusal) → List (ℕ × ActTree)
@@ -150,8 +157,8 @@ two_output = refl
 -- an EXPLAIN that the tables accept shows the plan of its query, optimised, as an independent implementation prints it, and one that they refuse is refused like its query
 abbrev pub explain_log : List EventTree
 explain_log =
-    event 1 1 (Begins 3) ∷ event 1 1 (Ends 3) ∷ event 1 2 (Writes (Some create_t) 0 0)
-    ∷ event 1 3 (Begins 0) ∷ event 1 3 (Ends 0) ∷ event 1 4 (Writes (Some (DropTable (codes "t"))) 0 0) ∷ []
+    event 1 1 (Begins 3 None) ∷ event 1 1 (Ends 3) ∷ event 1 2 (Writes (Some create_t) 0 0)
+    ∷ event 1 3 (Begins 0 None) ∷ event 1 3 (Ends 0) ∷ event 1 4 (Writes (Some (DropTable (codes "t"))) 0 0) ∷ []
 
 abbrev pub explain_script : List (Result StmtTree Refusal)
 explain_script = Ok (ExplainSelect query_a) ∷ Ok create_t ∷ Ok (ExplainSelect query_a) ∷ Ok (DropTable (codes "t")) ∷ []

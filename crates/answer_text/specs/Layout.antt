@@ -7,9 +7,15 @@ use Rattle.sql_tree.specs.Canon.{canonical}
 use Rattle.sql_tree.specs.Tree.{StmtTree}
 use Rattle.sql_semantics.specs.Refusals.{refusal_number, refusal_words}
 use Rattle.sql_semantics.specs.declared.refusal.Refusal.{Refusal}
-use Rattle.answer_text.specs.declared.event.Shown.{Shown}
-use Rattle.answer_text.specs.declared.event.Shown.TheVariants as shown
-use Rattle.answer_text.specs.Log.{EventTree, committed, shown_over, tables_met}
+use Rattle.answer_text.specs.declared.shown.Shown.{Shown}
+use Rattle.answer_text.specs.declared.shown.Shown.TheVariants as shown
+use Rattle.answer_text.specs.Log.{shown_over, tables_met}
+use Rattle.pool_policy.specs.declared.options.Admitted.{Admitted}
+use Rattle.pool_policy.specs.declared.options.Admitted.TheVariants as admitted
+use Rattle.run_log.specs.declared.event.Looked.{Looked}
+use Rattle.run_log.specs.declared.event.Looked.TheVariants as looked
+use Rattle.run_log.specs.declared.event.Totals.{Totals}
+use Rattle.run_log.specs.Events.{ActTree, Begins, Looks, Admits, Writes, Ends, EventTree, committed}
 
 -- ## Records
 
@@ -81,6 +87,56 @@ change_line i change = decimal i ++ codes " " ++ decimal change.session ++ codes
 -- the history: how many changes were accepted, and a line for each
 abbrev pub history_text : List EventTree → List ℕ
 history_text log = codes "history " ++ decimal (length (changes_of log)) ++ codes "\n" ++ flat_map (λ (i, change). change_line i change) (enumerate_from 1 (changes_of log))
+
+-- ## The pool
+
+abbrev pub named_line : List ℕ → ℕ → List ℕ
+named_line name n = name ++ codes " " ++ decimal n ++ codes "\n"
+
+-- the totals, a line for each
+abbrev pub totals_text : Totals → List ℕ
+totals_text t =
+    codes "pool\n" ++ named_line (codes "entries") t.entries ++ named_line (codes "bytes") t.bytes ++ named_line (codes "peak") t.peak
+    ++ named_line (codes "looks") t.looks ++ named_line (codes "exact") t.exact ++ named_line (codes "within") t.within ++ named_line (codes "across") t.across ++ named_line (codes "miss") t.miss
+    ++ named_line (codes "taken") t.taken ++ named_line (codes "there") t.there ++ named_line (codes "stale") t.stale ++ named_line (codes "orphan") t.orphan
+    ++ named_line (codes "nocredit") t.nocredit ++ named_line (codes "noroom") t.noroom ++ named_line (codes "evicted") t.evicted
+    ++ named_line (codes "dropped") t.dropped ++ named_line (codes "carried") t.carried ++ named_line (codes "work") t.work ++ named_line (codes "events") t.events
+
+-- ## The log
+
+abbrev pub one_number : List ℕ → ℕ → List ℕ
+one_number name n = name ++ codes " " ++ decimal n
+
+-- what a look found
+abbrev pub looked_text : Looked → List ℕ
+looked_text (looked.Exact id) = one_number (codes "exact") id
+looked_text (looked.Within id) = one_number (codes "within") id
+looked_text (looked.Across pieces) = one_number (codes "across") pieces
+looked_text looked.Miss = codes "miss"
+
+-- what an admission answers
+abbrev pub admitted_text : Admitted → List ℕ
+admitted_text (admitted.Taken id bytes gone) = one_number (codes "taken") id ++ codes " " ++ decimal bytes ++ codes " " ++ decimal gone
+admitted_text (admitted.There id) = one_number (codes "there") id
+admitted_text (admitted.Stale version) = one_number (codes "stale") version
+admitted_text (admitted.Orphan id) = one_number (codes "orphan") id
+admitted_text (admitted.NoCredit shape) = one_number (codes "nocredit") shape
+admitted_text (admitted.NoRoom bytes) = one_number (codes "noroom") bytes
+
+abbrev pub act_text : ActTree → List ℕ
+act_text (Begins code plan) = one_number (codes "begin") code
+act_text (Looks instr key found) = one_number (codes "look") instr ++ codes " " ++ looked_text found
+act_text (Admits instr key answer) = one_number (codes "admit") instr ++ codes " " ++ admitted_text answer
+act_text (Writes statement code count) = one_number (codes "write") code ++ codes " " ++ decimal count
+act_text (Ends code) = one_number (codes "end") code
+
+-- event i of a log
+abbrev pub event_line : ℕ → EventTree → List ℕ
+event_line i event = decimal i ++ codes " " ++ decimal event.session ++ codes " " ++ decimal event.statement ++ codes " " ++ act_text event.act ++ codes "\n"
+
+-- how many events there are, and a line for each
+abbrev pub log_text : List EventTree → List ℕ
+log_text log = codes "log " ++ decimal (length log) ++ codes "\n" ++ flat_map (λ (i, event). event_line i event) (enumerate_from 1 log)
 
 -- ## The whole output
 

@@ -1,73 +1,31 @@
--- The log: its commits, the place of a statement in it, and which events a run logs.
-use Rattle.std.specs.Prelude.{◌≡◌, ℕ, suc, ◌+◌, ◌-◌, ◌≤◌, ◌==◌, List, [], ◌∷◌, ◌++◌, length, map, filter, take, Bool, true, false, ◌&&◌, if◌then◌else◌, Option, Some, None, Result, Ok, Err, slice_get}
-use Rattle.std.specs.List.{filter_map, AllByRecursion}
-use Rattle.std.specs.Option.{option_map}
+-- The place of a statement in a log, what it shows, and which events a run logs.
+use Rattle.std.specs.Prelude.{◌≡◌, ℕ, suc, ◌+◌, ◌≤◌, ◌==◌, List, [], ◌∷◌, ◌++◌, length, map, filter, Bool, true, false, ◌&&◌, if◌then◌else◌, Option, Some, None, Result, Ok, Err, slice_get}
+use Rattle.std.specs.List.{AllByRecursion}
 use Rattle.cell_core.specs.declared.cell.Cell.{Cell}
 use Rattle.cell_core.specs.declared.table.Db.{Db}
-use Rattle.sql_tree.specs.Tree.{StmtTree, stmt_tree}
+use Rattle.sql_tree.specs.Tree.{StmtTree}
 use Rattle.sql_tree.specs.Tree.StmtTree.{Select, ExplainSelect}
 use Rattle.sql_semantics.specs.Refusals.{refusal_number}
 use Rattle.sql_semantics.specs.Answer.{answer}
-use Rattle.sql_semantics.specs.Check.{check_refusal}
-use Rattle.sql_semantics.specs.Effect.{effect, replay}
-use Rattle.sql_semantics.specs.Sources.{schema_of}
+use Rattle.sql_semantics.specs.Effect.{effect}
 use Rattle.sql_semantics.specs.declared.refusal.Refusal.{Refusal}
 use Rattle.sql_semantics.specs.declared.refusal.Refusal.TheVariants.{Overflow}
 use Rattle.sql_semantics.specs.declared.refusal.Reply.{Reply}
 use Rattle.sql_semantics.specs.declared.refusal.Reply.TheVariants as reply
 use Rattle.mal_print.specs.Canon.{plan_text}
-use Rattle.answer_text.specs.Plans.{plan_over}
-use Rattle.answer_text.specs.declared.event.Event.{Event}
-use Rattle.answer_text.specs.declared.event.Act.{Act}
-use Rattle.answer_text.specs.declared.event.Act.TheVariants as act
-use Rattle.answer_text.specs.declared.event.Shown.{Shown}
-use Rattle.answer_text.specs.declared.event.Shown.TheVariants as shown
+use Rattle.mal_meaning.specs.declared.plan.Plan.{Plan}
+use Rattle.plan_queries.specs.Plans.{plan_over, refusal_over}
+use Rattle.run_log.specs.Events.{ActTree, Begins, Writes, Ends, EventTree, tables_at}
+use Rattle.answer_text.specs.declared.shown.Shown.{Shown}
+use Rattle.answer_text.specs.declared.shown.Shown.TheVariants as shown
 
--- ## Events as plain data
-
--- what an event does, with its statement as a plain tree
-pub data ActTree : Type 0 where
-  Begins : ℕ → ActTree
-  Writes : Option StmtTree → ℕ → ℕ → ActTree
-  Ends : ℕ → ActTree
-
--- an event, so
-pub record EventTree : Type 0 where
-  pub session : ℕ
-  pub statement : ℕ
-  pub act : ActTree
-
-abbrev pub act_tree : Act → ActTree
-act_tree (act.Begin code) = Begins code
-act_tree (act.Write statement code count) = Writes (option_map stmt_tree statement) code count
-act_tree (act.End code) = Ends code
-
-abbrev pub event_tree : Event → EventTree
-event_tree event = record { session = event.session; statement = event.statement; act = act_tree event.act }
-
--- a log, so
-abbrev pub log_tree : List Event → List EventTree
-log_tree log = map event_tree log
-
--- ## Commits and places
-
--- the statement of an accepted write
-abbrev pub committed : ActTree → Option StmtTree
-committed (Writes statement code count) = if code == 0 then statement else None
-committed _ = None
-
--- the accepted changes, in order
-abbrev pub commits : List EventTree → List StmtTree
-commits log = filter_map (λ (event : EventTree). committed event.act) log
-
--- the tables before the event at a position, which counts from 1
-abbrev pub tables_at : List EventTree → ℕ → Db
-tables_at log position = replay (commits (take (position - 1) log))
+-- ## Places
 
 -- the act that marks the place of a statement
 abbrev pub is_opening : ActTree → Bool
-is_opening (Ends code) = false
-is_opening _ = true
+is_opening (Begins code plan) = true
+is_opening (Writes statement code count) = true
+is_opening _ = false
 
 abbrev pub is_place : ℕ → ℕ → EventTree → Bool
 is_place session statement event = (event.session == session) && (event.statement == statement) && is_opening event.act
@@ -90,10 +48,6 @@ abbrev pub shown_query : Option Refusal → Option (List (List Cell)) → Shown
 shown_query (Some refusal) rows = shown.Refused refusal
 shown_query None (Some rows) = shown.Rows rows
 shown_query None None = shown.Refused Overflow
-
--- the refusal of a statement by the tables of a database, if it has one
-abbrev pub refusal_over : Db → StmtTree → Option Refusal
-refusal_over db statement = check_refusal statement (schema_of db)
 
 -- what an EXPLAIN shows: the refusal of its query, or the text of the plan by which the query is run
 abbrev pub shown_explain : Option Refusal → List ℕ → Shown
@@ -123,11 +77,16 @@ abbrev pub begin_code : Option Refusal → ℕ
 begin_code None = 0
 begin_code (Some refusal) = refusal_number refusal
 
+-- the plan that is logged, where nothing refuses the query
+abbrev pub begin_plan : Option Refusal → Plan → Option Plan
+begin_plan None plan = Some plan
+begin_plan (Some refusal) plan = None
+
 -- the acts of a statement that meets these tables
 abbrev pub acts_over : Db → Result StmtTree Refusal → List ActTree
 acts_over db (Err refusal) = Writes None (refusal_number refusal) 0 ∷ []
-acts_over db (Ok (Select query)) = Begins (begin_code (refusal_over db (Select query))) ∷ Ends (code_of (shown_over db (Ok (Select query)))) ∷ []
-acts_over db (Ok (ExplainSelect query)) = Begins (code_of (shown_over db (Ok (ExplainSelect query)))) ∷ Ends (code_of (shown_over db (Ok (ExplainSelect query)))) ∷ []
+acts_over db (Ok (Select query)) = Begins (begin_code (refusal_over db (Select query))) (begin_plan (refusal_over db (Select query)) (plan_over db query)) ∷ Ends (code_of (shown_over db (Ok (Select query)))) ∷ []
+acts_over db (Ok (ExplainSelect query)) = Begins (code_of (shown_over db (Ok (ExplainSelect query)))) None ∷ Ends (code_of (shown_over db (Ok (ExplainSelect query)))) ∷ []
 acts_over db (Ok statement) = Writes (Some statement) (code_of (shown_over db (Ok statement))) (count_of (shown_over db (Ok statement))) ∷ []
 
 -- the tables that a statement meets: those at its place

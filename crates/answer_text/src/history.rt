@@ -3,11 +3,11 @@ ghost use Rattle.std.specs.List.{enumerate_from};
 ghost use Rattle.sql_tree.specs.Canon.{canonical};
 ghost use Rattle.sql_tree.specs.Tree.{stmt_tree};
 ghost use Rattle.answer_text.specs.Layout.{changes_of, change_line, history_text};
-ghost use Rattle.answer_text.specs.Log.{act_tree, committed, log_tree};
+ghost use Rattle.run_log.specs.Events.{act_tree, committed, log_tree};
 
-use crate::event::Event;
 use crate::number::write_number;
 use cell_core::Memory;
+use run_log::Event;
 use sql_tree::{Stmt, print_stmt};
 use std::alloc::Global;
 

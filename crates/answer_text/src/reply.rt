@@ -1,9 +1,9 @@
 ghost use Rattle.std.specs.Prelude.{◌≡◌, ◌++◌, IfOk, OnOk, OnErr};
 ghost use Rattle.answer_text.specs.Layout.{line_count as line_count_of, reply_text, session_line};
 
-use crate::event::Shown;
 use crate::number::write_number;
 use crate::records::with_records;
+use crate::shown::Shown;
 use cell_core::Memory;
 use std::alloc::Global;
 

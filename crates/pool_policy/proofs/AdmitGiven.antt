@@ -1,6 +1,8 @@
 -- Looks and releases leave what was given out, and an admission adds the new entry to it.
-use Rattle.std.proofs.Common.{◌≡◌, ℕ, ◌+◌, ◌<◌, List, [], ◌∷◌, ◌++◌, true, false, ◌&&◌, Option, Some, None, ◌⊎◌, inl, inr, refl, ap, sym, ◌∙◌, subst, arith}
-use Rattle.std.specs.Prelude.{filter, ◌==◌, if◌then◌else◌}
+use Rattle.std.proofs.Common.{◌≡◌, ℕ, ◌+◌, ◌≤◌, ◌<◌, List, [], ◌∷◌, ◌++◌, Bool, true, false, not, ◌&&◌, cond, Option, Some, None, ◌⊎◌, inl, inr, refl, ap, sym, ◌∙◌, subst, arith}
+use Rattle.std.specs.Prelude.{filter, nat_lt, ◌==◌, if◌then◌else◌}
+use Rattle.std.proofs.lemmas.Bool.Decides.{nat_tests}
+use Rattle.std.proofs.lemmas.List.Elements.{filter-append}
 use Rattle.std.specs.List.{AllByRecursion}
 use Rattle.std.specs.Option.{option_map_or}
 use Rattle.lineage_key.specs.declared.key.Key.{Key}
@@ -16,9 +18,9 @@ use Rattle.pool_policy.specs.Keyed.{entry_of_key, shape_in}
 use Rattle.pool_policy.specs.Looks.{Finding, used, pinned, at_ids, look_of, ids_used, ids_pinned, after_found, after_look}
 use Rattle.pool_policy.specs.Admits.{Offer, number_from, with_shape, shape_number, credit_of, evictions_for, left_without, new_entry, by_room, by_credit, by_parents, missing_parent, is_other_version, by_key, admit_of, unpinned, release_of}
 use Rattle.pool_policy.specs.Keeps.{Face, face_of, faces, Rises, value_in, IsParentIn, IsRooted, IsPool, IsOffer}
-use Rattle.pool_policy.specs.Worths.{IsGiven, GivesOn}
+use Rattle.pool_policy.specs.Worths.{IsGiven, GivesOn, faces_from}
 use Rattle.pool_policy.proofs.Lists.{all_at}
-use Rattle.pool_policy.proofs.Faces.{value_of_in, value_found, faces_append, map_faces, rooted_on}
+use Rattle.pool_policy.proofs.Faces.{value_of_in, value_found, faces_append, map_faces, rooted_on, ids_below}
 use Rattle.pool_policy.proofs.Leaving.{stays, faces_left}
 use Rattle.pool_policy.proofs.NewEntry.{admit_keeps}
 use Rattle.pool_policy.proofs.Given.{one_stays, given_more}
@@ -132,16 +134,45 @@ one_rooted offer old new m before after =
       | inr e ↦ absurd (let same = ap (λ (f : Face). f.id) e in omega (arith, same, found.2, parent.1))
     ]) here
 
-step_given : (offer : Offer) (given : List Face) (old new : PoolState) → IsStep offer old new → IsPool old → IsPool new → IsGiven given old → GivesOn given new
+-- ## What is new
+
+abbrev is_new : ℕ → Face → Bool
+is_new next f = not (nat_lt f.id next)
+
+below_is : (m n : ℕ) → m < n → nat_lt m n ≡ true
+below_is m n e = grind (arith, nat_tests, e)
+
+above_is : (m n : ℕ) → n ≤ m → nat_lt m n ≡ false
+above_is m n e = grind (arith, nat_tests, e)
+
+none_new : (next : ℕ) (fs : List Face) → ((f : Face) → In f fs → f.id < next) → filter (is_new next) fs ≡ []
+none_new next [] below = refl
+none_new next (f ∷ fs) below = ap (λ b. cond (not b) (f ∷ filter (is_new next) fs) (filter (is_new next) fs)) (below_is f.id next (below f (inl refl))) ∙ none_new next fs (λ g i. below g (inr i))
+
+below_next : (pool : PoolState) → IsPool pool → (f : Face) → In f (faces pool.entries) → f.id < pool.next
+below_next pool known f i = (all_at (λ (g : Face). (1 ≤ g.id) × (g.id < pool.next)) (faces pool.entries) f (ids_below 1 pool.next (faces pool.entries) known.rising) i).1
+
+same_new : (old new : PoolState) → IsPool old → faces new.entries ≡ faces old.entries → faces_from old.next new ≡ []
+same_new old new before same = ap (filter (is_new old.next)) same ∙ none_new old.next (faces old.entries) (below_next old before)
+
+one_new : (offer : Offer) (old new : PoolState) → IsPool old → (m : IsMore offer old new) → faces_from old.next new ≡ m.one ∷ []
+one_new offer old new before m =
+    ap (filter (is_new old.next)) m.more ∙ filter-append (is_new old.next) m.left (m.one ∷ [])
+    ∙ ap (λ fs. fs ++ cond (is_new old.next m.one) (m.one ∷ []) []) (none_new old.next m.left (λ f i. below_next old before f (m.inside f i)))
+    ∙ ap (λ b. cond (not b) (m.one ∷ []) []) (above_is m.one.id old.next (let id = m.id in omega (arith, id)))
+
+step_given : (offer : Offer) (given : List Face) (old new : PoolState) → IsStep offer old new → IsPool old → IsPool new → IsGiven given old → GivesOn given (faces_from old.next new) new
 step_given offer given old new (inl s) before after known =
     let all = sym (append_none given) in
-    record { more = []; known = subst (λ gs. IsGiven gs new) all (given_same given old new s.next s.same known); stay = λ id some. ap (λ gs. value_in gs id) (sym all) }
-step_given offer given old new (inr m) before after known = record {
-  more = m.one ∷ [];
-  known = given_more given old new m.one m.id m.next (one_rooted offer old new m before after) (λ g i.
-      elim (last_or m.left m.one g (subst (In g) m.more i)) [ inl j ↦ inl (m.inside g j) | inr e ↦ inr e ]) known;
-  stay = one_stays given m.one;
-}
+    let still : GivesOn given [] new = record { known = subst (λ gs. IsGiven gs new) all (given_same given old new s.next s.same known); stay = λ id some. ap (λ gs. value_in gs id) (sym all) } in
+    subst (λ more. GivesOn given more new) (sym (same_new old new before s.same)) still
+step_given offer given old new (inr m) before after known =
+    let more : GivesOn given (m.one ∷ []) new = record {
+      known = given_more given old new m.one m.id m.next (one_rooted offer old new m before after) (λ g i.
+          elim (last_or m.left m.one g (subst (In g) m.more i)) [ inl j ↦ inl (m.inside g j) | inr e ↦ inr e ]) known;
+      stay = one_stays given m.one;
+    } in
+    subst (λ fs. GivesOn given fs new) (sym (one_new offer old new before m)) more
 
-pub admit_given : (who : Who) (now : ℕ) (offer : Offer) (given : List Face) (pool : PoolState) → pool.moment < now → IsPool pool → IsOffer pool offer → IsGiven given pool → GivesOn given (admit_of who now offer pool).1
+pub admit_given : (who : Who) (now : ℕ) (offer : Offer) (given : List Face) (pool : PoolState) → pool.moment < now → IsPool pool → IsOffer pool offer → IsGiven given pool → GivesOn given (faces_from pool.next (admit_of who now offer pool).1) (admit_of who now offer pool).1
 admit_given who now offer given pool later known fits all = step_given offer given pool (admit_of who now offer pool).1 (admit_step who now offer pool) known (admit_keeps who now offer pool later known fits) all

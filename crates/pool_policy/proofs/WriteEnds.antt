@@ -211,9 +211,8 @@ module _ (write : Touched) (now : ℕ) (pool : PoolState) (later : pool.moment <
     given_rooted : AllByRecursion (IsRooted all) given
     given_rooted = all_on (IsRooted given) (IsRooted all) given (λ f _ h. rooted_on given all f (λ id j. value_append given more id (all_at (IsParentIn given f.id) (parents_of f.key) id h.parents j).2) h) was.rooted
 
-    pub write_given : GivesOn given (write_of write now pool).pool
+    pub write_given : GivesOn given more (write_of write now pool).pool
     write_given = record {
-      more = more;
       known = record {
         rising = all_rises;
         rooted = all_append (IsRooted all) given more given_rooted more_rooted;

@@ -20,7 +20,7 @@ use Rattle.pool_policy.specs.Looks.Finding.{Exact, Within, Across}
 use Rattle.pool_policy.specs.Admits.{Offer, admit_of, release_of}
 use Rattle.pool_policy.specs.Writes.{forget_of}
 use Rattle.pool_policy.specs.Keeps.{Face, faces, value_in, arg_value, IsPool, IsOffer}
-use Rattle.pool_policy.specs.Worths.{IsGiven, ArePooledWorths, GivesOn, IsWorth}
+use Rattle.pool_policy.specs.Worths.{IsGiven, ArePooledWorths, GivesOn, IsWorth, faces_from}
 
 -- a pool begins well, and a look later than all before, the end of a statement and what is forgotten leave it so
 pub record LooksKeep : Type 0 where
@@ -41,7 +41,7 @@ pub record ValuesAreWorths : Type 0 where
   pub look : (who : Who) (now : ℕ) (key : Key) (given : List Face) (pool : PoolState) → IsGiven given pool → IsGiven given (after_look who now key pool)
   pub release : (session : ℕ) (given : List Face) (pool : PoolState) → IsGiven given pool → IsGiven given (release_of session pool)
   pub forget : (table : List ℕ) (columns : List (List ℕ)) (given : List Face) (pool : PoolState) → IsGiven given pool → IsGiven given (forget_of table columns pool)
-  pub admit : (who : Who) (now : ℕ) (offer : Offer) (given : List Face) (pool : PoolState) → pool.moment < now → IsPool pool → IsOffer pool offer → IsGiven given pool → GivesOn given (admit_of who now offer pool).1
+  pub admit : (who : Who) (now : ℕ) (offer : Offer) (given : List Face) (pool : PoolState) → pool.moment < now → IsPool pool → IsOffer pool offer → IsGiven given pool → GivesOn given (faces_from pool.next (admit_of who now offer pool).1) (admit_of who now offer pool).1
 
 -- ## What is found serves
 

@@ -1,5 +1,5 @@
 -- What ids are worth: all that was ever given out, and how a step adds to it.
-use Rattle.std.specs.Prelude.{◌≡◌, ℕ, ◌^◌, ◌<◌, ◌≤◌, List, [], ◌++◌, length, map, true, false, Option, Some, IsSome, Contains}
+use Rattle.std.specs.Prelude.{◌≡◌, ℕ, ◌^◌, ◌<◌, ◌≤◌, List, [], ◌++◌, length, map, filter, true, false, not, nat_lt, Option, Some, IsSome, Contains}
 use Rattle.std.specs.List.{AllByRecursion}
 use Rattle.cell_core.specs.declared.operator.Value.TheVariants.{Bat}
 use Rattle.cell_core.specs.Pairs.{Pairs}
@@ -27,9 +27,12 @@ ArePooledWorths given pool = (f : Face) → Contains (faces pool.entries) f → 
 abbrev pub WorthsStay : List Face → List Face → Type 0
 WorthsStay given later = (id : ℕ) → IsSome (worth given id) → worth later id ≡ worth given id
 
+-- what of a pool has an id from this one on
+abbrev pub faces_from : ℕ → PoolState → List Face
+faces_from next pool = filter (λ (f : Face). not (nat_lt f.id next)) (faces pool.entries)
+
 -- some entries more are given out, and all that is then pooled was given out
-pub record GivesOn (given : List Face) (pool : PoolState) : Type 0 where
-  pub more : List Face
+pub record GivesOn (given more : List Face) (pool : PoolState) : Type 0 where
   pub known : IsGiven (given ++ more) pool
   pub stay : WorthsStay given (given ++ more)
 

@@ -12,7 +12,7 @@ use Rattle.pool_policy.specs.declared.entry.PoolEntry.{PoolEntry}
 use Rattle.pool_policy.specs.declared.touched.Touched.{Touched}
 use Rattle.pool_policy.specs.Pool.{PoolState}
 use Rattle.pool_policy.specs.Writes.{Return, Source, delta_of, grows, returns_of, touched_ids, write_of}
-use Rattle.pool_policy.specs.Keeps.{Face, IsPool}
+use Rattle.pool_policy.specs.Keeps.{Face, IsPool, faces}
 use Rattle.pool_policy.specs.Worths.{IsGiven, GivesOn}
 use Rattle.pool_policy.specs.Writes.Source.{Plain, Same, Grown}
 
@@ -56,4 +56,5 @@ pub record IsWrite (write : Touched) (now : ℕ) (pool : PoolState) : Type 0 whe
 -- a write later than all before leaves a pool, with its bytes within the budget; and it goes on with what was given out, so that pooled values stay worths
 pub record WritesKeep : Type 0 where
   pub pool : (write : Touched) (now : ℕ) (pool : PoolState) → pool.moment < now → IsPool pool → IsWrite write now pool → IsPool (write_of write now pool).pool
-  pub given : (write : Touched) (now : ℕ) (given : List Face) (pool : PoolState) → pool.moment < now → IsPool pool → IsWrite write now pool → IsGiven given pool → GivesOn given (write_of write now pool).pool
+  pub given : (write : Touched) (now : ℕ) (given : List Face) (pool : PoolState) → pool.moment < now → IsPool pool → IsWrite write now pool → IsGiven given pool
+      → GivesOn given (faces (map (λ (r : Return). r.new) (returns_of write now (touched_ids write.table write.columns pool.entries) pool))) (write_of write now pool).pool

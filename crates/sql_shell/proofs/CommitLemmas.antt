@@ -14,7 +14,8 @@ use Rattle.sql_semantics.specs.declared.refusal.Reply.{Reply}
 use Rattle.sql_semantics.specs.declared.refusal.Reply.TheVariants.{Done, Rows, Refused}
 use Rattle.sql_tree.specs.Tree.{QueryTree, StmtTree}
 use Rattle.sql_tree.specs.Tree.StmtTree.{CreateTable, DropTable, AlterTable, InsertInto, DeleteFrom, UpdateTable, Select, ExplainSelect}
-use Rattle.answer_text.specs.Log.{EventTree, Writes, commits, committed, acts_over, shown_reply, code_of, count_of}
+use Rattle.answer_text.specs.Log.{acts_over, shown_reply, code_of, count_of}
+use Rattle.run_log.specs.Events.{EventTree, Writes, commits, committed}
 use Rattle.sql_shell.specs.Session.{events_of, db_after}
 
 number_not_zero : (r : Refusal) → (refusal_number r == 0) ≡ false

@@ -8,7 +8,7 @@ use Rattle.std.proofs.lemmas.Bool.Decides.{nat_tests}
 use Rattle.sql_semantics.specs.declared.refusal.Refusal.{Refusal}
 use Rattle.sql_tree.specs.Pieces.{pieces_of}
 use Rattle.sql_tree.specs.Tree.{StmtTree}
-use Rattle.answer_text.specs.Log.{EventTree}
+use Rattle.run_log.specs.Events.{EventTree}
 use Rattle.answer_text.specs.Layout.{printed}
 use Rattle.sql_shell.specs.Readings.{AreReadings, AreAllRead}
 use Rattle.command_words.specs.Words.{few_files, files_in, run_files}

@@ -10,9 +10,12 @@ use Rattle.sql_semantics.specs.declared.refusal.Refusal.{Refusal}
 use Rattle.sql_semantics.specs.declared.refusal.Reply.{Reply}
 use Rattle.sql_tree.specs.Tree.{QueryTree, StmtTree}
 use Rattle.sql_tree.specs.Tree.StmtTree.{CreateTable, DropTable, AlterTable, InsertInto, DeleteFrom, UpdateTable, Select, ExplainSelect}
-use Rattle.answer_text.specs.declared.event.Shown.{Shown}
-use Rattle.answer_text.specs.declared.event.Shown.TheVariants as shown
-use Rattle.answer_text.specs.Log.{ActTree, EventTree, Begins, Writes, Ends, log_tree, acts_over, refusal_over, shown_over, shown_reply, code_of, count_of, begin_code, IsOrdered}
+use Rattle.answer_text.specs.declared.shown.Shown.{Shown}
+use Rattle.answer_text.specs.declared.shown.Shown.TheVariants as shown
+use Rattle.answer_text.specs.Log.{acts_over, shown_over, shown_reply, code_of, count_of, begin_code, begin_plan, IsOrdered}
+use Rattle.run_log.specs.Events.{ActTree, EventTree, Begins, Writes, Ends, log_tree}
+use Rattle.mal_meaning.specs.declared.plan.Plan.{Plan}
+use Rattle.plan_queries.specs.Plans.{plan_over, refusal_over}
 use Rattle.answer_text.specs.Layout.{reply_text, session_line, history_text, printed}
 use Rattle.sql_shell.specs.declared.session.Run.{Run}
 use Rattle.sql_shell.specs.Session.{no_tables, events_of, db_after, run_db, run_log, run_text, run_takes, all_db, all_log, all_text, all_takes, is_change, IsFormedReading, AreFormed, Follows, Serves, ServesPieces, HasServed, Changes, Notes, Tells, TellsRead, Adds, Produces}
@@ -211,41 +214,41 @@ produces names scripts run text before after served is =
 -- ## Statements
 
 -- a Begin logged, and then an End with its reply
-pub tells_read : (old begun new : Run) (s k begin code : ℕ) (shown : Shown) → Notes old begun s k (Begins begin) → Tells begun new s k (Ends code) shown → code ≡ code_of shown → TellsRead old new s k begin shown
-tells_read old begun new s k begin code shown notes tells codes =
+pub tells_read : (old begun new : Run) (s k begin code : ℕ) (plan : Option Plan) (shown : Shown) → Notes old begun s k (Begins begin plan) → Tells begun new s k (Ends code) shown → code ≡ code_of shown → TellsRead old new s k begin plan shown
+tells_read old begun new s k begin code plan shown notes tells codes =
     record {
       log = tells.log ∙ ap (λ l. l ++ record { session = s; statement = k; act = Ends code } ∷ []) notes.log
-          ∙ append_assoc (log_tree old.log.items) (record { session = s; statement = k; act = Begins begin } ∷ []) (record { session = s; statement = k; act = Ends code } ∷ [])
-          ∙ ap (λ (e : ℕ). log_tree old.log.items ++ events_of s k (Begins begin ∷ Ends e ∷ [])) codes;
+          ∙ append_assoc (log_tree old.log.items) (record { session = s; statement = k; act = Begins begin plan } ∷ []) (record { session = s; statement = k; act = Ends code } ∷ [])
+          ∙ ap (λ (e : ℕ). log_tree old.log.items ++ events_of s k (Begins begin plan ∷ Ends e ∷ [])) codes;
       db = tells.db ∙ notes.db;
       text = tells.text ∙ ap (λ t. t ++ reply_text k shown) notes.text;
       work = tells.work ∙ notes.work;
     }
 
 -- a query's work counted, its two acts logged, and its reply written
-pub query_served : (old counted new : Run) (s k work begin : ℕ) (shown : Shown) (query : QueryTree)
-    → Adds old counted work → TellsRead counted new s k begin shown
-    → shown ≡ shown_over old.db (Ok (Select query)) → work ≡ statement_work old.db (Ok (Select query)) → begin ≡ begin_code (refusal_over old.db (Select query))
+pub query_served : (old counted new : Run) (s k work begin : ℕ) (plan : Option Plan) (shown : Shown) (query : QueryTree)
+    → Adds old counted work → TellsRead counted new s k begin plan shown
+    → shown ≡ shown_over old.db (Ok (Select query)) → work ≡ statement_work old.db (Ok (Select query)) → begin ≡ begin_code (refusal_over old.db (Select query)) → plan ≡ begin_plan (refusal_over old.db (Select query)) (plan_over old.db query)
     → Follows old new s k (Ok (Select query))
-query_served old counted new s k work begin shown query counts tells shows works begin_is =
+query_served old counted new s k work begin plan shown query counts tells shows works begin_is plan_is =
     record {
       db = tells.db ∙ counts.db ∙ sym (select_keeps query old.db);
-      log = tells.log ∙ ap (λ l. l ++ events_of s k (Begins begin ∷ Ends (code_of shown) ∷ [])) (ap log_tree counts.log)
-          ∙ ap (λ (b : ℕ). log_tree old.log.items ++ events_of s k (Begins b ∷ Ends (code_of shown) ∷ [])) begin_is
-          ∙ ap (λ (sh : Shown). log_tree old.log.items ++ events_of s k (Begins (begin_code (refusal_over old.db (Select query))) ∷ Ends (code_of sh) ∷ [])) shows;
+      log = tells.log ∙ ap (λ l. l ++ events_of s k (Begins begin plan ∷ Ends (code_of shown) ∷ [])) (ap log_tree counts.log)
+          ∙ (λ i. log_tree old.log.items ++ events_of s k (Begins (begin_is i) (plan_is i) ∷ Ends (code_of shown) ∷ []))
+          ∙ ap (λ (sh : Shown). log_tree old.log.items ++ events_of s k (Begins (begin_code (refusal_over old.db (Select query))) (begin_plan (refusal_over old.db (Select query)) (plan_over old.db query)) ∷ Ends (code_of sh) ∷ [])) shows;
       text = tells.text ∙ ap (λ t. t ++ reply_text k shown) counts.text ∙ ap (λ sh. old.text.items ++ reply_text k sh) shows;
       work = tells.work ∙ counts.work ∙ ap (λ n. old.work + n) works;
     }
 
 -- an EXPLAIN's two acts logged, and its reply written
 pub explain_served : (old new : Run) (s k begin : ℕ) (shown : Shown) (query : QueryTree)
-    → TellsRead old new s k begin shown → shown ≡ shown_over old.db (Ok (ExplainSelect query)) → begin ≡ code_of shown
+    → TellsRead old new s k begin None shown → shown ≡ shown_over old.db (Ok (ExplainSelect query)) → begin ≡ code_of shown
     → Follows old new s k (Ok (ExplainSelect query))
 explain_served old new s k begin shown query tells shows begin_is =
     record {
       db = tells.db ∙ sym (explain_keeps query old.db);
-      log = tells.log ∙ ap (λ (n : ℕ). log_tree old.log.items ++ events_of s k (Begins n ∷ Ends (code_of shown) ∷ [])) begin_is
-          ∙ ap (λ (sh : Shown). log_tree old.log.items ++ events_of s k (Begins (code_of sh) ∷ Ends (code_of sh) ∷ [])) shows;
+      log = tells.log ∙ ap (λ (n : ℕ). log_tree old.log.items ++ events_of s k (Begins n None ∷ Ends (code_of shown) ∷ [])) begin_is
+          ∙ ap (λ (sh : Shown). log_tree old.log.items ++ events_of s k (Begins (code_of sh) None ∷ Ends (code_of sh) ∷ [])) shows;
       text = tells.text ∙ ap (λ sh. old.text.items ++ reply_text k sh) shows;
       work = tells.work ∙ omega arith;
     }

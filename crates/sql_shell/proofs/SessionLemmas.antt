@@ -12,7 +12,8 @@ use Rattle.sql_semantics.specs.Effect.{replay, replay_from}
 use Rattle.sql_semantics.specs.declared.refusal.Refusal.{Refusal}
 use Rattle.sql_tree.specs.Tree.{StmtTree}
 use Rattle.sql_tree.specs.Tree.StmtTree.{CreateTable, DropTable, AlterTable, InsertInto, DeleteFrom, UpdateTable, Select, ExplainSelect}
-use Rattle.answer_text.specs.Log.{ActTree, EventTree, commits, tables_at, is_opening, is_place, statement_place, tables_met, acts_over, AreStatements, logged_of, shown_over, IsOrdered}
+use Rattle.answer_text.specs.Log.{is_opening, is_place, statement_place, tables_met, acts_over, AreStatements, logged_of, shown_over, IsOrdered}
+use Rattle.run_log.specs.Events.{ActTree, EventTree, commits, tables_at}
 use Rattle.answer_text.specs.Layout.{reply_text, replies_text, session_line, session_text, history_text, printed}
 use Rattle.sql_shell.specs.Session.{no_tables, events_of, db_after, run_db, run_log, run_text, run_takes, all_db, all_log, all_text, all_takes}
 use Rattle.sql_shell.specs.Served.{RiseFrom}

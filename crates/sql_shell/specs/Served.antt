@@ -3,7 +3,8 @@ use Rattle.std.specs.Prelude.{◌≡◌, ℕ, ◌≤◌, List, [], ◌∷◌, Bo
 use Rattle.sql_semantics.specs.declared.refusal.Refusal.{Refusal}
 use Rattle.sql_tree.specs.Pieces.{pieces_of}
 use Rattle.sql_tree.specs.Tree.{StmtTree}
-use Rattle.answer_text.specs.Log.{EventTree, IsOrdered}
+use Rattle.answer_text.specs.Log.{IsOrdered}
+use Rattle.run_log.specs.Events.{EventTree}
 use Rattle.answer_text.specs.Layout.{printed}
 use Rattle.sql_shell.specs.Readings.{AreReadings}
 

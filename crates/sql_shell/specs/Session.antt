@@ -1,5 +1,5 @@
 -- What sessions log and print that run one after the other, statement after statement.
-use Rattle.std.specs.Prelude.{◌≡◌, ℕ, ◌+◌, List, [], ◌∷◌, ◌++◌, map, Bool, true, false, Result, Ok, Err}
+use Rattle.std.specs.Prelude.{◌≡◌, ℕ, ◌+◌, List, [], ◌∷◌, ◌++◌, map, Bool, true, false, Option, Result, Ok, Err}
 use Rattle.cell_core.specs.declared.table.Db.{Db}
 use Rattle.std.specs.List.{AllByRecursion}
 use Rattle.sql_grammar.specs.Formed.{IsFormed}
@@ -10,8 +10,10 @@ use Rattle.sql_tree.specs.Tree.{StmtTree}
 use Rattle.sql_tree.specs.Tree.StmtTree.{Select, ExplainSelect}
 use Rattle.sql_shell.specs.Readings.{AreReadings, AreAllRead}
 use Rattle.sql_shell.specs.declared.session.Run.{Run}
-use Rattle.answer_text.specs.declared.event.Shown.{Shown}
-use Rattle.answer_text.specs.Log.{ActTree, EventTree, Begins, Ends, log_tree, code_of, acts_over, shown_over, shown_reply, IsOrdered}
+use Rattle.answer_text.specs.declared.shown.Shown.{Shown}
+use Rattle.answer_text.specs.Log.{code_of, acts_over, shown_over, shown_reply, IsOrdered}
+use Rattle.mal_meaning.specs.declared.plan.Plan.{Plan}
+use Rattle.run_log.specs.Events.{ActTree, EventTree, Begins, Ends, log_tree}
 use Rattle.answer_text.specs.Layout.{reply_text, session_line, printed}
 use Rattle.sql_shell.specs.Served.{RiseFrom}
 use Rattle.sql_shell.specs.Work.{Counts, statement_work, statement_lost, run_work, run_lost}
@@ -149,8 +151,8 @@ pub record Tells (old new : Run) (s k : ℕ) (act : ActTree) (shown : Shown) : T
   pub work : new.work ≡ old.work
 
 -- the Begin and the End of statement k of session s are logged, its reply is written, and nothing else changes
-pub record TellsRead (old new : Run) (s k begin : ℕ) (shown : Shown) : Type 0 where
-  pub log : log_tree new.log.items ≡ log_tree old.log.items ++ events_of s k (Begins begin ∷ Ends (code_of shown) ∷ [])
+pub record TellsRead (old new : Run) (s k begin : ℕ) (plan : Option Plan) (shown : Shown) : Type 0 where
+  pub log : log_tree new.log.items ≡ log_tree old.log.items ++ events_of s k (Begins begin plan ∷ Ends (code_of shown) ∷ [])
   pub db : new.db ≡ old.db
   pub text : new.text.items ≡ old.text.items ++ reply_text k shown
   pub work : new.work ≡ old.work

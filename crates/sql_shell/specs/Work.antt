@@ -8,8 +8,9 @@ use Rattle.sql_semantics.specs.declared.refusal.Refusal.{Refusal}
 use Rattle.sql_tree.specs.Tree.{StmtTree}
 use Rattle.sql_tree.specs.Tree.StmtTree.{Select}
 use Rattle.mal_meaning.specs.Meaning.{plan_load}
-use Rattle.answer_text.specs.Plans.{plan_over}
-use Rattle.answer_text.specs.Log.{EventTree, refusal_over, tables_met}
+use Rattle.plan_queries.specs.Plans.{plan_over, refusal_over}
+use Rattle.answer_text.specs.Log.{tables_met}
+use Rattle.run_log.specs.Events.{EventTree}
 use Rattle.sql_shell.specs.Scripts.{AreTexts, AreRunnable}
 use Rattle.sql_shell.specs.Served.{AreRead, IsServed}
 

@@ -17,7 +17,7 @@ mod served;
 mod session;
 mod show;
 
-pub use answer_text::{Act, Event};
+pub use run_log::{Act, Event};
 pub use scripts::{
     STATUS_MEMORY, STATUS_NOT_TEXT, STATUS_SERVED, STATUS_TOO_LONG, STATUS_UNREAD,
     STATUS_UNWRITTEN, STATUS_WORDS,

@@ -1,13 +1,14 @@
 ghost use Rattle.std.specs.Prelude.{◌≤◌, length, All, IfOk};
-ghost use Rattle.answer_text.specs.Log.{log_tree};
+ghost use Rattle.run_log.specs.Events.{log_tree};
 ghost use Rattle.sql_shell.specs.Scripts.{names_of, pieces_in};
 ghost use Rattle.sql_shell.specs.Session.{Produces};
 
 use crate::scripts::Script;
 use crate::session::run_scripts;
-use answer_text::{Event, write_history};
+use answer_text::write_history;
 use bat_core::Operate;
 use cell_core::{Memory, Sequence, Steps};
+use run_log::Event;
 use std::alloc::Global;
 use std::sync::ledger::Ledger;
 

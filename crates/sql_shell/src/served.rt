@@ -2,7 +2,7 @@
 ghost use Rattle.std.specs.Prelude.{◌≡◌, ◌≤◌, ◌⊎◌, ◌+◌, ◌-◌, ℕ, List, [], ◌∷◌, length, take, All, IfSome, None, true};
 ghost use Rattle.std.specs.Io.KnownBytes.{Appends};
 ghost use Rattle.causes.specs.Faults.{AppendsPrefix, Rose};
-ghost use Rattle.answer_text.specs.Log.{log_tree};
+ghost use Rattle.run_log.specs.Events.{log_tree};
 ghost use Rattle.sql_shell.specs.Failures.{status_of, at_of};
 ghost use Rattle.sql_shell.specs.Scripts.{AreRunnable, AreTexts, AreToldFirst, CanBeRun, IsFirstUnfit, names_of, pieces_in};
 ghost use Rattle.sql_shell.specs.Served.{RiseFrom, is_status};
@@ -12,11 +12,11 @@ ghost use Rattle.sql_shell.specs.Work.{IsRun};
 
 use crate::produce::produce;
 use crate::scripts::{Failure, STATUS_SERVED, STATUS_UNWRITTEN, Script, read_scripts};
-use answer_text::Event;
 use bat_core::Operate;
 use causes::{Scripts, Sink, write_all};
 use cell_core::{Memory, Sequence, Steps, Word};
 use command_words::files_of;
+use run_log::Event;
 use std::alloc::Global;
 use std::sync::ledger::Ledger;
 

@@ -3,7 +3,8 @@ ghost use Rattle.sql_grammar.specs.Formed.{IsFormed};
 ghost use Rattle.sql_semantics.specs.Valid.{IsValid};
 ghost use Rattle.sql_tree.specs.Tree.{query_tree, stmt_tree};
 ghost use Rattle.sql_tree.specs.Tree.StmtTree.{Select, ExplainSelect};
-ghost use Rattle.answer_text.specs.Log.{Writes, act_tree, code_of, count_of};
+ghost use Rattle.answer_text.specs.Log.{code_of, count_of};
+ghost use Rattle.run_log.specs.Events.{Writes, act_tree};
 ghost use Rattle.sql_shell.specs.Scripts.{names_of, pieces_in};
 ghost use Rattle.sql_shell.specs.Session.{is_change, Follows, Serves, ServesPieces, HasServed, Changes, Notes, Tells, TellsRead, Adds};
 ghost use Rattle.sql_shell.specs.Work.{Counts, statement_work, statement_lost};
@@ -11,9 +12,11 @@ ghost use Rattle.sql_shell.specs.Work.{Counts, statement_work, statement_lost};
 use crate::effect::apply;
 use crate::scripts::Script;
 use crate::show::{code, count, show_explain, show_query, show_reply};
-use answer_text::{Act, Event, Shown, write_reply, write_session_line};
+use answer_text::{Shown, write_reply, write_session_line};
 use bat_core::Operate;
 use cell_core::{Db, Memory, Sequence, Steps, Word};
+use mal_meaning::Plan;
+use run_log::{Act, Event};
 use sql_kinds::statements_keep_valid;
 use sql_parse::{ParseError, parse};
 use sql_semantics::Refusal;
@@ -145,7 +148,7 @@ impl Run {
     {
         let answered = show_query(alloc, stmt, query, &self.db, kernel, steps)?;
         self.add_work(answered.work)?;
-        self.tell_read(alloc, s, k, answered.begin, &answered.shown)
+        self.tell_read(alloc, s, k, answered.begin, answered.plan, &answered.shown)
     }
 
     /// Serves an EXPLAIN of a query. `stmt` is its statement.
@@ -164,7 +167,7 @@ impl Run {
     {
         let shown = show_explain(alloc, stmt, query, &self.db)?;
         let begin = code(&shown);
-        self.tell_read(alloc, s, k, begin, &shown)
+        self.tell_read(alloc, s, k, begin, None, &shown)
     }
 
     /// Adds work. A sum past 128 bits is want of memory.
@@ -233,11 +236,12 @@ impl Run {
         s: u32,
         k: u32,
         begin: u8,
+        plan: Option<Plan>,
         shown: &Shown,
     ) -> Result<(), Memory>
-        ensures { OnOk result (TellsRead self.old self.new s k begin shown.now) }
+        ensures { OnOk result (TellsRead self.old self.new s k begin plan shown.now) }
     {
-        self.note(s, k, Act::Begin { code: begin })?;
+        self.note(s, k, Act::Begin { code: begin, plan })?;
         self.tell(alloc, s, k, Act::End { code: code(shown) }, shown)
     }
 

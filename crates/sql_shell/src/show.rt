@@ -1,19 +1,13 @@
 //! What queries and changes show.
-ghost use Rattle.std.specs.Prelude.{◌≡◌, Ok, Some, None, IfOk, IsSome};
-ghost use Rattle.std.specs.Option.{option_map};
-ghost use Rattle.cell_core.specs.declared.table.Db.{Db as DbSeen};
-ghost use Rattle.mal_check.specs.Checked.{plan_fault};
-ghost use Rattle.rows_to_mal.specs.Laws.{HoldsTables};
-ghost use Rattle.rows_to_mal.specs.Rows.{statement_scope};
-ghost use Rattle.answer_text.specs.Plans.{optimised_plan};
+ghost use Rattle.std.specs.Prelude.{◌≡◌, Ok, None, IfOk};
 ghost use Rattle.mal_meaning.specs.Meaning.{plan_load, plan_rows};
 ghost use Rattle.mal_meaning.specs.Runs.{Runs};
 ghost use Rattle.sql_grammar.specs.Formed.{IsFormed};
 ghost use Rattle.sql_semantics.specs.Valid.{IsValid};
-ghost use Rattle.sql_semantics.specs.Answer.{answer_of_stmt, query_of};
 ghost use Rattle.sql_tree.specs.Tree.{query_tree, stmt_tree};
 ghost use Rattle.sql_tree.specs.Tree.StmtTree.{Select, ExplainSelect};
-ghost use Rattle.answer_text.specs.Log.{begin_code, code_of, count_of, refusal_over, shown_over, shown_query, shown_reply};
+ghost use Rattle.answer_text.specs.Log.{begin_code, begin_plan, code_of, count_of, shown_over, shown_query, shown_reply};
+ghost use Rattle.plan_queries.specs.Plans.{plan_over, refusal_over};
 ghost use Rattle.sql_shell.specs.Work.{Counts, load_where, lost_where, statement_lost, statement_work};
 
 use crate::columns::DbColumns;
@@ -21,14 +15,12 @@ use crate::schema::schema_of;
 use answer_text::Shown;
 use bat_core::Operate;
 use cell_core::{Db, Memory, RunError, Sequence, Steps};
-use group_to_mal::compile_query;
-use mal_check::checked_plans_run;
 use mal_exec::run_plan;
 use mal_meaning::Plan;
-use mal_opt::optimise;
 use mal_print::print_mal;
+use plan_queries::plan_query;
 use sql_check::{CheckError, check};
-use sql_semantics::{Refusal, Reply, Typed};
+use sql_semantics::{Refusal, Reply};
 use sql_tree::{Query, Stmt};
 use std::alloc::Global;
 use std::sync::ledger::Ledger;
@@ -38,6 +30,8 @@ use std::sync::ledger::Ledger;
 pub struct Answered {
     /// 0, or the number of its refusal by the tables.
     pub begin: u8,
+    /// The plan by which it was run; None where it is refused.
+    pub plan: Option<Plan>,
     /// Its reply.
     pub shown: Shown,
     /// The work of its plan, which is 0 where it is refused, also for an overflow.
@@ -57,6 +51,7 @@ pub fn show_query<E: Operate, L: Ledger>(
     requires formed { IsFormed (stmt_tree stmt.now) }
     requires valid { IsValid db.now }
     ensures begin { IfOk result (λ answered. answered.begin ≡ begin_code (refusal_over db.now (Select (query_tree query.now)))) }
+    ensures plan { IfOk result (λ answered. answered.plan ≡ begin_plan (refusal_over db.now (Select (query_tree query.now))) (plan_over db.now (query_tree query.now))) }
     ensures shown { IfOk result (λ answered. answered.shown ≡ shown_over db.now (Ok (Select (query_tree query.now)))) }
     ensures work { IfOk result (λ answered. answered.work ≡ statement_work db.now (Ok (Select (query_tree query.now)))) }
     ensures counted { IfOk result (λ answered. Counts steps.old steps.new answered.work (statement_lost db.now (Ok (Select (query_tree query.now))))) }
@@ -64,16 +59,18 @@ pub fn show_query<E: Operate, L: Ledger>(
     let schema = schema_of(alloc, db)?;
     match check(alloc, stmt, &schema) {
         Ok(typed) => {
-            let plan = plan_of(alloc, &typed)?;
+            let plan = plan_query(alloc, &typed)?;
             let (shown, work) = show_plan(alloc, &plan, db, kernel, steps)?;
             Ok(Answered {
                 begin: 0,
+                plan: Some(plan),
                 shown,
                 work,
             })
         }
         Err(CheckError::Refused(refusal)) => Ok(Answered {
             begin: refusal.number(),
+            plan: None,
             shown: Shown::Refused(refusal),
             work: 0,
         }),
@@ -101,21 +98,6 @@ fn show_plan<E: Operate, L: Ledger>(
     }
 }
 
-/// The plan by which a checked query is run: its translation, optimised. `typed` is a SELECT or an EXPLAIN,
-/// over the tables of some valid database.
-fn plan_of(alloc: Global, typed: &Typed) -> Result<Plan, Memory>
-    requires query { IsSome (query_of (stmt_tree typed.now.stmt)) }
-    requires held { (db : DbSeen) × HoldsTables (stmt_tree typed.now.stmt) typed.now.sources db }
-    ensures plan { IfOk result (λ plan. option_map (optimised_plan (statement_scope (stmt_tree typed.now.stmt) typed.now.sources)) (query_of (stmt_tree typed.now.stmt)) ≡ Some plan) }
-    ensures checked { IfOk result (λ plan. plan_fault plan ≡ None) }
-    ensures meaning { IfOk result (λ plan. (db : DbSeen) → HoldsTables (stmt_tree typed.now.stmt) typed.now.sources db → plan_rows plan db ≡ answer_of_stmt (stmt_tree typed.now.stmt) db) }
-    ensures runs { IfOk result (λ plan. (db : DbSeen) → HoldsTables (stmt_tree typed.now.stmt) typed.now.sources db → Runs plan db) }
-{
-    checked_plans_run();
-    let plan = compile_query(alloc, typed)?;
-    optimise(alloc, &plan)
-}
-
 /// What an EXPLAIN of a query shows over a database. `stmt` is its statement.
 pub fn show_explain(alloc: Global, stmt: &Stmt, query: &Query, db: &Db) -> Result<Shown, Memory>
     requires explain { stmt_tree stmt.now ≡ ExplainSelect (query_tree query.now) }
@@ -126,7 +108,7 @@ pub fn show_explain(alloc: Global, stmt: &Stmt, query: &Query, db: &Db) -> Resul
     let schema = schema_of(alloc, db)?;
     match check(alloc, stmt, &schema) {
         Ok(typed) => {
-            let text = print_mal(alloc, &plan_of(alloc, &typed)?)?;
+            let text = print_mal(alloc, &plan_query(alloc, &typed)?)?;
             Ok(Shown::Plan(Sequence::from_vec(text)))
         }
         Err(CheckError::Refused(refusal)) => Ok(Shown::Refused(refusal)),

@@ -1,8 +1,8 @@
 use Rattle.std.proofs.Common.{◌≡◌, ◌∙◌, rules}
 use Rattle.std.specs.Prelude.{is_some}
 use Rattle.std.specs.List.{count_by}
-use Rattle.answer_text.specs.declared.event.Event.{Event}
-use Rattle.answer_text.specs.Log.{act_tree, committed}
+use Rattle.run_log.specs.declared.event.Event.{Event}
+use Rattle.run_log.specs.Events.{act_tree, committed}
 use Rattle.answer_text.proofs.ChangeLemmas.{count_by-committed}
 use Rattle.answer_text.proofs.history.count_changes.Goals as goal
 

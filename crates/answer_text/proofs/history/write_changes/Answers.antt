@@ -2,7 +2,7 @@ use Rattle.std.proofs.Common.{◌≡◌, ◌+◌, ◌++◌, ◌∷◌, [], Some,
 use Rattle.std.specs.Option.{option_copied, option_map}
 use Rattle.sql_tree.specs.Canon.{canonical}
 use Rattle.sql_tree.specs.Tree.{stmt_tree}
-use Rattle.answer_text.specs.Log.{act_tree, log_tree, committed}
+use Rattle.run_log.specs.Events.{act_tree, log_tree, committed}
 use Rattle.answer_text.specs.Layout.{Change, changes_of, change_from}
 use Rattle.answer_text.proofs.ChangeLemmas.{changes_of-passed, changes_of-more, lines_more, lines_from}
 use Rattle.answer_text.proofs.history.write_changes.Goals as goal

@@ -2,7 +2,7 @@ use Rattle.std.proofs.Common.{◌≡◌, ◌≤◌, ◌++◌, take, length}
 use Rattle.std.specs.Prelude.{flat_map}
 use Rattle.std.specs.List.{enumerate_from}
 use Rattle.answer_text.specs.Layout.{changes_of, change_line}
-use Rattle.answer_text.specs.Log.{log_tree}
+use Rattle.run_log.specs.Events.{log_tree}
 use Rattle.answer_text.proofs.history.write_changes.Given as goal
 
 abbrev pub invariant-loop-event : goal.invariant-loop-event

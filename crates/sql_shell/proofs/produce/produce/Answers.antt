@@ -1,6 +1,6 @@
 use Rattle.std.proofs.Common.{◌≡◌, List, ◌++◌, ap, sym, ◌∙◌, subst}
-use Rattle.answer_text.specs.declared.event.Event.{Event}
-use Rattle.answer_text.specs.Log.{log_tree}
+use Rattle.run_log.specs.declared.event.Event.{Event}
+use Rattle.run_log.specs.Events.{log_tree}
 use Rattle.answer_text.specs.Layout.{history_text}
 use Rattle.sql_shell.specs.Scripts.{names_of, pieces_in}
 use Rattle.sql_shell.specs.Session.{Produces}

@@ -1,7 +1,7 @@
 use Rattle.std.proofs.Common.{◌≡◌, ℕ, ◌+◌, ◌-◌, ◌≤◌, ◌⊎◌, inl, inr, List, Some, sym, ◌∙◌, subst, arith, ap}
 use Rattle.std.specs.Prelude.{length, take}
 use Rattle.std.specs.Io.KnownBytes.{Appends}
-use Rattle.answer_text.specs.Log.{log_tree}
+use Rattle.run_log.specs.Events.{log_tree}
 use Rattle.causes.specs.Faults.{AppendsPrefix, Rose}
 use Rattle.sql_shell.specs.Failures.{status_of, at_of, is_by_bytes}
 use Rattle.sql_shell.specs.Scripts.{AreCut, AreRunnable, AreTexts, AreToldFirst, CanBeRun, IsFirstUnfit}

@@ -2,10 +2,10 @@ use Rattle.std.proofs.Common.{◌≡◌, Some, None, ap, sym, ◌∙◌}
 use Rattle.mal_print.specs.Canon.{plan_text}
 use Rattle.sql_tree.specs.Tree.{query_tree, stmt_tree}
 use Rattle.sql_tree.specs.Tree.StmtTree.{ExplainSelect}
-use Rattle.answer_text.specs.declared.event.Shown.TheVariants as shown
-use Rattle.answer_text.specs.Log.{refusal_over, shown_explain}
-use Rattle.answer_text.specs.Plans.{plan_over}
-use Rattle.sql_shell.proofs.ShowLemmas.{explain_plan, held, refusal_found}
+use Rattle.answer_text.specs.declared.shown.Shown.TheVariants as shown
+use Rattle.answer_text.specs.Log.{shown_explain}
+use Rattle.plan_queries.specs.Plans.{plan_over, refusal_over}
+use Rattle.plan_queries.proofs.PlanLemmas.{explain_plan, held, refusal_found}
 use Rattle.sql_shell.proofs.show.show_explain.Goals as goal
 
 pub returns-in-Ok : goal.returns-in-Ok

@@ -5,12 +5,12 @@ use Rattle.mal_meaning.specs.declared.plan.Plan.{Plan}
 use Rattle.mal_meaning.specs.Meaning.{plan_load, plan_rows}
 use Rattle.sql_tree.specs.Tree.{query_tree, stmt_tree}
 use Rattle.sql_tree.specs.Tree.StmtTree.{Select}
-use Rattle.answer_text.specs.Log.{begin_code, refusal_over, shown_query}
+use Rattle.answer_text.specs.Log.{begin_code, begin_plan, shown_query}
 use Rattle.sql_semantics.specs.declared.refusal.Refusal.{Refusal}
-use Rattle.answer_text.specs.Plans.{plan_over}
+use Rattle.plan_queries.specs.Plans.{plan_over, refusal_over}
 use Rattle.sql_shell.specs.Work.{Counts, load_where, lost_where}
 use Rattle.sql_shell.proofs.ServedLemmas.{counts_as, counts_none}
-use Rattle.sql_shell.proofs.ShowLemmas.{planned, refusal_found}
+use Rattle.plan_queries.proofs.PlanLemmas.{planned, refusal_found}
 use Rattle.sql_shell.proofs.show.show_query.Goals as goal
 
 pub returns-in-Ok-clause-begin : goal.returns-in-Ok-clause-begin
@@ -18,6 +18,15 @@ returns-in-Ok-clause-begin g c =
     let query = query_tree c.args.query.now in
     let found : refusal_over c.args.db.now (Select query) ≡ None = refusal_found (stmt_tree c.args.stmt.now) (Select query) c.in_ok-schema.schema c.args.db.now None c.in_ok-schema.ensures c.requires.select c.in-Ok.ensures.accepted in
     ap begin_code (sym found)
+
+pub returns-in-Ok-clause-plan : goal.returns-in-Ok-clause-plan
+returns-in-Ok-clause-plan g c =
+    let db = c.args.db.now in
+    let query = query_tree c.args.query.now in
+    let known = planned db (stmt_tree c.in-Ok.typed.stmt) (stmt_tree c.args.stmt.now) query c.in-Ok.typed.sources c.in_ok-schema.schema c.in_ok-plan-in-Ok.plan c.requires.valid c.in-Ok.ensures.statement c.requires.select c.in_ok-schema.ensures c.in-Ok.ensures.sources
+    c.in_ok-plan-in-Ok.ensures.plan c.in_ok-plan-in-Ok.ensures.meaning in
+    let found : refusal_over db (Select query) ≡ None = refusal_found (stmt_tree c.args.stmt.now) (Select query) c.in_ok-schema.schema db None c.in_ok-schema.ensures c.requires.select c.in-Ok.ensures.accepted in
+    ap Some known.is ∙ ap (λ refusal. begin_plan refusal (plan_over db query)) (sym found)
 
 pub returns-in-Ok-clause-shown : goal.returns-in-Ok-clause-shown
 returns-in-Ok-clause-shown g c =
@@ -60,6 +69,13 @@ returns-in-Err-Refused-clause-begin g c =
     let found : refusal_over c.args.db.now (Select query) ≡ Some refusal = refusal_found (stmt_tree c.args.stmt.now) (Select query) c.in_ok-schema.schema c.args.db.now (Some refusal) c.in_ok-schema.ensures c.requires.select (c.check.ensures.refused refusal (cc (c.in-Err-Refused.is, c.in-Err-Refused.field-0-is))) in
     let numbered : c.number.result ≡ refusal_number refusal = rw c.in-Err-Refused.field-0-is at c.number.ensures in
     numbered ∙ ap begin_code (sym found)
+
+pub returns-in-Err-Refused-clause-plan : goal.returns-in-Err-Refused-clause-plan
+returns-in-Err-Refused-clause-plan g c =
+    let query = query_tree c.args.query.now in
+    let refusal = c.in-Err-Refused.refusal in
+    let found : refusal_over c.args.db.now (Select query) ≡ Some refusal = refusal_found (stmt_tree c.args.stmt.now) (Select query) c.in_ok-schema.schema c.args.db.now (Some refusal) c.in_ok-schema.ensures c.requires.select (c.check.ensures.refused refusal (cc (c.in-Err-Refused.is, c.in-Err-Refused.field-0-is))) in
+    ap (λ found. begin_plan found (plan_over c.args.db.now query)) (sym found)
 
 pub returns-in-Err-Refused-clause-shown : goal.returns-in-Err-Refused-clause-shown
 returns-in-Err-Refused-clause-shown g c =

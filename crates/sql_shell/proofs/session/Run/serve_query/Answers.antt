@@ -8,8 +8,8 @@ pub returns-clause-follows : goal.returns-clause-follows
 returns-clause-follows g c =
     let answered = c.in_ok-answered.answered in
     on_ok_weaker c.tell_read.result
-    (λ tells. query_served c.args.self.now c.add_work.new.self c.tell_read.new.self c.args.s c.args.k answered.work answered.begin answered.shown (query_tree c.args.query.now)
-    c.in_ok-add_work.ensures tells c.in_ok-answered.ensures.shown c.in_ok-answered.ensures.work c.in_ok-answered.ensures.begin)
+    (λ tells. query_served c.args.self.now c.add_work.new.self c.tell_read.new.self c.args.s c.args.k answered.work answered.begin answered.plan answered.shown (query_tree c.args.query.now)
+    c.in_ok-add_work.ensures tells c.in_ok-answered.ensures.shown c.in_ok-answered.ensures.work c.in_ok-answered.ensures.begin c.in_ok-answered.ensures.plan)
     c.tell_read.ensures
 
 pub returns-clause-counted : goal.returns-clause-counted

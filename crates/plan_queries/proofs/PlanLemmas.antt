@@ -13,7 +13,7 @@ use Rattle.sql_semantics.specs.Valid.{IsValid}
 use Rattle.mal_meaning.specs.Meaning.{plan_rows}
 use Rattle.rows_to_mal.specs.Laws.{HoldsTables}
 use Rattle.sql_semantics.specs.declared.source.Source.{Source}
-use Rattle.answer_text.specs.Plans.{optimised_plan, plan_over, sources_over}
+use Rattle.plan_queries.specs.Plans.{optimised_plan, plan_over, refusal_over, sources_over}
 use Rattle.sql_tree.specs.Tree.{QueryTree}
 use Rattle.sql_tree.specs.Tree.StmtTree.{Select, ExplainSelect}
 use Rattle.sql_semantics.specs.Check.{check_refusal, sources_named, tables_of}
@@ -21,7 +21,6 @@ use Rattle.sql_semantics.specs.Sources.{schema_of}
 use Rattle.sql_semantics.specs.declared.refusal.Refusal.{Refusal}
 use Rattle.sql_semantics.specs.declared.source.Schema.{Schema}
 use Rattle.sql_tree.specs.Tree.{StmtTree}
-use Rattle.answer_text.specs.Log.{refusal_over}
 
 -- what was found of the statement over the database's schema
 pub refusal_found : (statement other : StmtTree) (schema : Schema) (db : Db) (found : Option Refusal) → schema ≡ schema_of db → statement ≡ other → check_refusal statement schema ≡ found → refusal_over db other ≡ found

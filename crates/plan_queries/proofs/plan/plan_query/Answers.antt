@@ -1,8 +1,8 @@
 use Rattle.std.proofs.Common.{◌≡◌, Some}
 use Rattle.std.proofs.lemmas.Result.{IfOk-weaker}
 use Rattle.sql_tree.specs.Tree.{stmt_tree}
-use Rattle.sql_shell.proofs.ShowLemmas.{optimised_is}
-use Rattle.sql_shell.proofs.show.plan_of.Goals as goal
+use Rattle.plan_queries.proofs.PlanLemmas.{optimised_is}
+use Rattle.plan_queries.proofs.plan.plan_query.Goals as goal
 
 pub returns-clause-plan : goal.returns-clause-plan
 returns-clause-plan c = IfOk-weaker c.optimise.result _ _

@@ -1,0 +1,17 @@
+use cell_core::{Cell, Sequence};
+use sql_semantics::Refusal;
+
+/// The reply to one statement.
+#[derive(Debug, Drop)]
+pub enum Shown {
+    /// Done.
+    Done,
+    /// Done, with this many rows inserted, deleted or updated.
+    Count(u64),
+    /// The rows of a query, in the order in which they are printed.
+    Rows(Sequence<Sequence<Cell>>),
+    /// The text of a plan, of which each line ends with LF.
+    Plan(Sequence<u8>),
+    /// Refused.
+    Refused(Refusal),
+}

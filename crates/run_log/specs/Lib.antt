@@ -1,0 +1,5 @@
+pub mod Events
+pub mod Touches
+pub mod Totals
+pub mod Fold
+pub mod Laws

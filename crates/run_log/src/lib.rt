@@ -1,0 +1,16 @@
+//! The log of a run, and what it leads to.
+//!
+//! Each thing that a session does to what all sessions share is one event, and the log is the list of
+//! them. `specs/Fold` says what a log leads to, event by event: the tables, the version of each column,
+//! the pool, every id that was given out with its key and value, and the totals. Nothing else is known
+//! of a run: where code keeps tables, a pool or counters, they are what the fold of its log says. The
+//! laws say that this stays sound: each pooled value is the worth of its id, which stays for good, each
+//! pooled bind has the present version of its column and its present cells, and the pool keeps its bounds.
+#![tactic(auto)]
+
+mod event;
+mod laws;
+mod totals;
+
+pub use event::{Act, Event, Looked, Totals};
+pub use laws::{logs_tell, steps_keep};
