@@ -44,24 +44,36 @@ pub changes_of-more : (log : List Event) (i : ℕ) (event : Event) (change : Cha
 changes_of-more log i event change within is some =
     changes_of-take log i event within is ∙ ap (λ o. changes_of (log_tree (take i log)) ++ cons_option o []) some
 
--- the lines of changes, numbered from a number on
+-- ## Lines
+
+-- the lines of things, numbered from a number on
+abbrev pub lines_by : {X : Type 0} → (ℕ → X → List ℕ) → ℕ → List X → List ℕ
+lines_by line n xs = flat_map (λ (i, x). line i x) (enumerate_from n xs)
+
 abbrev pub lines_from : ℕ → List Change → List ℕ
-lines_from n changes = flat_map (λ (i, change). change_line i change) (enumerate_from n changes)
+lines_from n changes = lines_by change_line n changes
 
--- the last line
-pub lines_from-append : (n : ℕ) (changes : List Change) (change : Change) → lines_from n (changes ++ change ∷ []) ≡ lines_from n changes ++ change_line (n + length changes) change
-lines_from-append n [] change = ap (λ k. change_line k change ++ []) (sym (add-zero n)) ∙ append-nil _
-lines_from-append n (c ∷ cs) change =
-    let place : n + 1 + length cs ≡ n + suc (length cs) = omega arith in
-    ap (λ t. change_line n c ++ t) (lines_from-append (n + 1) cs change ∙ ap (λ k. lines_from (n + 1) cs ++ change_line k change) place)
-    ∙ sym (append_assoc (change_line n c) (lines_from (n + 1) cs) (change_line (n + suc (length cs)) change))
+module _ {X : Type 0} (line : ℕ → X → List ℕ) where
+  -- the last line
+  pub lines_by-append : (n : ℕ) (xs : List X) (x : X) → lines_by line n (xs ++ x ∷ []) ≡ lines_by line n xs ++ line (n + length xs) x
+  lines_by-append n [] x = ap (λ k. line k x ++ []) (sym (add-zero n)) ∙ append-nil _
+  lines_by-append n (c ∷ cs) x =
+      let place : n + 1 + length cs ≡ n + suc (length cs) = omega arith in
+      ap (λ t. line n c ++ t) (lines_by-append (n + 1) cs x ∙ ap (λ k. lines_by line (n + 1) cs ++ line k x) place)
+      ∙ sym (append_assoc (line n c) (lines_by line (n + 1) cs) (line (n + suc (length cs)) x))
 
--- one line more
-pub lines_more : (start old new : List ℕ) (count : ℕ) (before after : List Change) (change : Change) → count ≡ length before → after ≡ before ++ change ∷ []
-    → old ≡ start ++ lines_from 1 before → new ≡ old ++ change_line (count + 1) change → new ≡ start ++ lines_from 1 after
-lines_more start old new count before after change counted more so_far next =
-    let place : count + 1 ≡ 1 + length before = omega arith in
-    next
-    ∙ ap (λ t. t ++ change_line (count + 1) change) so_far
-    ∙ append_assoc start (lines_from 1 before) (change_line (count + 1) change)
-    ∙ ap (λ t. start ++ t) (ap (λ k. lines_from 1 before ++ change_line k change) place ∙ sym (lines_from-append 1 before change) ∙ ap (λ cs. lines_from 1 cs) (sym more))
+  -- one line more
+  pub lines_more : (start old new : List ℕ) (count : ℕ) (before after : List X) (x : X) → count ≡ length before → after ≡ before ++ x ∷ []
+      → old ≡ start ++ lines_by line 1 before → new ≡ old ++ line (count + 1) x → new ≡ start ++ lines_by line 1 after
+  lines_more start old new count before after x counted more so_far next =
+      let place : count + 1 ≡ 1 + length before = omega arith in
+      next
+      ∙ ap (λ t. t ++ line (count + 1) x) so_far
+      ∙ append_assoc start (lines_by line 1 before) (line (count + 1) x)
+      ∙ ap (λ t. start ++ t) (ap (λ k. lines_by line 1 before ++ line k x) place ∙ sym (lines_by-append 1 before x) ∙ ap (λ cs. lines_by line 1 cs) (sym more))
+
+-- one event more of a log
+pub tree_more : (log : List Event) (i : ℕ) (event : Event) → i < length log → event ≡ get_or log i event → log_tree (take (i + 1) log) ≡ log_tree (take i log) ++ event_tree event ∷ []
+tree_more log i event within is =
+    ap log_tree (take_more log i event within) ∙ map-append event_tree (take i log) (get_or log i event ∷ [])
+    ∙ ap (λ e. log_tree (take i log) ++ event_tree e ∷ []) (sym is)

@@ -26,12 +26,10 @@ pub fn write_log(alloc: Global, log: &[Event], out: &mut Vec<u8>) -> Result<(), 
 fn write_events(log: &[Event], out: &mut Vec<u8>) -> Result<(), Memory>
     ensures { OnOk result (out.new.items ≡ out.old.items ++ flat_map (λ (i, event). event_line i event) (enumerate_from 1 (log_tree log.now))) }
 {
-    let mut rest = log;
-    let mut place = 1;
-    'events: while let [event, more @ ..] = rest {
-        write_event(place, event, out)?;
-        rest = more;
-        place += 1;
+    let mut count = 0;
+    for event in log {
+        count += 1;
+        write_event(count, event, out)?;
     }
     Ok(())
 }

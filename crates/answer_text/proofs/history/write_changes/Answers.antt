@@ -3,7 +3,7 @@ use Rattle.std.specs.Option.{option_copied, option_map}
 use Rattle.sql_tree.specs.Canon.{canonical}
 use Rattle.sql_tree.specs.Tree.{stmt_tree}
 use Rattle.run_log.specs.Events.{act_tree, log_tree, committed}
-use Rattle.answer_text.specs.Layout.{Change, changes_of, change_from}
+use Rattle.answer_text.specs.Layout.{Change, changes_of, change_from, change_line}
 use Rattle.answer_text.proofs.ChangeLemmas.{changes_of-passed, changes_of-more, lines_more, lines_from}
 use Rattle.answer_text.proofs.history.write_changes.Goals as goal
 
@@ -27,5 +27,5 @@ loop-event-preserved c =
     record {
       counted = counted;
       few = omega arith;
-      so_far = lines_more c.args.out.now.items _ _ c.loop-event.count _ _ change c.loop-event.invariant.counted more c.loop-event.invariant.so_far c.in_ok-write_change.ensures;
+      so_far = lines_more change_line c.args.out.now.items _ _ c.loop-event.count _ _ change c.loop-event.invariant.counted more c.loop-event.invariant.so_far c.in_ok-write_change.ensures;
     }
