@@ -1,5 +1,5 @@
 -- What the private calls speak of, as the policy has it.
-use Rattle.std.specs.Prelude.{◌≡◌, ℕ, List, [], ◌∷◌, map, sum_by, Bool, true, false, Option}
+use Rattle.std.specs.Prelude.{ℕ, List, [], ◌∷◌, map, sum_by, Bool, true, false, Option}
 use Rattle.std.specs.Option.{option_map, option_map_or}
 use Rattle.cell_core.specs.declared.operator.Op.{Op}
 use Rattle.cell_core.specs.declared.operator.Op.TheVariants as op

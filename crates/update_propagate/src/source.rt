@@ -1,11 +1,11 @@
 //! The arguments of touched entries, as far as they came back or aren't touched.
-ghost use Rattle.std.specs.Prelude.{◌≡◌, IfOk, if◌then◌else◌, map};
+ghost use Rattle.std.specs.Prelude.{◌≡◌, IfOk, map};
 ghost use Rattle.std.specs.Option.{option_map};
 ghost use Rattle.cell_core.specs.Calc.{all_or_none};
 ghost use Rattle.pool_policy.specs.Keyed.{entry_of_id};
 ghost use Rattle.pool_policy.specs.Writes.{return_of};
 ghost use Rattle.pool_policy.specs.Writes.Source.{Grown as GrownSource, Same as SameSource};
-ghost use Rattle.update_propagate.specs.Views.{return_in, returns_in, source_at, source_in};
+ghost use Rattle.update_propagate.specs.Views.{returns_in, source_at, source_in};
 
 use crate::back::{Back, find_back};
 use crate::write::Write;

@@ -1,6 +1,3 @@
-use Rattle.std.proofs.Common.{drop, ap, ◌∙◌}
-use Rattle.std.specs.List.{zip}
-use Rattle.cell_core.specs.Pairs.{heads_of, tails_of}
 use Rattle.update_propagate.proofs.Listed.{pairs_behind}
 use Rattle.update_propagate.proofs.rows.rows_behind.Goals as goal
 
