@@ -3,5 +3,4 @@ pub mod KindLemmas
 pub mod ScriptLemmas
 pub mod ServedLemmas
 pub mod SessionLemmas
-pub mod ShowLemmas
 pub mod TextLemmas

@@ -13,9 +13,9 @@ returns-in-Ok c =
     let db = c.args.db.now in
     let query = query_tree c.args.query.now in
     let own = stmt_tree c.in-Ok.typed.stmt in
-    let plan = c.in_ok-plan_of-in-Ok.field-0 in
+    let plan = c.in_ok-plan_query-in-Ok.field-0 in
     let tables = (held db own (stmt_tree c.args.stmt.now) c.in-Ok.typed.sources c.in_ok-schema.schema c.requires.valid c.in-Ok.ensures.statement c.in_ok-schema.ensures c.in-Ok.ensures.sources).tables in
-    let is : plan ≡ plan_over db query = explain_plan db own c.in-Ok.typed.sources query plan (c.in-Ok.ensures.statement ∙ c.requires.explain) tables c.in_ok-plan_of-in-Ok.ensures.plan in
+    let is : plan ≡ plan_over db query = explain_plan db own c.in-Ok.typed.sources query plan (c.in-Ok.ensures.statement ∙ c.requires.explain) tables c.in_ok-plan_query-in-Ok.ensures.plan in
     let found : refusal_over db (ExplainSelect query) ≡ None = refusal_found (stmt_tree c.args.stmt.now) (ExplainSelect query) c.in_ok-schema.schema db None c.in_ok-schema.ensures c.requires.explain c.in-Ok.ensures.accepted in
     ap shown.Plan (c.from_vec.ensures ∙ c.in_ok-text-in-Ok.ensures ∙ ap plan_text is) ∙ ap (λ refusal. shown_explain refusal (plan_text (plan_over db query))) (sym found)
 
