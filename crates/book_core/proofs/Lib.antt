@@ -1,0 +1,7 @@
+pub mod OpenLemmas
+pub mod BookLemmas
+pub mod SourceLemmas
+pub mod LookedLemmas
+pub mod AdmitLemmas
+pub mod GoneLemmas
+pub mod AdmitBook

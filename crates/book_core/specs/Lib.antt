@@ -1,0 +1,6 @@
+pub mod BookView
+pub mod Answers
+pub mod Offers
+pub mod Begins
+pub mod Versions
+pub mod Kept

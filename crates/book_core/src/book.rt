@@ -1,0 +1,141 @@
+ghost use Rattle.std.specs.Prelude.{◌≡◌, ◌<◌, ◌≤◌, ◌^◌, [], ◌∷◌, ◌++◌, length, true, None, Some, IfOk, OnOk, OnErr};
+ghost use Rattle.pool_policy.specs.Looks.{look_of};
+ghost use Rattle.recycle_pool.specs.Answers.{HandsOut, told};
+ghost use Rattle.sql_semantics.specs.Refusals.{refusal_number};
+ghost use Rattle.run_log.specs.declared.event.Act.TheVariants as act;
+ghost use Rattle.run_log.specs.Events.{looked_of};
+ghost use Rattle.book_core.specs.BookView.{event_of, is_open, state_of};
+
+use crate::events::{SESSIONS, count_event, event, looked, make_room, push_event};
+use cell_core::Memory;
+use lineage_key::Key;
+use pool_policy::{PoolOptions, Who};
+use recycle_pool::{Found, Part, Pool};
+use run_log::{Act, Event, Totals};
+use sql_semantics::Refusal;
+use std::alloc::Global;
+use std::marker::Model;
+use table_store::Store;
+
+/// What the sessions of a run share, and the log of what they did.
+#[derive(Drop)]
+pub struct Book {
+    pub(crate) store: Store,
+    pub(crate) pool: Pool,
+    pub(crate) log: Vec<Event>,
+    pub(crate) totals: Totals,
+    pub(crate) begun: [bool; 17],
+}
+
+impl Model for Book {
+    ghost use Rattle.book_core.specs.BookView.{BookView};
+
+    ghost Value = { BookView };
+
+    ghost use Rattle.sql_tree.specs.contracts.tree.Cond as cond;
+    ghost use Rattle.sql_tree.specs.contracts.tree.Expr as expr;
+    ghost use Rattle.std.specs.Coded.{codes};
+
+    ghost coded = { Prim.hlevel (codes, cond.the_row.coded, expr.the_row.coded) };
+
+    ghost use Rattle.book_core.specs.Kept.{book_shown, IsBook};
+
+    ghost view = { book_shown };
+
+    ghost invariant = { IsBook };
+}
+
+impl Book {
+    /// A book without events.
+    pub fn new(alloc: Global, options: PoolOptions) -> Result<Book, Memory>
+        requires places { options.places ≤ 1024 }
+        requires budget { options.budget ≤ 2 ^ 40 }
+        ensures { IfOk result (λ book. book ≡ record { options = options; log = [] }) }
+    {
+        let pool = Pool::new(alloc, options)?;
+        Ok(Book {
+            store: Store::new(alloc),
+            pool,
+            log: Vec::new(alloc),
+            totals: Totals::new(),
+            begun: [false; SESSIONS],
+        })
+    }
+
+    /// What is pooled for a key, by the policy. `parts` gets the pieces of a cover.
+    pub fn look(
+        &mut self,
+        who: Who,
+        instr: u32,
+        key: Key,
+        parts: &mut Vec<Part>,
+    ) -> Result<Found, Memory>
+        requires session { who.session < 17 }
+        requires empty { parts.old.items ≡ [] }
+        ensures options { self.new.options ≡ self.old.options }
+        ensures logged { OnOk result (self.new.log ≡ self.old.log ++ event_of who (act.Look instr key (looked_of (look_of (state_of self.old).pool key))) ∷ []) }
+        ensures found { IfOk result (λ found. told found parts.new.items ≡ look_of (state_of self.old).pool key) }
+        ensures values { IfOk result (λ found. HandsOut (state_of self.old).pool.entries found parts.new.items) }
+        ensures same { OnErr result (self.new ≡ self.old) }
+        ensures none { OnErr result (parts.new.items ≡ []) }
+    {
+        make_room(&mut self.log)?;
+        let now = self.log.len() as u64 + 1;
+        let found = self.pool.look(who, now, &key, parts)?;
+        let looked = looked(&found);
+        self.totals.note_look(looked);
+        count_event(&mut self.totals, &self.pool);
+        let act = Act::Look {
+            instr,
+            key,
+            found: looked,
+        };
+        let _ = push_event(&mut self.log, event(who, act));
+        Ok(found)
+    }
+
+    /// The end of a query that has begun: what its session holds is held no more. Takes no memory.
+    pub fn end(&mut self, who: Who, code: u8)
+        requires session { who.session < 17 }
+        requires open { is_open who.session self.old ≡ true }
+        ensures options { self.new.options ≡ self.old.options }
+        ensures logged { self.new.log ≡ self.old.log ++ event_of who (act.End code) ∷ [] }
+    {
+        self.pool.release(who.session);
+        count_event(&mut self.totals, &self.pool);
+        self.begun[who.session as usize] = false;
+        let _ = push_event(&mut self.log, event(who, Act::End { code }));
+    }
+
+    /// A text that is refused.
+    pub fn refuse(&mut self, who: Who, refusal: &Refusal) -> Result<(), Memory>
+        requires { who.session < 17 }
+        ensures options { self.new.options ≡ self.old.options }
+        ensures logged { OnOk result (self.new.log ≡ self.old.log ++ event_of who (act.Write None (refusal_number refusal.now) 0) ∷ []) }
+        ensures same { OnErr result (self.new ≡ self.old) }
+    {
+        make_room(&mut self.log)?;
+        count_event(&mut self.totals, &self.pool);
+        let act = Act::Write {
+            stmt: None,
+            code: refusal.number(),
+            count: 0,
+        };
+        let _ = push_event(&mut self.log, event(who, act));
+        Ok(())
+    }
+
+    /// The totals, of whose work the part of writes alone is told. Takes no memory.
+    pub fn totals(&self) -> Totals
+        ensures { result ≡ (state_of self.now).totals }
+    {
+        self.totals
+    }
+
+    /// The log. Takes no memory.
+    pub fn log(&self) -> &[Event]
+        ensures { result.now ≡ self.now.log }
+    {
+        self.log.as_slice()
+    }
+}
