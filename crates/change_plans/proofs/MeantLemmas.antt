@@ -55,9 +55,9 @@ module _ (s : StmtTree) (sources : List Source) (db : Db) (w : is_write s ≡ tr
   only_named = tables ∙ ap (λ names. sources_named names (schema_of db)) (one_named s w)
 
   -- the statement's one table is in the database
-  record There : Type 0 where
-    table : Table
-    found : named_table (changed_table s) db ≡ Some table
+  pub record There : Type 0 where
+    pub table : Table
+    pub found : named_table (changed_table s) db ≡ Some table
 
   module _ (table : Table) (found : named_table (changed_table s) db ≡ Some table) where
     sources_are : sources ≡ as_source table ∷ []
@@ -98,7 +98,7 @@ not_there (Select query) schema w e f = cc
 not_there (ExplainSelect query) schema w e f = cc
 
 module _ (s : StmtTree) (sources : List Source) (db : Db) (w : is_write s ≡ true) (tables : sources ≡ sources_named (tables_of s) (schema_of db)) (accepts : check_refusal s (record { tables = sources }) ≡ None) where
-  there : There s sources db w tables
+  pub there : There s sources db w tables
   there = by_found (named_table (changed_table s) db) refl
     where
       by_found : (o : Option Table) → named_table (changed_table s) db ≡ o → There s sources db w tables

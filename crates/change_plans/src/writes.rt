@@ -138,13 +138,15 @@ fn decide_from(alloc: Global, typed: &Typed, rows: &[Sequence<Cell>]) -> Result<
     }
 }
 
-/// Decides a checked DELETE or UPDATE from the rows of its plan alone.
+/// Decides a checked DELETE or UPDATE from the rows of its plan alone: a DELETE takes rows away, and an
+/// UPDATE sets the columns that it names, or is refused.
 ///
 /// Where these are the plan's rows over a valid database that has the statement's table, what is decided
 /// leaves of the table what SQL says, the rows that it touches are there, and the statement's effect on the
 /// database is that change of the table.
 pub fn decide(alloc: Global, typed: &Typed, rows: &[Sequence<Cell>]) -> Result<Decided, Memory>
     requires { is_write (stmt_tree typed.now.stmt) ≡ true }
+    ensures decided { IfOk result (λ decided. decided ≡ decided_by (stmt_tree typed.now.stmt) (own_columns_of typed.now.sources) rows.now) }
     ensures table { IfOk result (λ decided. (db : DbSeen) (table : TableSeen) → HoldsTables (stmt_tree typed.now.stmt) typed.now.sources db → named_table (changed_table (stmt_tree typed.now.stmt)) db ≡ Some table
         → plan_rows (write_plan (stmt_tree typed.now.stmt) typed.now.sources) db ≡ Some rows.now → left_by decided table ≡ change_of (stmt_tree typed.now.stmt) table) }
     ensures in_place { IfOk result (λ decided. (db : DbSeen) (table : TableSeen) → HoldsTables (stmt_tree typed.now.stmt) typed.now.sources db → named_table (changed_table (stmt_tree typed.now.stmt)) db ≡ Some table

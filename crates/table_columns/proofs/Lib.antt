@@ -3,3 +3,4 @@ pub mod StampLemmas
 pub mod ColumnLemmas
 pub mod GrownLemmas
 pub mod ChangedLemmas
+pub mod MadeLemmas

@@ -20,7 +20,7 @@ length_replicate : {X : Type 0} (n : ℕ) (x : X) → length (replicate n x) ≡
 length_replicate zero x = refl
 length_replicate (suc n) x = ap suc (length_replicate n x)
 
-tails_long : (n : ℕ) (b : Pairs) → IsColumn n b → length (tails_of b) ≡ n
+pub tails_long : (n : ℕ) (b : Pairs) → IsColumn n b → length (tails_of b) ≡ n
 tails_long n b is = length-tails b ∙ is.cells
 
 -- as many rows as each column has cells

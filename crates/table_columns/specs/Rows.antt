@@ -1,7 +1,8 @@
 -- Rows that are kept as columns.
-use Rattle.std.specs.Prelude.{◌≡◌, ℕ, List, [], ◌∷◌, length, replicate, if◌then◌else◌, bytes_eq}
+use Rattle.std.specs.Prelude.{◌≡◌, ℕ, List, [], ◌∷◌, length, map, replicate, if◌then◌else◌, bytes_eq, slice_index_or}
 use Rattle.std.specs.List.{AllByRecursion, list_any}
 use Rattle.cell_core.specs.declared.cell.Cell.{Cell}
+use Rattle.cell_core.specs.declared.cell.Cell.TheVariants.{Nil}
 use Rattle.cell_core.specs.declared.table.Column.{Column}
 use Rattle.cell_core.specs.Pairs.{Pairs, tails_of, numbered}
 
@@ -33,6 +34,10 @@ before_rows (cell ∷ cells) (row ∷ rows) = (cell ∷ row) ∷ before_rows cel
 abbrev pub rows_beside : ℕ → List Pairs → List (List Cell)
 rows_beside count [] = replicate count []
 rows_beside count (column ∷ columns) = before_rows (tails_of column) (rows_beside count columns)
+
+-- the cells of columns at a place
+abbrev pub row_cells : ℕ → List Pairs → List Cell
+row_cells at columns = map (λ (column : Pairs). slice_index_or (tails_of column) at Nil) columns
 
 -- the cells of a column are so many, each beside its number
 pub record IsColumn (count : ℕ) (column : Pairs) : Type 0 where

@@ -43,8 +43,8 @@ fn followed_column(
     numbered_column(alloc, cells)
 }
 
-/// The cells of rows at a place.
-fn cells_at(alloc: Global, rows: &[Sequence<Cell>], place: usize) -> Result<Cells, Memory>
+/// The cells of rows at a place, Nil for a row that is shorter.
+pub fn cells_at(alloc: Global, rows: &[Sequence<Cell>], place: usize) -> Result<Cells, Memory>
     ensures { IfOk result (λ cells. cells ≡ column_cells place rows.now) }
 {
     let mut cells = CellsBuilder::new(alloc);

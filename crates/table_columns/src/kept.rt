@@ -10,6 +10,7 @@ use crate::grow::followed_columns;
 use crate::parts::{
     columns_and, copy_versions, empty_columns, share_at, share_columns, versions_and_zero, zeros,
 };
+use crate::rows::rows_of;
 use crate::set::changed_columns;
 use crate::shrink::{count_left, left_columns};
 use crate::stamp::stamp_versions;
@@ -73,6 +74,13 @@ impl Kept {
         ensures { IfOk result (λ column. column ≡ numbered (column_cells place self.now.rows)) }
     {
         share_at(&self.columns, place)
+    }
+
+    /// The rows, made anew.
+    pub fn rows(&self, alloc: Global) -> Result<Sequence<Sequence<Cell>>, Memory>
+        ensures { IfOk result (λ rows. rows ≡ self.now.rows) }
+    {
+        rows_of(alloc, &self.columns, self.count)
     }
 
     /// The same rows, in columns that both share.

@@ -9,8 +9,10 @@
 mod grow;
 mod kept;
 mod parts;
+mod rows;
 mod set;
 mod shrink;
 mod stamp;
 
+pub use grow::cells_at;
 pub use kept::Kept;

@@ -56,6 +56,9 @@ module _ (name : List ℕ) (db : Db) (at : table_place name db.tables ≡ None) 
   pub count_none : row_count name db ≡ 0
   count_none = ap (λ (found : Option Table). option_map_or (λ (t : Table). length t.rows) found 0) nothing_there
 
+  pub rows_none : rows_of name db ≡ []
+  rows_none = ap (λ (found : Option Table). option_map_or (λ (t : Table). t.rows) found []) nothing_there
+
   pub whole_none : whole_columns name db ≡ []
   whole_none = ap (λ (found : Option Table). option_map_or (λ (t : Table). columns_beside 0 t.columns t.rows) found []) nothing_there
 

@@ -7,10 +7,10 @@ use Rattle.std.proofs.lemmas.Slice.Eq.{bytes_eq-Decides}
 use Rattle.cell_core.specs.declared.table.Db.{Db}
 use Rattle.table_columns.specs.Rows.{KeptTable}
 use Rattle.table_store.specs.declared.heading.Heading.{Heading}
-use Rattle.table_store.specs.declared.touched.Touched.{Touched}
+use Rattle.pool_policy.specs.declared.touched.Touched.{Touched}
 use Rattle.table_store.specs.Content.{has_column, version_in}
 use Rattle.table_store.specs.Kept.{AreKept, heading_place, stamped_at, tables_from}
-use Rattle.table_store.specs.Touches.{is_of}
+use Rattle.pool_policy.specs.Versions.{is_of}
 use Rattle.table_store.proofs.AddedLemmas.{not_found}
 use Rattle.table_store.proofs.TableLemmas.{kept_stamped, tables_stamped}
 use Rattle.table_store.proofs.VersionLemmas.{versions_from, table_stamped, unnamed_stays, other_stays}

@@ -7,9 +7,9 @@ use Rattle.cell_core.specs.declared.table.Column.{Column}
 use Rattle.cell_core.specs.declared.table.Table.{Table}
 use Rattle.cell_core.specs.declared.table.Db.{Db}
 use Rattle.cell_core.specs.Tables.{named_table}
-use Rattle.table_store.specs.declared.touched.Touched.{Touched}
+use Rattle.pool_policy.specs.declared.touched.Touched.{Touched}
 use Rattle.table_store.specs.Content.{Content, version_of}
-use Rattle.table_store.specs.Touches.{is_of}
+use Rattle.pool_policy.specs.Versions.{is_of}
 
 -- a change that is prepared: the content once it is there, with the versions from before, and what it touches
 pub record Prepared : Type 0 where

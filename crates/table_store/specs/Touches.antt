@@ -1,6 +1,6 @@
--- What a write touches of a database.
-use Rattle.std.specs.Prelude.{ℕ, List, [], length, map, Bool, ◌&&◌, bytes_eq}
-use Rattle.std.specs.List.{list_any, enumerate_from}
+-- What there is to be touched of a table.
+use Rattle.std.specs.Prelude.{ℕ, List, [], length, map}
+use Rattle.std.specs.List.{enumerate_from}
 use Rattle.std.specs.Option.{option_map_or}
 use Rattle.cell_core.specs.declared.cell.Cell.{Cell}
 use Rattle.cell_core.specs.declared.table.Column.{Column}
@@ -9,11 +9,6 @@ use Rattle.cell_core.specs.declared.table.Db.{Db}
 use Rattle.cell_core.specs.Pairs.{Pairs, numbered}
 use Rattle.cell_core.specs.Relations.{column_cells}
 use Rattle.cell_core.specs.Tables.{named_table}
-use Rattle.table_store.specs.declared.touched.Touched.{Touched}
-
--- the column is one that the write touched
-abbrev pub is_of : Touched → List ℕ → List ℕ → Bool
-is_of touched table column = bytes_eq table touched.table && list_any (bytes_eq column) touched.columns
 
 abbrev pub names_in : List Column → List (List ℕ)
 names_in columns = map (λ (c : Column). c.name) columns

@@ -2,7 +2,7 @@
 ghost use Rattle.std.specs.Prelude.{◌≡◌};
 
 use crate::tables::Tables;
-use crate::touched::Touched;
+use pool_policy::Touched;
 use std::marker::Model;
 
 /// A change that is prepared: it has all its memory, and what it leaves is computed. Contracts see the

@@ -116,6 +116,16 @@ impl Tables {
         }
     }
 
+    /// The rows of the table with this name, made anew.
+    pub fn rows(&self, alloc: Global, name: &Word) -> Result<Sequence<Sequence<Cell>>, Memory>
+        ensures { IfOk result (λ rows. rows ≡ rows_of name.now self.now.db) }
+    {
+        match self.place(name) {
+            Some(place) => self.kept(place).rows(alloc),
+            None => Ok(Sequence::new(alloc)),
+        }
+    }
+
     /// The columns of the table with this name, each under its own.
     pub fn whole_columns(
         &self,

@@ -15,4 +15,3 @@ mod touched;
 pub use change::Change;
 pub use heading::Heading;
 pub use store::{Snap, Store};
-pub use touched::Touched;

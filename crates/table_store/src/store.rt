@@ -8,12 +8,13 @@ ghost use Rattle.table_columns.specs.Changed.{NewCells, set_rows, unflagged};
 ghost use Rattle.table_store.specs.Content.{has_column, version_of};
 ghost use Rattle.table_store.specs.Headings.{headings_of};
 ghost use Rattle.table_store.specs.Changes.{IsPrepared, NamesDiffer, columns_of, rows_of, with_last_column, with_rows, with_table, without_table};
-ghost use Rattle.table_store.specs.Touches.{all_columns, is_of, names_in, row_count, whole_columns};
+ghost use Rattle.table_store.specs.Touches.{all_columns, names_in, row_count, whole_columns};
+ghost use Rattle.pool_policy.specs.Versions.{is_of};
 
 use crate::change::Change;
 use crate::heading::Heading;
 use crate::tables::{Tables, touch_one};
-use crate::touched::{Touched, one_name, set_names, touch};
+use crate::touched::{one_name, set_names, touch};
 use bat_core::{Cells, Columns, Shared};
 use cell_core::{Cell, Column, Memory, Sequence, Word};
 use std::alloc::Global;
@@ -78,6 +79,13 @@ impl Store {
         ensures { result ≡ row_count table.now self.now.db }
     {
         self.tables.row_count(table)
+    }
+
+    /// The rows of a table, made anew from its columns; none where it isn't there.
+    pub fn rows(&self, alloc: Global, table: &Word) -> Result<Sequence<Sequence<Cell>>, Memory>
+        ensures { IfOk result (λ rows. rows ≡ rows_of table.now self.now.db) }
+    {
+        self.tables.rows(alloc, table)
     }
 
     /// The present content, for good.

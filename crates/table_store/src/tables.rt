@@ -11,12 +11,13 @@ ghost use Rattle.table_store.specs.Content.{column_version, has_column, version_
 ghost use Rattle.table_store.specs.Changes.{with_table, without_table};
 ghost use Rattle.table_store.specs.Headings.{headings_of};
 ghost use Rattle.table_store.specs.Kept.{AreKept, IsKept, headings_without, heading_at, heading_place, kept_at, kept_without, stamped_at, table_from, table_place, tables_from};
-ghost use Rattle.table_store.specs.Touches.{all_columns, is_of, names_in, row_count};
+ghost use Rattle.table_store.specs.Touches.{all_columns, names_in, row_count};
+ghost use Rattle.pool_policy.specs.Versions.{is_of};
 
 use crate::heading::Heading;
-use crate::touched::Touched;
 use bat_core::Shared;
 use cell_core::{Column, Memory, Sequence, Word, copy_columns, find_column};
+use pool_policy::Touched;
 use std::alloc::Global;
 use std::marker::Model;
 use table_columns::Kept;

@@ -2,22 +2,10 @@
 ghost use Rattle.std.specs.Prelude.{◌≡◌, [], ◌∷◌, map, None, IfOk};
 ghost use Rattle.table_columns.specs.Changed.{NewCells};
 
-use bat_core::{Cells, Shared};
+use bat_core::Cells;
 use cell_core::{Memory, Sequence, Word};
+use pool_policy::Touched;
 use std::alloc::Global;
-
-/// What an accepted write touched.
-#[derive(Drop)]
-pub struct Touched {
-    /// The table.
-    pub table: Word,
-    /// The columns of it whose cells are others now: all, or those that an UPDATE sets or an ALTER adds.
-    pub columns: Sequence<Word>,
-    /// How many rows the table had before.
-    pub old_rows: u64,
-    /// Where the write only added rows, each column with its name, old rows and new ones together.
-    pub added: Option<Sequence<(Word, Shared)>>,
-}
 
 /// That these columns of a table are touched.
 pub(crate) fn touch(table: &Word, columns: Sequence<Word>, old_rows: u64) -> Result<Touched, Memory>

@@ -20,3 +20,6 @@ returns-clause-effect c = IfOk-weaker c.decide_from.result _ _
     (λ decided e. decided_effect c.writes_give_hits.ensures (stmt_tree c.args.typed.now.stmt) c.args.typed.now.sources c.requires c.args.typed.now.formed c.args.typed.now.accepted
     c.decisions_are_meant.ensures c.args.rows.now decided e)
     c.decide_from.ensures
+
+pub returns-clause-decided : goal.returns-clause-decided
+returns-clause-decided c = c.decide_from.ensures

@@ -1,0 +1,4 @@
+pub mod Schemas
+pub mod Outcomes
+pub mod Work
+pub mod Rewrites
