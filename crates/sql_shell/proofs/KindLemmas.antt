@@ -1,5 +1,5 @@
 -- The statements of a run leave a valid database, given the law that each statement does.
-use Rattle.std.proofs.Common.{◌≡◌, ℕ, List, [], ◌∷◌, Result, Ok, Err, sym, subst}
+use Rattle.std.proofs.Common.{ℕ, List, [], ◌∷◌, Result, Ok, Err, sym, subst}
 use Rattle.std.specs.List.{AllByRecursion}
 use Rattle.cell_core.specs.declared.table.Db.{Db}
 use Rattle.sql_kinds.specs.Laws.{StatementsKeepValid}
@@ -23,9 +23,9 @@ module _ (keep : StatementsKeepValid) where
   all_keep db (readings ∷ others) formed h = all_keep (run_db db readings) others formed.1 (readings_keep db readings formed.0 h)
 
   -- a run that has served scripts has a valid database
-  pub served_valid : (names : List (List ℕ)) (scripts : List (List (List ℕ))) (run : Run) (before after : ℕ) → IsValid no_tables → HasServed names scripts run before after → IsValid run.db
+  pub served_valid : (names : List (List ℕ)) (scripts : List (List (List ℕ))) (run : Run) (before after : ℕ) → IsValid no_tables → HasServed names scripts run before after → IsValid run.store.db
   served_valid names scripts run before after empty served = subst IsValid (sym served.db) (all_keep no_tables served.readings served.formed empty)
 
   -- and goes on so
-  pub pieces_valid : (old new : Run) (s : ℕ) (pieces : List (List ℕ)) (before after : ℕ) → IsValid old.db → ServesPieces old new s pieces before after → IsValid new.db
-  pieces_valid old new s pieces before after h serves = subst IsValid (sym serves.db) (readings_keep old.db serves.readings serves.formed h)
+  pub pieces_valid : (old new : Run) (s : ℕ) (pieces : List (List ℕ)) (before after : ℕ) → IsValid old.store.db → ServesPieces old new s pieces before after → IsValid new.store.db
+  pieces_valid old new s pieces before after h serves = subst IsValid (sym serves.db) (readings_keep old.store.db serves.readings serves.formed h)

@@ -10,7 +10,7 @@ use Rattle.sql_tree.specs.Pieces.{pieces_of}
 use Rattle.sql_tree.specs.Tree.{StmtTree}
 use Rattle.run_log.specs.Events.{EventTree}
 use Rattle.answer_text.specs.Layout.{printed}
-use Rattle.sql_shell.specs.Readings.{AreReadings, AreAllRead}
+use Rattle.sql_shell.specs.Readings.{AreAllRead}
 use Rattle.command_words.specs.Words.{few_files, files_in, run_files}
 use Rattle.causes.specs.Limits.{most_bytes}
 use Rattle.sql_shell.specs.Scripts.{IsRunnable, IsUnfit, TooLong, NotText, TooMany, IsFirstUnfit, AreRunnable, AreTexts, AreToldFirst, CanBeRun, names_of, pieces_in, IsCut, AreCut}

@@ -1,31 +1,38 @@
 -- A run that has served scripts, and one statement or one script more.
-use Rattle.std.proofs.Common.{◌≡◌, ℕ, ◌+◌, ◌<◌, List, [], ◌∷◌, ◌++◌, length, take, map, slice_index_or, refl, ap, sym, ◌∙◌, subst, arith, true, append_assoc, append-nil, Option, Some, None, Ok, Err, Result}
+use Rattle.std.proofs.Common.{◌≡◌, ℕ, ◌+◌, ◌<◌, List, [], ◌∷◌, ◌++◌, length, take, slice_index_or, refl, ap, sym, ◌∙◌, subst, arith, true, append_assoc, append-nil, Option, Some, None, Ok, Err, Result}
 use Rattle.std.specs.List.{AllByRecursion}
+use Rattle.std.specs.Result.{OnOk}
 use Rattle.std.proofs.lemmas.List.{take_more, length-take-le, length-map, map-append}
 use Rattle.cell_core.specs.declared.table.Db.{Db}
+use Rattle.table_store.specs.Content.{Content}
 use Rattle.sql_parse.specs.Answered.{Reads}
 use Rattle.sql_semantics.specs.Effect.{effect}
-use Rattle.sql_semantics.specs.Refusals.{refusal_number}
 use Rattle.sql_semantics.specs.declared.refusal.Refusal.{Refusal}
-use Rattle.sql_semantics.specs.declared.refusal.Reply.{Reply}
 use Rattle.sql_tree.specs.Tree.{QueryTree, StmtTree}
 use Rattle.sql_tree.specs.Tree.StmtTree.{CreateTable, DropTable, AlterTable, InsertInto, DeleteFrom, UpdateTable, Select, ExplainSelect}
 use Rattle.answer_text.specs.declared.shown.Shown.{Shown}
-use Rattle.answer_text.specs.declared.shown.Shown.TheVariants as shown
 use Rattle.answer_text.specs.Log.{acts_over, shown_over, shown_reply, code_of, count_of, begin_code, begin_plan, IsOrdered}
-use Rattle.run_log.specs.Events.{ActTree, EventTree, Begins, Writes, Ends, log_tree}
+use Rattle.run_log.specs.Events.{EventTree, Begins, Writes, Ends, log_tree}
+use Rattle.run_log.specs.Fold.{write_load}
+use Rattle.store_changes.specs.Outcomes.{is_change}
+use Rattle.store_changes.specs.Work.{Counts, write_lost}
 use Rattle.mal_meaning.specs.declared.plan.Plan.{Plan}
 use Rattle.plan_queries.specs.Plans.{plan_over, refusal_over}
 use Rattle.answer_text.specs.Layout.{reply_text, session_line, history_text, printed}
 use Rattle.sql_shell.specs.declared.session.Run.{Run}
-use Rattle.sql_shell.specs.Session.{no_tables, events_of, db_after, run_db, run_log, run_text, run_takes, all_db, all_log, all_text, all_takes, is_change, IsFormedReading, AreFormed, Follows, Serves, ServesPieces, HasServed, Changes, Notes, Tells, TellsRead, Adds, Produces}
+use Rattle.sql_shell.specs.Session.{no_tables, events_of, db_after, run_db, run_log, run_text, run_takes, all_db, all_log, all_text, all_takes, IsFormedReading, AreFormed, Follows, Serves, ServesPieces, HasServed, Changes, Notes, Tells, TellsRead, Adds, Produces}
 use Rattle.sql_shell.specs.Served.{RiseFrom}
-use Rattle.sql_shell.specs.Work.{Counts, statement_work, statement_lost, run_work, run_lost}
+use Rattle.sql_shell.specs.Work.{statement_work, statement_lost, run_work, run_lost}
 use Rattle.sql_shell.proofs.CommitLemmas.{select_keeps, explain_keeps}
 use Rattle.sql_shell.proofs.SessionLemmas.{sessions_ordered, sessions_printed, sessions_take, sessions_rise}
 use Rattle.sql_shell.specs.Readings.{AreReadings, AreAllRead}
 use Rattle.sql_shell.specs.Scripts.{names_of, pieces_in}
 use Rattle.sql_shell.specs.declared.scripts.Script.{Script}
+
+-- two facts of a value make a third
+pub on_ok_both : {T E P Q R : Type 0} (r : Result T E) → (P → Q → R) → OnOk r P → OnOk r Q → OnOk r R
+on_ok_both (Ok x) f p q = f p q
+on_ok_both (Err e) f p q = tt
 
 more_readings : (pieces : List (List ℕ)) (readings : List (Result StmtTree Refusal)) (text : List ℕ) (reading : Result StmtTree Refusal) → AreReadings pieces readings → Reads text reading → AreReadings (pieces ++ text ∷ []) (readings ++ reading ∷ [])
 more_readings [] [] text reading are is = (is, tt)
@@ -87,21 +94,21 @@ serves_more first old new s pieces k text start before after is served serves =
       readings = readings ++ reading ∷ [];
       read = more_readings pieces readings text reading served.read serves.read;
       formed = more_formed readings reading served.formed serves.formed;
-      db = serves.follows.db ∙ ap (λ db. db_after db reading) served.db ∙ sym (more_db first.db readings reading);
-      log = serves.follows.log ∙ ap (λ log. log ++ events_of s k (acts_over old.db reading)) served.log
-          ∙ ap (λ db. (log_tree first.log.items ++ run_log s first.db 1 readings) ++ events_of s k (acts_over db reading)) served.db
-          ∙ append_assoc (log_tree first.log.items) (run_log s first.db 1 readings) (events_of s k (acts_over (run_db first.db readings) reading))
-          ∙ ap (λ log. log_tree first.log.items ++ log) (sym (more_log s first.db 1 k readings reading count));
-      text = serves.follows.text ∙ ap (λ out. out ++ reply_text k (shown_over old.db reading)) served.text
-          ∙ ap (λ db. (first.text.items ++ run_text first.db 1 readings) ++ reply_text k (shown_over db reading)) served.db
-          ∙ append_assoc first.text.items (run_text first.db 1 readings) (reply_text k (shown_over (run_db first.db readings) reading))
-          ∙ ap (λ text. first.text.items ++ text) (sym (more_text first.db 1 k readings reading count));
-      work = serves.follows.work ∙ ap (λ n. n + statement_work old.db reading) served.work
-          ∙ ap (λ db. (first.work + run_takes statement_work first.db readings) + statement_work db reading) served.db
-          ∙ omega (arith, more_taken statement_work first.db readings reading);
+      db = serves.follows.db ∙ ap (λ db. db_after db reading) served.db ∙ sym (more_db first.store.db readings reading);
+      log = serves.follows.log ∙ ap (λ log. log ++ events_of s k (acts_over old.store.db reading)) served.log
+          ∙ ap (λ db. (log_tree first.log.items ++ run_log s first.store.db 1 readings) ++ events_of s k (acts_over db reading)) served.db
+          ∙ append_assoc (log_tree first.log.items) (run_log s first.store.db 1 readings) (events_of s k (acts_over (run_db first.store.db readings) reading))
+          ∙ ap (λ log. log_tree first.log.items ++ log) (sym (more_log s first.store.db 1 k readings reading count));
+      text = serves.follows.text ∙ ap (λ out. out ++ reply_text k (shown_over old.store.db reading)) served.text
+          ∙ ap (λ db. (first.text.items ++ run_text first.store.db 1 readings) ++ reply_text k (shown_over db reading)) served.db
+          ∙ append_assoc first.text.items (run_text first.store.db 1 readings) (reply_text k (shown_over (run_db first.store.db readings) reading))
+          ∙ ap (λ text. first.text.items ++ text) (sym (more_text first.store.db 1 k readings reading count));
+      work = serves.follows.work ∙ ap (λ n. n + statement_work old.store.db reading) served.work
+          ∙ ap (λ db. (first.work + run_takes statement_work first.store.db readings) + statement_work db reading) served.db
+          ∙ omega (arith, more_taken statement_work first.store.db readings reading);
       counted = counts_as start after _ _ _ _
-          (ap (λ db. run_takes statement_work first.db readings + statement_work db reading) served.db ∙ sym (more_taken statement_work first.db readings reading))
-          (ap (λ db. run_takes statement_lost first.db readings + statement_lost db reading) served.db ∙ sym (more_taken statement_lost first.db readings reading))
+          (ap (λ db. run_takes statement_work first.store.db readings + statement_work db reading) served.db ∙ sym (more_taken statement_work first.store.db readings reading))
+          (ap (λ db. run_takes statement_lost first.store.db readings + statement_lost db reading) served.db ∙ sym (more_taken statement_lost first.store.db readings reading))
           (counts_more start before after _ _ _ _ served.counted serves.counted);
     }
 
@@ -148,25 +155,25 @@ all_more_taken takes db (r ∷ rs) more = omega (arith, all_more_taken takes (ru
 -- one script more: its line, and then its statements
 pub served_more : (names : List (List ℕ)) (scripts : List (List (List ℕ))) (old begun new : Run) (s : ℕ) (name : List ℕ) (pieces : List (List ℕ)) (start before after : ℕ)
     → length names ≡ length scripts → s ≡ length scripts + 1 → HasServed names scripts old start before
-    → begun.db ≡ old.db → begun.log.items ≡ old.log.items → begun.work ≡ old.work → begun.text.items ≡ old.text.items ++ session_line s name
+    → begun.store.db ≡ old.store.db → begun.log.items ≡ old.log.items → begun.work ≡ old.work → begun.text.items ≡ old.text.items ++ session_line s name
     → ServesPieces begun new s pieces before after → HasServed (names ++ name ∷ []) (scripts ++ pieces ∷ []) new start after
 served_more names scripts old begun new s name pieces start before after long count served db log work text serves =
     let all = served.readings in
     let more = serves.readings in
     let many = all_as_many scripts all served.read in
     let number : s ≡ 1 + length all = omega (arith, many) in
-    let from : begun.db ≡ all_db no_tables all = db ∙ served.db in
+    let from : begun.store.db ≡ all_db no_tables all = db ∙ served.db in
     record {
       readings = all ++ more ∷ [];
       read = all_more_read scripts all pieces more served.read serves.read;
       formed = all_more_formed all more served.formed serves.formed;
       db = serves.db ∙ ap (λ d. run_db d more) from ∙ sym (all_more_db no_tables all more);
-      log = serves.log ∙ ap (λ l. l ++ run_log s begun.db 1 more) (ap log_tree log ∙ served.log) ∙ ap (λ d. all_log 1 no_tables all ++ run_log s d 1 more) from ∙ sym (all_more_log 1 s no_tables all more number);
-      text = serves.text ∙ ap (λ t. t ++ run_text begun.db 1 more) (text ∙ ap (λ t. t ++ session_line s name) served.text)
+      log = serves.log ∙ ap (λ l. l ++ run_log s begun.store.db 1 more) (ap log_tree log ∙ served.log) ∙ ap (λ d. all_log 1 no_tables all ++ run_log s d 1 more) from ∙ sym (all_more_log 1 s no_tables all more number);
+      text = serves.text ∙ ap (λ t. t ++ run_text begun.store.db 1 more) (text ∙ ap (λ t. t ++ session_line s name) served.text)
           ∙ ap (λ d. (all_text 1 no_tables names all ++ session_line s name) ++ run_text d 1 more) from
           ∙ append_assoc (all_text 1 no_tables names all) (session_line s name) (run_text (all_db no_tables all) 1 more)
           ∙ sym (all_more_text 1 s no_tables names all name more (omega (arith, many, long)) number);
-      work = serves.work ∙ ap (λ n. n + run_takes statement_work begun.db more) (work ∙ served.work) ∙ ap (λ d. all_takes statement_work no_tables all + run_takes statement_work d more) from ∙ sym (all_more_taken statement_work no_tables all more);
+      work = serves.work ∙ ap (λ n. n + run_takes statement_work begun.store.db more) (work ∙ served.work) ∙ ap (λ d. all_takes statement_work no_tables all + run_takes statement_work d more) from ∙ sym (all_more_taken statement_work no_tables all more);
       counted = counts_as start after _ _ _ _
           (ap (λ d. all_takes statement_work no_tables all + run_takes statement_work d more) from ∙ sym (all_more_taken statement_work no_tables all more))
           (ap (λ d. all_takes statement_lost no_tables all + run_takes statement_lost d more) from ∙ sym (all_more_taken statement_lost no_tables all more))
@@ -176,7 +183,7 @@ served_more names scripts old begun new s name pieces start before after long co
 -- the same for the next of a list of scripts
 pub scripts_more : (scripts : List Script) (i : ℕ) (script : Script) (old begun new : Run) (start before after : ℕ)
     → i < length scripts → script ≡ slice_index_or scripts i script → HasServed (names_of (take i scripts)) (pieces_in (take i scripts)) old start before
-    → begun.db ≡ old.db → begun.log.items ≡ old.log.items → begun.work ≡ old.work → begun.text.items ≡ old.text.items ++ session_line (i + 1) script.name
+    → begun.store.db ≡ old.store.db → begun.log.items ≡ old.log.items → begun.work ≡ old.work → begun.text.items ≡ old.text.items ++ session_line (i + 1) script.name
     → ServesPieces begun new (i + 1) script.pieces before after → HasServed (names_of (take (i + 1) scripts)) (pieces_in (take (i + 1) scripts)) new start after
 scripts_more scripts i script old begun new start before after inside is served db log work text serves =
     let done = take i scripts in
@@ -213,6 +220,10 @@ produces names scripts run text before after served is =
 
 -- ## Statements
 
+-- a store that is the same has the same tables
+same_db : {old new : Content} → new ≡ old → new.db ≡ old.db
+same_db is = ap (λ (content : Content). content.db) is
+
 -- a Begin logged, and then an End with its reply
 pub tells_read : (old begun new : Run) (s k begin code : ℕ) (plan : Option Plan) (shown : Shown) → Notes old begun s k (Begins begin plan) → Tells begun new s k (Ends code) shown → code ≡ code_of shown → TellsRead old new s k begin plan shown
 tells_read old begun new s k begin code plan shown notes tells codes =
@@ -220,7 +231,7 @@ tells_read old begun new s k begin code plan shown notes tells codes =
       log = tells.log ∙ ap (λ l. l ++ record { session = s; statement = k; act = Ends code } ∷ []) notes.log
           ∙ append_assoc (log_tree old.log.items) (record { session = s; statement = k; act = Begins begin plan } ∷ []) (record { session = s; statement = k; act = Ends code } ∷ [])
           ∙ ap (λ (e : ℕ). log_tree old.log.items ++ events_of s k (Begins begin plan ∷ Ends e ∷ [])) codes;
-      db = tells.db ∙ notes.db;
+      store = tells.store ∙ notes.store;
       text = tells.text ∙ ap (λ t. t ++ reply_text k shown) notes.text;
       work = tells.work ∙ notes.work;
     }
@@ -228,59 +239,66 @@ tells_read old begun new s k begin code plan shown notes tells codes =
 -- a query's work counted, its two acts logged, and its reply written
 pub query_served : (old counted new : Run) (s k work begin : ℕ) (plan : Option Plan) (shown : Shown) (query : QueryTree)
     → Adds old counted work → TellsRead counted new s k begin plan shown
-    → shown ≡ shown_over old.db (Ok (Select query)) → work ≡ statement_work old.db (Ok (Select query)) → begin ≡ begin_code (refusal_over old.db (Select query)) → plan ≡ begin_plan (refusal_over old.db (Select query)) (plan_over old.db query)
+    → shown ≡ shown_over old.store.db (Ok (Select query)) → work ≡ statement_work old.store.db (Ok (Select query)) → begin ≡ begin_code (refusal_over old.store.db (Select query)) → plan ≡ begin_plan (refusal_over old.store.db (Select query)) (plan_over old.store.db query)
     → Follows old new s k (Ok (Select query))
 query_served old counted new s k work begin plan shown query counts tells shows works begin_is plan_is =
     record {
-      db = tells.db ∙ counts.db ∙ sym (select_keeps query old.db);
+      db = same_db (tells.store ∙ counts.store) ∙ sym (select_keeps query old.store.db);
       log = tells.log ∙ ap (λ l. l ++ events_of s k (Begins begin plan ∷ Ends (code_of shown) ∷ [])) (ap log_tree counts.log)
           ∙ (λ i. log_tree old.log.items ++ events_of s k (Begins (begin_is i) (plan_is i) ∷ Ends (code_of shown) ∷ []))
-          ∙ ap (λ (sh : Shown). log_tree old.log.items ++ events_of s k (Begins (begin_code (refusal_over old.db (Select query))) (begin_plan (refusal_over old.db (Select query)) (plan_over old.db query)) ∷ Ends (code_of sh) ∷ [])) shows;
+          ∙ ap (λ (sh : Shown). log_tree old.log.items ++ events_of s k (Begins (begin_code (refusal_over old.store.db (Select query))) (begin_plan (refusal_over old.store.db (Select query)) (plan_over old.store.db query)) ∷ Ends (code_of sh) ∷ [])) shows;
       text = tells.text ∙ ap (λ t. t ++ reply_text k shown) counts.text ∙ ap (λ sh. old.text.items ++ reply_text k sh) shows;
       work = tells.work ∙ counts.work ∙ ap (λ n. old.work + n) works;
     }
 
 -- an EXPLAIN's two acts logged, and its reply written
 pub explain_served : (old new : Run) (s k begin : ℕ) (shown : Shown) (query : QueryTree)
-    → TellsRead old new s k begin None shown → shown ≡ shown_over old.db (Ok (ExplainSelect query)) → begin ≡ code_of shown
+    → TellsRead old new s k begin None shown → shown ≡ shown_over old.store.db (Ok (ExplainSelect query)) → begin ≡ code_of shown
     → Follows old new s k (Ok (ExplainSelect query))
 explain_served old new s k begin shown query tells shows begin_is =
     record {
-      db = tells.db ∙ sym (explain_keeps query old.db);
+      db = same_db tells.store ∙ sym (explain_keeps query old.store.db);
       log = tells.log ∙ ap (λ (n : ℕ). log_tree old.log.items ++ events_of s k (Begins n None ∷ Ends (code_of shown) ∷ [])) begin_is
           ∙ ap (λ (sh : Shown). log_tree old.log.items ++ events_of s k (Begins (code_of sh) None ∷ Ends (code_of sh) ∷ [])) shows;
       text = tells.text ∙ ap (λ sh. old.text.items ++ reply_text k sh) shows;
       work = tells.work ∙ omega arith;
     }
 
--- what is logged and shown of a change, which takes no work
+-- what is logged and shown of a change, and its work, which is that of its plan where it has one
 record IsWritten (db : Db) (statement : StmtTree) : Type 0 where
   acts : acts_over db (Ok statement) ≡ Writes (Some statement) (code_of (shown_reply (effect statement db).1)) (count_of (shown_reply (effect statement db).1)) ∷ []
   shows : shown_over db (Ok statement) ≡ shown_reply (effect statement db).1
-  no_work : statement_work db (Ok statement) ≡ 0
+  works : statement_work db (Ok statement) ≡ write_load statement db
+  loses : statement_lost db (Ok statement) ≡ write_lost statement db
 
 is_written : (db : Db) (statement : StmtTree) → is_change statement ≡ true → IsWritten db statement
-is_written db (CreateTable table columns) h = record { acts = refl; shows = refl; no_work = refl }
-is_written db (DropTable table) h = record { acts = refl; shows = refl; no_work = refl }
-is_written db (AlterTable table column) h = record { acts = refl; shows = refl; no_work = refl }
-is_written db (InsertInto table listed rows) h = record { acts = refl; shows = refl; no_work = refl }
-is_written db (DeleteFrom table cond) h = record { acts = refl; shows = refl; no_work = refl }
-is_written db (UpdateTable table sets cond) h = record { acts = refl; shows = refl; no_work = refl }
+is_written db (CreateTable table columns) h = record { acts = refl; shows = refl; works = refl; loses = refl }
+is_written db (DropTable table) h = record { acts = refl; shows = refl; works = refl; loses = refl }
+is_written db (AlterTable table column) h = record { acts = refl; shows = refl; works = refl; loses = refl }
+is_written db (InsertInto table listed rows) h = record { acts = refl; shows = refl; works = refl; loses = refl }
+is_written db (DeleteFrom table cond) h = record { acts = refl; shows = refl; works = refl; loses = refl }
+is_written db (UpdateTable table sets cond) h = record { acts = refl; shows = refl; works = refl; loses = refl }
 is_written db (Select query) h = cc
 is_written db (ExplainSelect query) h = cc
+
+-- what is counted of a change is its work
+pub change_counted : (db : Db) (statement : StmtTree) (before after : ℕ) → is_change statement ≡ true → Counts before after (write_load statement db) (write_lost statement db) → Counts before after (statement_work db (Ok statement)) (statement_lost db (Ok statement))
+change_counted db statement before after changes counts =
+    let is = is_written db statement changes in
+    counts_as before after _ _ _ _ (sym is.works) (sym is.loses) counts
 
 -- a change done, its act logged, and its reply written
 pub change_served : (old done new : Run) (s k : ℕ) (shown : Shown) (statement written : StmtTree) → is_change statement ≡ true
     → Changes old done statement shown → written ≡ statement → Tells done new s k (Writes (Some written) (code_of shown) (count_of shown)) shown
     → Follows old new s k (Ok statement)
 change_served old done new s k shown statement written changes does same tells =
-    let is = is_written old.db statement changes in
+    let is = is_written old.store.db statement changes in
     record {
-      db = tells.db ∙ does.db;
+      db = same_db tells.store ∙ does.db;
       log = tells.log ∙ ap (λ l. l ++ events_of s k (Writes (Some written) (code_of shown) (count_of shown) ∷ [])) (ap log_tree does.log)
           ∙ ap (λ (stmt : StmtTree). log_tree old.log.items ++ events_of s k (Writes (Some stmt) (code_of shown) (count_of shown) ∷ [])) same
           ∙ ap (λ (sh : Shown). log_tree old.log.items ++ events_of s k (Writes (Some statement) (code_of sh) (count_of sh) ∷ [])) does.shows
           ∙ ap (λ more. log_tree old.log.items ++ events_of s k more) (sym is.acts);
       text = tells.text ∙ ap (λ t. t ++ reply_text k shown) does.text ∙ ap (λ sh. old.text.items ++ reply_text k sh) (does.shows ∙ sym is.shows);
-      work = tells.work ∙ does.work ∙ omega (arith, is.no_work);
+      work = tells.work ∙ does.work ∙ ap (λ n. old.work + n) (sym is.works);
     }

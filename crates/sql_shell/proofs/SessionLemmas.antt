@@ -1,5 +1,5 @@
 -- The log of sessions that run one after the other is in order, and the replies are those that are printed of it.
-use Rattle.std.proofs.Common.{◌≡◌, ℕ, zero, suc, ◌+◌, ◌-◌, ◌<◌, ◌≤◌, ◌==◌, ◌⊎◌, inl, inr, List, [], ◌∷◌, ◌++◌, Bool, true, false, ◌&&◌, cond, length, take, map, refl, ap, sym, ◌∙◌, subst, arith, append_assoc, append-nil, Option, Some, None, Ok, Err, Result, slice_get}
+use Rattle.std.proofs.Common.{◌≡◌, ℕ, zero, suc, ◌+◌, ◌-◌, ◌<◌, ◌≤◌, ◌==◌, ◌⊎◌, inl, inr, List, [], ◌∷◌, ◌++◌, true, false, ◌&&◌, cond, length, take, map, refl, ap, sym, ◌∙◌, subst, arith, append_assoc, append-nil, Some, Ok, Err, Result, slice_get}
 use Rattle.std.specs.Prelude.{filter, flat_map}
 use Rattle.std.specs.List.{enumerate_from, sum_by, zip, AllByRecursion}
 use Rattle.std.proofs.Math.Seq.{take-append_seam}
@@ -14,8 +14,8 @@ use Rattle.sql_tree.specs.Tree.{StmtTree}
 use Rattle.sql_tree.specs.Tree.StmtTree.{CreateTable, DropTable, AlterTable, InsertInto, DeleteFrom, UpdateTable, Select, ExplainSelect}
 use Rattle.answer_text.specs.Log.{is_opening, is_place, statement_place, tables_met, acts_over, AreStatements, logged_of, shown_over, IsOrdered}
 use Rattle.run_log.specs.Events.{ActTree, EventTree, commits, tables_at}
-use Rattle.answer_text.specs.Layout.{reply_text, replies_text, session_line, session_text, history_text, printed}
-use Rattle.sql_shell.specs.Session.{no_tables, events_of, db_after, run_db, run_log, run_text, run_takes, all_db, all_log, all_text, all_takes}
+use Rattle.answer_text.specs.Layout.{reply_text, session_line, session_text, history_text, printed}
+use Rattle.sql_shell.specs.Session.{no_tables, events_of, db_after, run_db, run_log, run_text, run_takes, all_log, all_text, all_takes}
 use Rattle.sql_shell.specs.Served.{RiseFrom}
 use Rattle.sql_shell.specs.Work.{session_sum, run_sum}
 use Rattle.sql_shell.proofs.CommitLemmas.{commits_lead, commits-append, replay_from-append}

@@ -1,5 +1,5 @@
 -- Scripts that were read: their names and the texts of their statements.
-use Rattle.std.specs.Prelude.{◌≡◌, ℕ, ◌+◌, ◌≤◌, ◌<◌, ◌⊎◌, List, [], ◌∷◌, length, map, Option, Some, None, IfSome, IsUtf8}
+use Rattle.std.specs.Prelude.{◌≡◌, ℕ, ◌+◌, ◌≤◌, ◌<◌, ◌⊎◌, List, [], ◌∷◌, length, map, Option, Some, IfSome, IsUtf8}
 use Rattle.std.specs.List.{AllByRecursion}
 use Rattle.causes.specs.Limits.{most_bytes}
 use Rattle.sql_tree.specs.Pieces.{most_statements, pieces_of}

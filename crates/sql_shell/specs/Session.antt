@@ -1,5 +1,5 @@
 -- What sessions log and print that run one after the other, statement after statement.
-use Rattle.std.specs.Prelude.{◌≡◌, ℕ, ◌+◌, List, [], ◌∷◌, ◌++◌, map, Bool, true, false, Option, Result, Ok, Err}
+use Rattle.std.specs.Prelude.{◌≡◌, ℕ, ◌+◌, List, [], ◌∷◌, ◌++◌, map, Option, Result, Ok, Err}
 use Rattle.cell_core.specs.declared.table.Db.{Db}
 use Rattle.std.specs.List.{AllByRecursion}
 use Rattle.sql_grammar.specs.Formed.{IsFormed}
@@ -7,16 +7,17 @@ use Rattle.sql_parse.specs.Answered.{Reads}
 use Rattle.sql_semantics.specs.Effect.{effect}
 use Rattle.sql_semantics.specs.declared.refusal.Refusal.{Refusal}
 use Rattle.sql_tree.specs.Tree.{StmtTree}
-use Rattle.sql_tree.specs.Tree.StmtTree.{Select, ExplainSelect}
 use Rattle.sql_shell.specs.Readings.{AreReadings, AreAllRead}
 use Rattle.sql_shell.specs.declared.session.Run.{Run}
 use Rattle.answer_text.specs.declared.shown.Shown.{Shown}
 use Rattle.answer_text.specs.Log.{code_of, acts_over, shown_over, shown_reply, IsOrdered}
 use Rattle.mal_meaning.specs.declared.plan.Plan.{Plan}
 use Rattle.run_log.specs.Events.{ActTree, EventTree, Begins, Ends, log_tree}
+use Rattle.run_log.specs.Fold.{write_load}
+use Rattle.store_changes.specs.Work.{Counts}
 use Rattle.answer_text.specs.Layout.{reply_text, session_line, printed}
 use Rattle.sql_shell.specs.Served.{RiseFrom}
-use Rattle.sql_shell.specs.Work.{Counts, statement_work, statement_lost, run_work, run_lost}
+use Rattle.sql_shell.specs.Work.{statement_work, statement_lost, run_work, run_lost}
 
 -- the database that every run begins with
 abbrev pub no_tables : Db
@@ -77,12 +78,6 @@ all_takes takes db (readings ∷ others) = run_takes takes db readings + all_tak
 
 -- ## What the code keeps, which no public clause names
 
--- a statement that is neither a query nor an EXPLAIN
-abbrev pub is_change : StmtTree → Bool
-is_change (Select query) = false
-is_change (ExplainSelect query) = false
-is_change _ = true
-
 -- a statement that was read is formed
 abbrev pub IsFormedReading : Result StmtTree Refusal → Type 0
 IsFormedReading (Ok statement) = IsFormed statement
@@ -93,10 +88,10 @@ AreFormed readings = AllByRecursion IsFormedReading readings
 
 -- the run goes on by statement k of session s, which was read so
 pub record Follows (old new : Run) (s k : ℕ) (reading : Result StmtTree Refusal) : Type 0 where
-  pub db : new.db ≡ db_after old.db reading
-  pub log : log_tree new.log.items ≡ log_tree old.log.items ++ events_of s k (acts_over old.db reading)
-  pub text : new.text.items ≡ old.text.items ++ reply_text k (shown_over old.db reading)
-  pub work : new.work ≡ old.work + statement_work old.db reading
+  pub db : new.store.db ≡ db_after old.store.db reading
+  pub log : log_tree new.log.items ≡ log_tree old.log.items ++ events_of s k (acts_over old.store.db reading)
+  pub text : new.text.items ≡ old.text.items ++ reply_text k (shown_over old.store.db reading)
+  pub work : new.work ≡ old.work + statement_work old.store.db reading
 
 -- the run goes on by statement k of session s, whatever its text reads as, while the counter goes from here to there
 pub record Serves (old new : Run) (s k : ℕ) (text : List ℕ) (before after : ℕ) : Type 0 where
@@ -104,63 +99,63 @@ pub record Serves (old new : Run) (s k : ℕ) (text : List ℕ) (before after : 
   pub read : Reads text reading
   pub formed : IsFormedReading reading
   pub follows : Follows old new s k reading
-  pub counted : Counts before after (statement_work old.db reading) (statement_lost old.db reading)
+  pub counted : Counts before after (statement_work old.store.db reading) (statement_lost old.store.db reading)
 
 -- the run goes on by these statements of session s, from its first on
 pub record ServesPieces (old new : Run) (s : ℕ) (pieces : List (List ℕ)) (before after : ℕ) : Type 0 where
   pub readings : List (Result StmtTree Refusal)
   pub read : AreReadings pieces readings
   pub formed : AreFormed readings
-  pub db : new.db ≡ run_db old.db readings
-  pub log : log_tree new.log.items ≡ log_tree old.log.items ++ run_log s old.db 1 readings
-  pub text : new.text.items ≡ old.text.items ++ run_text old.db 1 readings
-  pub work : new.work ≡ old.work + run_takes statement_work old.db readings
-  pub counted : Counts before after (run_takes statement_work old.db readings) (run_takes statement_lost old.db readings)
+  pub db : new.store.db ≡ run_db old.store.db readings
+  pub log : log_tree new.log.items ≡ log_tree old.log.items ++ run_log s old.store.db 1 readings
+  pub text : new.text.items ≡ old.text.items ++ run_text old.store.db 1 readings
+  pub work : new.work ≡ old.work + run_takes statement_work old.store.db readings
+  pub counted : Counts before after (run_takes statement_work old.store.db readings) (run_takes statement_lost old.store.db readings)
 
 -- the run has served scripts of these names and pieces, from no tables on
 pub record HasServed (names : List (List ℕ)) (scripts : List (List (List ℕ))) (run : Run) (before after : ℕ) : Type 0 where
   pub readings : List (List (Result StmtTree Refusal))
   pub read : AreAllRead scripts readings
   pub formed : AllByRecursion AreFormed readings
-  pub db : run.db ≡ all_db no_tables readings
+  pub db : run.store.db ≡ all_db no_tables readings
   pub log : log_tree run.log.items ≡ all_log 1 no_tables readings
   pub text : run.text.items ≡ all_text 1 no_tables names readings
   pub work : run.work ≡ all_takes statement_work no_tables readings
   pub counted : Counts before after (all_takes statement_work no_tables readings) (all_takes statement_lost no_tables readings)
 
--- the database is changed by the statement, which shows this, and nothing else changes
+-- the tables are changed by the statement, which shows this, its work is added, and nothing else changes
 pub record Changes (old new : Run) (statement : StmtTree) (shown : Shown) : Type 0 where
-  pub db : new.db ≡ (effect statement old.db).0
-  pub shows : shown ≡ shown_reply (effect statement old.db).1
+  pub db : new.store.db ≡ (effect statement old.store.db).0
+  pub shows : shown ≡ shown_reply (effect statement old.store.db).1
   pub log : new.log.items ≡ old.log.items
   pub text : new.text.items ≡ old.text.items
-  pub work : new.work ≡ old.work
+  pub work : new.work ≡ old.work + write_load statement old.store.db
 
 -- one act of statement k of session s is logged, and nothing else changes
 pub record Notes (old new : Run) (s k : ℕ) (act : ActTree) : Type 0 where
   pub log : log_tree new.log.items ≡ log_tree old.log.items ++ record { session = s; statement = k; act = act } ∷ []
-  pub db : new.db ≡ old.db
+  pub store : new.store ≡ old.store
   pub text : new.text.items ≡ old.text.items
   pub work : new.work ≡ old.work
 
 -- the same, and the reply is written
 pub record Tells (old new : Run) (s k : ℕ) (act : ActTree) (shown : Shown) : Type 0 where
   pub log : log_tree new.log.items ≡ log_tree old.log.items ++ record { session = s; statement = k; act = act } ∷ []
-  pub db : new.db ≡ old.db
+  pub store : new.store ≡ old.store
   pub text : new.text.items ≡ old.text.items ++ reply_text k shown
   pub work : new.work ≡ old.work
 
 -- the Begin and the End of statement k of session s are logged, its reply is written, and nothing else changes
 pub record TellsRead (old new : Run) (s k begin : ℕ) (plan : Option Plan) (shown : Shown) : Type 0 where
   pub log : log_tree new.log.items ≡ log_tree old.log.items ++ events_of s k (Begins begin plan ∷ Ends (code_of shown) ∷ [])
-  pub db : new.db ≡ old.db
+  pub store : new.store ≡ old.store
   pub text : new.text.items ≡ old.text.items ++ reply_text k shown
   pub work : new.work ≡ old.work
 
 -- work is added, and nothing else changes
 pub record Adds (old new : Run) (more : ℕ) : Type 0 where
   pub log : new.log.items ≡ old.log.items
-  pub db : new.db ≡ old.db
+  pub store : new.store ≡ old.store
   pub text : new.text.items ≡ old.text.items
   pub work : new.work ≡ old.work + more
 

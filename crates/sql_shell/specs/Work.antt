@@ -1,16 +1,18 @@
--- The work of a run: the loads of the plans by which its queries are run.
-use Rattle.std.specs.Prelude.{◌≡◌, ◌≤◌, ℕ, ◌+◌, List, Option, Some, None, Result, Ok}
+-- The work of a run: the loads of the plans by which its queries, DELETE and UPDATE are done.
+use Rattle.std.specs.Prelude.{◌≡◌, ℕ, List, Option, Some, None, Result, Ok, Err}
 use Rattle.std.specs.List.{enumerate_from, sum_by}
 use Rattle.cell_core.specs.declared.cell.Cell.{Cell}
 use Rattle.cell_core.specs.declared.table.Db.{Db}
 use Rattle.sql_semantics.specs.Answer.{answer}
 use Rattle.sql_semantics.specs.declared.refusal.Refusal.{Refusal}
 use Rattle.sql_tree.specs.Tree.{StmtTree}
-use Rattle.sql_tree.specs.Tree.StmtTree.{Select}
+use Rattle.sql_tree.specs.Tree.StmtTree.{Select, ExplainSelect}
 use Rattle.mal_meaning.specs.Meaning.{plan_load}
 use Rattle.plan_queries.specs.Plans.{plan_over, refusal_over}
 use Rattle.answer_text.specs.Log.{tables_met}
 use Rattle.run_log.specs.Events.{EventTree}
+use Rattle.run_log.specs.Fold.{write_load}
+use Rattle.store_changes.specs.Work.{Counts, write_lost}
 use Rattle.sql_shell.specs.Scripts.{AreTexts, AreRunnable}
 use Rattle.sql_shell.specs.Served.{AreRead, IsServed}
 
@@ -24,15 +26,19 @@ abbrev pub lost_where : Option Refusal → Option (List (List Cell)) → ℕ →
 lost_where None None load = load
 lost_where _ _ load = 0
 
--- the work of a statement over the tables that it meets; an overflow takes none
+-- the work of a statement over the tables that it meets: the load of the plan by which a query, a DELETE or an UPDATE is done, and else 0; an overflow takes none
 abbrev pub statement_work : Db → Result StmtTree Refusal → ℕ
 statement_work db (Ok (Select query)) = load_where (refusal_over db (Select query)) (answer query db) (plan_load (plan_over db query) db)
-statement_work db _ = 0
+statement_work db (Ok (ExplainSelect query)) = 0
+statement_work db (Ok statement) = write_load statement db
+statement_work db (Err refusal) = 0
 
 -- what may be counted of it beyond that, and is where it overflows
 abbrev pub statement_lost : Db → Result StmtTree Refusal → ℕ
 statement_lost db (Ok (Select query)) = lost_where (refusal_over db (Select query)) (answer query db) (plan_load (plan_over db query) db)
-statement_lost db _ = 0
+statement_lost db (Ok (ExplainSelect query)) = 0
+statement_lost db (Ok statement) = write_lost statement db
+statement_lost db (Err refusal) = 0
 
 -- the sum over a session's statements, each over the tables that it meets
 abbrev pub session_sum : (Db → Result StmtTree Refusal → ℕ) → List EventTree → ℕ → List (Result StmtTree Refusal) → ℕ
@@ -47,11 +53,6 @@ run_work scripts log = run_sum statement_work scripts log
 
 abbrev pub run_lost : List (List (Result StmtTree Refusal)) → List EventTree → ℕ
 run_lost scripts log = run_sum statement_lost scripts log
-
--- a counter went from here to there: by the work, and by no more than what was lost beyond it; so by exactly the work where no plan overflows
-pub record Counts (before after work lost : ℕ) : Type 0 where
-  pub least : before + work ≤ after
-  pub most : after ≤ before + work + lost
 
 -- the scripts' statements took this work in a run with this log, while the counter went from here to there
 pub record HasWork (scripts : List (List ℕ)) (log : List EventTree) (work before after : ℕ) : Type 0 where

@@ -2,16 +2,15 @@
 //! database, and writes the replies and the history of accepted changes.
 //!
 //! It stands on `command_words` for the words, on `causes` for reading and writing, on `sql_parse` for
-//! text, on `sql_semantics` for what SQL means, on `sql_check` for the refusals by the tables, on
-//! `sql_changes` for changes, on `group_to_mal` and `mal_exec` for queries as plans, on `sql_kinds` for
-//! what every statement keeps, and on `answer_text` for the layouts. Its clause `served` is the
-//! project's headline, and tells the stated work of the plans.
+//! text, on `sql_semantics` for what SQL means, on `table_store` for the tables and their snapshots, on
+//! `store_changes` for changes and the schema, on `sql_check` for the refusals of queries by the tables, on
+//! `plan_queries` and `mal_exec` for queries as plans, on `sql_kinds` for what every statement keeps, and
+//! on `answer_text` for the layouts. Its clause `served` is the project's headline, and tells the stated
+//! work of the plans.
 #![tactic(auto)]
 
-mod columns;
-mod effect;
+mod changes;
 mod produce;
-mod schema;
 mod scripts;
 mod served;
 mod session;

@@ -36,9 +36,9 @@ pub struct Served {
 }
 
 /// Does all that the program does: reads the scripts that the words name, runs them one after the
-/// other as sessions over one database, their queries as plans by the kernel, and writes the replies
-/// and the history of accepted changes. The counter rises by the work of the plans, and beyond it by no
-/// more than the loads of those that overflow.
+/// other as sessions over one store, with queries, DELETE and UPDATE as plans by the kernel, and writes
+/// the replies and the history of accepted changes. The counter rises by the work of the plans, and
+/// beyond it by no more than the loads of those that overflow.
 pub fn top<S: Scripts, K: Sink, E: Operate, L: Ledger>(
     alloc: Global,
     words: &[Word],

@@ -5,16 +5,19 @@ ghost use Rattle.sql_tree.specs.Tree.{query_tree, stmt_tree};
 ghost use Rattle.sql_tree.specs.Tree.StmtTree.{Select, ExplainSelect};
 ghost use Rattle.answer_text.specs.Log.{code_of, count_of};
 ghost use Rattle.run_log.specs.Events.{Writes, act_tree};
+ghost use Rattle.run_log.specs.Fold.{write_load};
+ghost use Rattle.store_changes.specs.Outcomes.{is_change};
+ghost use Rattle.store_changes.specs.Work.{Counts, write_lost};
 ghost use Rattle.sql_shell.specs.Scripts.{names_of, pieces_in};
-ghost use Rattle.sql_shell.specs.Session.{is_change, Follows, Serves, ServesPieces, HasServed, Changes, Notes, Tells, TellsRead, Adds};
-ghost use Rattle.sql_shell.specs.Work.{Counts, statement_work, statement_lost};
+ghost use Rattle.sql_shell.specs.Session.{Follows, Serves, ServesPieces, HasServed, Changes, Notes, Tells, TellsRead, Adds};
+ghost use Rattle.sql_shell.specs.Work.{statement_work, statement_lost};
 
-use crate::effect::apply;
+use crate::changes::carry_out;
 use crate::scripts::Script;
-use crate::show::{code, count, show_explain, show_query, show_reply};
+use crate::show::{code, count, show_explain, show_query};
 use answer_text::{Shown, write_reply, write_session_line};
 use bat_core::Operate;
-use cell_core::{Db, Memory, Sequence, Steps, Word};
+use cell_core::{Memory, Steps, Word};
 use mal_meaning::Plan;
 use run_log::{Act, Event};
 use sql_kinds::statements_keep_valid;
@@ -23,12 +26,14 @@ use sql_semantics::Refusal;
 use sql_tree::{Query, Stmt};
 use std::alloc::Global;
 use std::sync::ledger::Ledger;
+use store_changes::prepare;
+use table_store::Store;
 
 /// A run so far: the tables that its sessions share, what they have logged, and their replies.
 #[derive(Drop)]
 pub struct Run {
     /// The tables.
-    pub db: Db,
+    pub store: Store,
     /// The log.
     pub log: Vec<Event>,
     /// The session lines and the replies, as they are printed.
@@ -49,9 +54,7 @@ pub fn run_scripts<E: Operate, L: Ledger>(
     ensures served { IfOk result (λ run. HasServed (names_of scripts.now) (pieces_in scripts.now) run steps.old steps.new) }
 {
     let mut run = Run {
-        db: Db {
-            tables: Sequence::new(alloc),
-        },
+        store: Store::new(alloc),
         log: Vec::new(alloc),
         text: Vec::new(alloc),
         work: 0,
@@ -77,7 +80,7 @@ impl Run {
         steps: &mut Steps<L>,
     ) -> Result<(), Memory>
         requires short { length pieces.now ≤ 256 }
-        requires valid { IsValid self.old.db }
+        requires valid { IsValid self.old.store.db }
         ensures served { OnOk result (ServesPieces self.old self.new s pieces.now steps.old steps.new) }
     {
         statements_keep_valid();
@@ -97,7 +100,7 @@ impl Run {
         kernel: &E,
         steps: &mut Steps<L>,
     ) -> Result<(), Memory>
-        requires { IsValid self.old.db }
+        requires { IsValid self.old.store.db }
         ensures served { OnOk result (Serves self.old self.new s k text.now steps.old steps.new) }
     {
         match parse(alloc, text) {
@@ -118,14 +121,14 @@ impl Run {
         steps: &mut Steps<L>,
     ) -> Result<(), Memory>
         requires formed { IsFormed (stmt_tree stmt) }
-        requires valid { IsValid self.old.db }
+        requires valid { IsValid self.old.store.db }
         ensures follows { OnOk result (Follows self.old self.new s k (Ok (stmt_tree stmt))) }
-        ensures counted { OnOk result (Counts steps.old steps.new (statement_work self.old.db (Ok (stmt_tree stmt))) (statement_lost self.old.db (Ok (stmt_tree stmt)))) }
+        ensures counted { OnOk result (Counts steps.old steps.new (statement_work self.old.store.db (Ok (stmt_tree stmt))) (statement_lost self.old.store.db (Ok (stmt_tree stmt)))) }
     {
         match &stmt {
             Stmt::Query(query) => self.serve_query(alloc, s, k, &stmt, query, kernel, steps),
             Stmt::Explain(query) => self.serve_explain(alloc, s, k, &stmt, query),
-            _ => self.serve_change(alloc, s, k, &stmt),
+            _ => self.serve_change(alloc, s, k, &stmt, kernel, steps),
         }
     }
 
@@ -142,11 +145,11 @@ impl Run {
     ) -> Result<(), Memory>
         requires select { stmt_tree stmt.now ≡ Select (query_tree query.now) }
         requires formed { IsFormed (stmt_tree stmt.now) }
-        requires valid { IsValid self.old.db }
+        requires valid { IsValid self.old.store.db }
         ensures follows { OnOk result (Follows self.old self.new s k (Ok (Select (query_tree query.now)))) }
-        ensures counted { OnOk result (Counts steps.old steps.new (statement_work self.old.db (Ok (Select (query_tree query.now)))) (statement_lost self.old.db (Ok (Select (query_tree query.now))))) }
+        ensures counted { OnOk result (Counts steps.old steps.new (statement_work self.old.store.db (Ok (Select (query_tree query.now)))) (statement_lost self.old.store.db (Ok (Select (query_tree query.now))))) }
     {
-        let answered = show_query(alloc, stmt, query, &self.db, kernel, steps)?;
+        let answered = show_query(alloc, stmt, query, &self.store, kernel, steps)?;
         self.add_work(answered.work)?;
         self.tell_read(alloc, s, k, answered.begin, answered.plan, &answered.shown)
     }
@@ -162,10 +165,10 @@ impl Run {
     ) -> Result<(), Memory>
         requires explain { stmt_tree stmt.now ≡ ExplainSelect (query_tree query.now) }
         requires formed { IsFormed (stmt_tree stmt.now) }
-        requires valid { IsValid self.old.db }
+        requires valid { IsValid self.old.store.db }
         ensures follows { OnOk result (Follows self.old self.new s k (Ok (ExplainSelect (query_tree query.now)))) }
     {
-        let shown = show_explain(alloc, stmt, query, &self.db)?;
+        let shown = show_explain(alloc, stmt, query, &self.store)?;
         let begin = code(&shown);
         self.tell_read(alloc, s, k, begin, None, &shown)
     }
@@ -179,21 +182,45 @@ impl Run {
     }
 
     /// Serves a statement that is neither a query nor an EXPLAIN.
-    fn serve_change(&mut self, alloc: Global, s: u32, k: u32, stmt: &Stmt) -> Result<(), Memory>
-        requires { is_change (stmt_tree stmt.now) ≡ true }
+    fn serve_change<E: Operate, L: Ledger>(
+        &mut self,
+        alloc: Global,
+        s: u32,
+        k: u32,
+        stmt: &Stmt,
+        kernel: &E,
+        steps: &mut Steps<L>,
+    ) -> Result<(), Memory>
+        requires change { is_change (stmt_tree stmt.now) ≡ true }
+        requires formed { IsFormed (stmt_tree stmt.now) }
+        requires valid { IsValid self.old.store.db }
         ensures follows { OnOk result (Follows self.old self.new s k (Ok (stmt_tree stmt.now))) }
+        ensures counted { OnOk result (Counts steps.old steps.new (statement_work self.old.store.db (Ok (stmt_tree stmt.now))) (statement_lost self.old.store.db (Ok (stmt_tree stmt.now)))) }
     {
-        let shown = self.apply_change(alloc, stmt)?;
+        let shown = self.apply_change(alloc, stmt, kernel, steps)?;
         let written = stmt.copy(alloc)?;
         self.tell_change(alloc, s, k, written, &shown)
     }
 
-    /// Does a change, and gives what it shows.
-    fn apply_change(&mut self, alloc: Global, stmt: &Stmt) -> Result<Shown, Memory>
-        ensures { IfOk result (λ shown. Changes self.old self.new (stmt_tree stmt.now) shown) }
+    /// Does a change, adds its work, and gives what it shows. What it touches gets the position of its
+    /// event in the log as its version.
+    fn apply_change<E: Operate, L: Ledger>(
+        &mut self,
+        alloc: Global,
+        stmt: &Stmt,
+        kernel: &E,
+        steps: &mut Steps<L>,
+    ) -> Result<Shown, Memory>
+        requires change { is_change (stmt_tree stmt.now) ≡ true }
+        requires formed { IsFormed (stmt_tree stmt.now) }
+        requires valid { IsValid self.old.store.db }
+        ensures changes { IfOk result (λ shown. Changes self.old self.new (stmt_tree stmt.now) shown) }
+        ensures counted { OnOk result (Counts steps.old steps.new (write_load (stmt_tree stmt.now) self.old.store.db) (write_lost (stmt_tree stmt.now) self.old.store.db)) }
     {
-        let reply = apply(alloc, stmt, &mut self.db)?;
-        Ok(show_reply(reply))
+        let outcome = prepare(alloc, &self.store, stmt, kernel, steps)?;
+        self.add_work(outcome.work)?;
+        let version = self.log.len() as u64 + 1;
+        Ok(carry_out(&mut self.store, outcome.ready, version))
     }
 
     /// Logs a change that shows this, and writes its reply.

@@ -68,8 +68,46 @@ const THREE: &str = "CREATE TABLE t (a INT); INSERT INTO t VALUES (3), (1), (2);
 const THREE_SERVED: &str = "session 1 a.sql\n1 ok\n2 ok 3\n3 rows 2\n2\n3\nhistory 2\n\
     1 1 1 CREATE TABLE t (a INT);\n2 1 2 INSERT INTO t VALUES (3), (1), (2);\n";
 
+/// Each kind of change, over the tables that the changes before it left.
+const EACH_CHANGE: &str = "CREATE TABLE m (k INT NOT NULL, n TEXT DEFAULT 'x', d DATE); \
+    INSERT INTO m VALUES (1, 'a', DATE '2024-02-29'), (2, NULL, NULL), (3, 'c', DATE '1999-12-31'); \
+    INSERT INTO m (k) VALUES (4); \
+    SELECT k, n, d FROM m; \
+    UPDATE m SET n = 'z', k = k + 10 WHERE d IS NULL; \
+    DELETE FROM m WHERE k = 1; \
+    ALTER TABLE m ADD COLUMN q INT DEFAULT 7; \
+    UPDATE m SET q = q - k WHERE k > 10; \
+    SELECT * FROM m; \
+    UPDATE m SET k = NULL WHERE k = 3; \
+    UPDATE m SET q = k * 9223372036854775807; \
+    SELECT n, q FROM m WHERE q < 0; \
+    DELETE FROM m; \
+    SELECT COUNT(*) FROM m; \
+    INSERT INTO m VALUES (5, 'e', NULL, 6); \
+    SELECT k, q FROM m; \
+    DROP TABLE m; \
+    SELECT k FROM m; \
+    CREATE TABLE m (k TEXT); \
+    INSERT INTO m VALUES ('f'); \
+    SELECT k FROM m;";
+
+const EACH_CHANGE_SERVED: &str =
+    "session 1 a.sql\n1 ok\n2 ok 3\n3 ok 1\n4 rows 4\n1,a,2024-02-29\n2,\\N,\\N\n3,c,1999-12-31\n\
+    4,x,\\N\n5 ok 2\n6 ok 1\n7 ok\n8 ok 2\n9 rows 3\n3,c,1999-12-31,7\n12,z,\\N,-5\n\
+    14,z,\\N,-7\n10 refused 13 null in not null column\n11 refused 10 overflow\n12 rows 2\n\
+    z,-7\nz,-5\n13 ok 3\n14 rows 1\n0\n15 ok 1\n16 rows 1\n5,6\n17 ok\n\
+    18 refused 3 no such table m\n19 ok\n20 ok 1\n21 rows 1\nf\nhistory 12\n\
+    1 1 1 CREATE TABLE m (k INT NOT NULL, n TEXT DEFAULT 'x', d DATE);\n\
+    2 1 2 INSERT INTO m VALUES (1, 'a', DATE '2024-02-29'), (2, NULL, NULL), (3, 'c', DATE '1999-12-31');\n\
+    3 1 3 INSERT INTO m (k) VALUES (4);\n\
+    4 1 5 UPDATE m SET n = 'z', k = k + 10 WHERE d IS NULL;\n5 1 6 DELETE FROM m WHERE k = 1;\n\
+    6 1 7 ALTER TABLE m ADD COLUMN q INT DEFAULT 7;\n\
+    7 1 8 UPDATE m SET q = q - k WHERE k > 10;\n8 1 13 DELETE FROM m;\n\
+    9 1 15 INSERT INTO m VALUES (5, 'e', NULL, 6);\n10 1 17 DROP TABLE m;\n\
+    11 1 19 CREATE TABLE m (k TEXT);\n12 1 20 INSERT INTO m VALUES ('f');\n";
+
 /// Scripts, and what is written of them.
-const SCRIPTS: [(&str, &str); 12] = [
+const SCRIPTS: [(&str, &str); 13] = [
     ("", "session 1 a.sql\nhistory 0\n"),
     (" ;\n\t; -- ;\n/* ; */", "session 1 a.sql\nhistory 0\n"),
     (THREE, THREE_SERVED),
@@ -109,6 +147,7 @@ const SCRIPTS: [(&str, &str); 12] = [
         "CREATE TABLE t (a INT); EXPLAIN SELECT a FROM t; EXPLAIN SELECT b FROM t; EXPLAIN DROP TABLE t",
         "session 1 a.sql\n1 ok\n2 plan 8\nfunction user.main():void;\n    X_1 := sql.bind(\"t\", \"a\", \"int\");\n    X_2 := algebra.mirror(X_1);\n    X_3 := algebra.markT(X_2, 0@0);\n    X_4 := algebra.reverse(X_3);\n    X_5 := algebra.join(X_4, X_1);\n    sql.output(X_5);\nend user.main;\n3 refused 5 no such column b\n4 refused 1 syntax\nhistory 1\n1 1 1 CREATE TABLE t (a INT);\n",
     ),
+    (EACH_CHANGE, EACH_CHANGE_SERVED),
 ];
 
 #[test]
@@ -333,14 +372,18 @@ impl Operate for Counting {
     }
 }
 
-/// The status and the work of a run of `THREE`, and how often the kernel was called.
-fn run_counted<L: Ledger>(alloc: Global, most: u64, blank: Blank) -> Result<(u8, u128, u64), Memory>
+/// The status and the work of a run of a script, and how often the kernel was called.
+fn run_counted<L: Ledger>(
+    alloc: Global,
+    script: Vec<u8>,
+    most: u64,
+    blank: Blank,
+) -> Result<(u8, u128, u64), Memory>
     requires name { blank.name ≡ L.name }
     requires parts { blank.parts ≡ L.parts }
     requires some { 0 < blank.parts }
 {
     let words = vec![in alloc; word_of(alloc, "run")?, word_of(alloc, "a.sql")?]?;
-    let script = Vec::from_slice(alloc, THREE.as_bytes())?;
     let mut scripts = SureScripts::new(vec![in alloc; (word_of(alloc, "a.sql")?, script)]?);
     let mut out = MemSink::new(alloc, 1000, 1000, Vec::new(alloc))?;
     let mut steps = Steps::<L>::new(blank);
@@ -359,17 +402,33 @@ fn run_counted<L: Ledger>(alloc: Global, most: u64, blank: Blank) -> Result<(u8,
     Ok((served.status, served.work, kernel.calls.get()))
 }
 
-fn counted(alloc: Global, most: u64) -> Result<(u8, u128, u64), Memory> {
-    run_counted::<Brand>(alloc, most, Blank::new(1))
+fn counted(alloc: Global, script: &str, most: u64) -> Result<(u8, u128, u64), Memory> {
+    let script = Vec::from_slice(alloc, script.as_bytes())?;
+    run_counted::<Brand>(alloc, script, most, Blank::new(1))
 }
 
 #[test]
 fn a_query_runs_as_its_plan(rt: HostRuntime) -> Result<(), Fail> {
     let alloc = rt.alloc();
     // select, mirror, markT, reverse and join, once each: the bind is no call of the kernel
-    let served = counted(alloc, 5)?;
+    let served = counted(alloc, THREE, 5)?;
     assert_eq!(rt; served, (0, 27, 5));
-    let given_up = counted(alloc, 4)?;
+    let given_up = counted(alloc, THREE, 4)?;
     assert_eq!(rt; given_up, (5, 0, 4));
+    Ok(())
+}
+
+const DELETE_AND_UPDATE: &str = "CREATE TABLE t (a INT); INSERT INTO t VALUES (3), (1), (2); \
+    DELETE FROM t WHERE a BETWEEN 2 AND 3; UPDATE t SET a = a + 1;";
+
+#[test]
+fn changes_run_as_their_plans(rt: HostRuntime) -> Result<(), Fail> {
+    let alloc = rt.alloc();
+    // DELETE: a bind of 3 pairs, then select, mirror, markT and reverse: 3 + 5 + 4 + 4 + 4 of work;
+    // UPDATE: a bind of 1 pair, then mirror, markT, reverse, join and +: 1 + 2 + 2 + 2 + 3 + 2
+    let served = counted(alloc, DELETE_AND_UPDATE, 9)?;
+    assert_eq!(rt; served, (0, 32, 9));
+    let given_up = counted(alloc, DELETE_AND_UPDATE, 8)?;
+    assert_eq!(rt; given_up, (5, 0, 8));
     Ok(())
 }

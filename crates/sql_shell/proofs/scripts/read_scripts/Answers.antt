@@ -1,5 +1,5 @@
-use Rattle.std.proofs.Common.{◌≡◌, ℕ, ◌+◌, ◌-◌, ◌≤◌, ◌⊎◌, inl, inr, List, ◌++◌, [], ◌∷◌, take, sym, subst, ap, ◌∙◌, arith}
-use Rattle.sql_shell.specs.Failures.{status_of, at_of}
+use Rattle.std.proofs.Common.{◌≡◌, ℕ, ◌+◌, ◌-◌, List, take, sym, subst, ◌∙◌, arith}
+use Rattle.sql_shell.specs.Failures.{at_of}
 use Rattle.sql_shell.specs.Scripts.{AreCut, CanBeRun}
 use Rattle.sql_shell.specs.declared.scripts.Script.{Script}
 use Rattle.sql_shell.proofs.ScriptLemmas.{unfit_here, cut_next, can_be_run, place_by, place_at_fault}

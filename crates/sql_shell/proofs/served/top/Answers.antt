@@ -1,14 +1,14 @@
-use Rattle.std.proofs.Common.{◌≡◌, ℕ, ◌+◌, ◌-◌, ◌≤◌, ◌⊎◌, inl, inr, List, Some, sym, ◌∙◌, subst, arith, ap}
-use Rattle.std.specs.Prelude.{length, take}
+use Rattle.std.proofs.Common.{◌≡◌, ℕ, ◌⊎◌, inl, inr, List, Some, sym, subst, arith}
+use Rattle.std.specs.Prelude.{length}
 use Rattle.std.specs.Io.KnownBytes.{Appends}
 use Rattle.run_log.specs.Events.{log_tree}
 use Rattle.causes.specs.Faults.{AppendsPrefix, Rose}
-use Rattle.sql_shell.specs.Failures.{status_of, at_of, is_by_bytes}
-use Rattle.sql_shell.specs.Scripts.{AreCut, AreRunnable, AreTexts, AreToldFirst, CanBeRun, IsFirstUnfit}
+use Rattle.sql_shell.specs.Failures.{status_of}
+use Rattle.sql_shell.specs.Scripts.{AreCut, AreRunnable, AreToldFirst, IsFirstUnfit}
 use Rattle.command_words.specs.Words.{run_files}
 use Rattle.sql_shell.specs.Work.{IsRun}
 use Rattle.sql_shell.specs.declared.scripts.Script.{Script}
-use Rattle.sql_shell.proofs.ScriptLemmas.{few_named, few_pieces, all_short, lifted, run_of, none_unfit, FirstUnfit, complete_of, found_of}
+use Rattle.sql_shell.proofs.ScriptLemmas.{few_named, few_pieces, all_short, lifted, run_of, none_unfit, complete_of, found_of}
 use Rattle.sql_shell.proofs.served.top.Goals as goal
 
 pub serve-requires-clause-few : goal.serve-requires-clause-few

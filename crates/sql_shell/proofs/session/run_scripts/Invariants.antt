@@ -1,4 +1,4 @@
-use Rattle.std.proofs.Common.{◌≡◌, ◌+◌, take}
+use Rattle.std.proofs.Common.{take}
 use Rattle.sql_shell.specs.Scripts.{names_of, pieces_in}
 use Rattle.sql_shell.specs.Session.{HasServed}
 use Rattle.sql_shell.proofs.session.run_scripts.Given as goal

@@ -10,7 +10,7 @@ use Rattle.sql_shell.proofs.show.show_explain.Goals as goal
 
 pub returns-in-Ok : goal.returns-in-Ok
 returns-in-Ok c =
-    let db = c.args.db.now in
+    let db = c.args.store.now.db in
     let query = query_tree c.args.query.now in
     let own = stmt_tree c.in-Ok.typed.stmt in
     let plan = c.in_ok-plan_query-in-Ok.field-0 in
@@ -21,7 +21,7 @@ returns-in-Ok c =
 
 pub returns-in-Err-Refused : goal.returns-in-Err-Refused
 returns-in-Err-Refused c =
-    let db = c.args.db.now in
+    let db = c.args.store.now.db in
     let query = query_tree c.args.query.now in
     let refusal = c.in-Err-Refused.refusal in
     let found : refusal_over db (ExplainSelect query) ≡ Some refusal = refusal_found (stmt_tree c.args.stmt.now) (ExplainSelect query) c.in_ok-schema.schema db (Some refusal) c.in_ok-schema.ensures c.requires.explain (c.check.ensures.refused refusal (cc (c.in-Err-Refused.is, c.in-Err-Refused.field-0-is))) in

@@ -1,4 +1,3 @@
-use Rattle.std.proofs.Common.{◌≡◌}
 use Rattle.std.proofs.lemmas.Result.{on_ok_weaker}
 use Rattle.sql_tree.specs.Tree.{query_tree}
 use Rattle.sql_shell.proofs.ServedLemmas.{explain_served}

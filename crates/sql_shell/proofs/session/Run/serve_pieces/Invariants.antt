@@ -1,4 +1,4 @@
-use Rattle.std.proofs.Common.{◌≡◌, ◌+◌, take}
+use Rattle.std.proofs.Common.{take}
 use Rattle.sql_shell.specs.Session.{ServesPieces}
 use Rattle.sql_shell.proofs.session.Run.serve_pieces.Given as goal
 

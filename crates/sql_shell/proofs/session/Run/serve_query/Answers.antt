@@ -1,4 +1,4 @@
-use Rattle.std.proofs.Common.{◌≡◌, refl}
+use Rattle.std.proofs.Common.{refl}
 use Rattle.std.proofs.lemmas.Result.{on_ok_weaker}
 use Rattle.sql_tree.specs.Tree.{query_tree}
 use Rattle.sql_shell.proofs.ServedLemmas.{counts_as, query_served}

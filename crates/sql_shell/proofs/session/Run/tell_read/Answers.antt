@@ -1,4 +1,3 @@
-use Rattle.std.proofs.Common.{◌≡◌}
 use Rattle.std.proofs.lemmas.Result.{on_ok_weaker}
 use Rattle.sql_shell.proofs.ServedLemmas.{tells_read}
 use Rattle.sql_shell.proofs.session.Run.tell_read.Goals as goal
