@@ -1,5 +1,5 @@
 -- An admission leaves a book.
-use Rattle.std.proofs.Common.{◌≡◌, ℕ, ◌+◌, ◌≤◌, ◌<◌, ◌^◌, List, Bool, cond, refl, ap, sym, ◌∙◌, subst, arith, length}
+use Rattle.std.proofs.Common.{◌≡◌, ℕ, ◌+◌, ◌≤◌, List, cond, refl, ap, sym, ◌∙◌, subst, arith, length}
 use Rattle.cell_core.specs.Pairs.{Pairs}
 use Rattle.lineage_key.specs.declared.key.Key.{Key}
 use Rattle.lineage_key.specs.Parents.{is_bind, table_of, column_of}
@@ -9,18 +9,18 @@ use Rattle.pool_policy.specs.declared.options.Admitted.{Admitted}
 use Rattle.pool_policy.specs.Pool.{PoolState}
 use Rattle.pool_policy.specs.Admits.{Offer, admit_of}
 use Rattle.pool_policy.specs.Keeps.{IsOffer}
-use Rattle.table_store.specs.Content.{Content, version_of}
+use Rattle.table_store.specs.Content.{version_of}
 use Rattle.run_log.specs.declared.event.Event.{Event}
 use Rattle.run_log.specs.declared.event.Act.TheVariants as act
 use Rattle.run_log.specs.Fold.{LogState, key_offer, key_present}
-use Rattle.run_log.specs.Totals.{AreSmall, AreWithin, gone_in, with_admission, with_pool}
-use Rattle.run_log.proofs.WithinLemmas.{admission_sum, event_within}
+use Rattle.run_log.specs.Totals.{AreSmall, gone_in, with_admission, with_pool}
+use Rattle.run_log.proofs.WithinLemmas.{admission_sum}
 use Rattle.book_core.specs.declared.book.Book.TheInside.{Inside}
 use Rattle.book_core.specs.BookView.{BookView, event_of, state_of}
 use Rattle.book_core.specs.Kept.{IsBook, book_shown}
 use Rattle.book_core.specs.Offers.{CanOffer}
 use Rattle.book_core.proofs.AdmitLemmas.{may_offer, offer_fits, offer_with, same_admission}
-use Rattle.book_core.proofs.BookLemmas.{IsQuiet, at_of, next_state, quiet_book}
+use Rattle.book_core.proofs.BookLemmas.{IsQuiet, at_of, plain_state, quiet_book}
 use Rattle.book_core.proofs.GoneLemmas.{gone_few}
 
 -- what may be offered of a book as it is seen may be offered of it
@@ -77,14 +77,15 @@ module _ (b : Inside) (known : IsBook b) (key : Key) (value : Pairs) (work prese
   admit_book new who instr said quiet gone answer totals =
       let event : Event = event_of who (act.Admit instr key said) in
       let counted = admission_sum b.totals said in
-      let within : AreWithin (s.at + 1) (with_pool new.pool (with_admission said b.totals)) = event_within s.at (with_admission said b.totals) new.pool 1025 b.totals (omega (arith, counted, gone)) (omega arith) known.state.within in
-      quiet_book b new event known quiet (λ up. refl) (next_state b new event known (record {
+      quiet_book b new event known quiet (λ up. refl) (plain_state b new event (with_admission said) known (record {
         log = quiet.log;
         options = quiet.options;
+        store = quiet.store;
         may = may_offer s key value work can known.state.sound;
-        db = known.state.db ∙ ap (λ (c : Content). c.db) (sym quiet.store);
-        versions = λ table column. ap (version_of table column) quiet.store ∙ known.state.versions table column;
+        db = refl;
+        versions = refl;
         pool = ap (λ (a : Admitted × PoolState). a.1) (sym answer);
-        totals = (λ i. with_pool ((sym answer i).1) (with_admission ((sym answer i).0) (known.state.totals i))) ∙ sym totals;
-        within = subst (AreWithin (s.at + 1)) (sym totals) within;
+        counts = ap (λ (a : Admitted × PoolState). with_pool (admit_of who (s.at + 1) (key_offer key s) s.pool).1 (with_admission a.0 s.totals)) (sym answer);
+        totals = totals;
+        few = omega (arith, counted, gone);
       }))

@@ -1,16 +1,15 @@
 -- What a session offers is what the fold of the log offers, wherever the pool looks at it.
-use Rattle.std.proofs.Common.{◌≡◌, ℕ, zero, suc, ◌+◌, ◌^◌, ◌<◌, ◌≤◌, List, [], ◌∷◌, map, length, Bool, true, false, not, ◌&&◌, cond, Option, Some, None, refl, ap, sym, ◌∙◌, subst, arith}
+use Rattle.std.proofs.Common.{◌≡◌, ℕ, zero, suc, ◌^◌, ◌<◌, ◌≤◌, List, [], ◌∷◌, map, length, Bool, true, false, not, cond, Option, Some, None, refl, ap, sym, ◌∙◌, subst, arith}
 use Rattle.std.specs.Prelude.{◌==◌, unwrap_or}
 use Rattle.std.specs.List.{AllByRecursion, filter_map, find}
 use Rattle.std.specs.Option.{option_and_then}
-use Rattle.std.proofs.lemmas.Bool.{eq-eqb, eqb-true}
+use Rattle.std.proofs.lemmas.Bool.{eqb-true}
 use Rattle.cell_core.specs.declared.operator.Value.{Value}
 use Rattle.cell_core.specs.declared.operator.Value.TheVariants.{Bat}
 use Rattle.cell_core.specs.Operators.{operate, work_of}
 use Rattle.cell_core.specs.Pairs.{Pairs, as_bat}
 use Rattle.mal_meaning.specs.Meaning.{column_pairs}
 use Rattle.lineage_key.specs.declared.key.Key.{Key}
-use Rattle.lineage_key.specs.declared.key.KeyArg.{KeyArg}
 use Rattle.lineage_key.specs.Parents.{id_in, is_bind, parents_of, table_of, column_of}
 use Rattle.evict_admit.specs.Runs.{is_one_of}
 use Rattle.subsume.proofs.Members.{In}
@@ -20,7 +19,7 @@ use Rattle.pool_policy.specs.declared.options.Admitted.{Admitted}
 use Rattle.pool_policy.specs.declared.options.Admitted.TheVariants.{Stale}
 use Rattle.pool_policy.specs.Pool.{PoolState}
 use Rattle.pool_policy.specs.Keyed.{entry_of_key, is_missing, is_pooled}
-use Rattle.pool_policy.specs.Admits.{Offer, admit_of, by_key, by_parents, is_other_version, missing_parent}
+use Rattle.pool_policy.specs.Admits.{Offer, admit_of, by_key, by_parents, is_other_version}
 use Rattle.pool_policy.specs.Keeps.{Face, IsOffer, arg_value, faces}
 use Rattle.pool_policy.specs.Worths.{IsWorth}
 use Rattle.pool_policy.proofs.Ends.{all_from}
@@ -31,7 +30,7 @@ use Rattle.pool_policy.proofs.NewEntry.{pooled_value}
 use Rattle.pool_policy.proofs.VersionLaws.{is_present}
 use Rattle.run_log.specs.Fold.{LogState, bind_work, key_offer, key_present, key_value, key_work}
 use Rattle.run_log.specs.Laws.{IsOffered, IsSound}
-use Rattle.book_core.specs.Offers.{CanOffer, NamesColumn}
+use Rattle.book_core.specs.Offers.{CanOffer}
 
 -- what a session offers
 abbrev pub offer_with : Key → Pairs → ℕ → LogState → Offer

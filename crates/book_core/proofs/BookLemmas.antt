@@ -1,6 +1,6 @@
 -- One event more.
-use Rattle.std.proofs.Common.{◌≡◌, ℕ, ◌+◌, ◌*◌, ◌≤◌, ◌<◌, List, [], ◌∷◌, ◌++◌, map, length, Bool, true, false, cond, refl, ap, sym, ◌∙◌, subst, arith, length-append}
-use Rattle.std.specs.Prelude.{fold, get_or, slice_set, ◌==◌, ◌^◌, Option, None}
+use Rattle.std.proofs.Common.{◌≡◌, ℕ, ◌+◌, ◌≤◌, ◌<◌, List, [], ◌∷◌, ◌++◌, length, Bool, true, false, cond, refl, ap, sym, ◌∙◌, subst, arith, length-append}
+use Rattle.std.specs.Prelude.{fold, get_or, slice_set, ◌==◌, ◌^◌, Option}
 use Rattle.std.proofs.lemmas.List.{map-append, length-map, length-set}
 use Rattle.std.specs.Vec.{vec_capacity}
 use Rattle.mal_meaning.specs.declared.plan.Plan.{Plan}
@@ -10,11 +10,13 @@ use Rattle.pool_policy.specs.declared.options.PoolOptions.{PoolOptions}
 use Rattle.pool_policy.specs.Pool.{PoolState}
 use Rattle.pool_policy.specs.Looks.{after_look}
 use Rattle.pool_policy.specs.Admits.{release_of}
+use Rattle.pool_policy.specs.Versions.{Versions}
 use Rattle.table_store.specs.Content.{Content, version_of}
 use Rattle.run_log.specs.declared.event.Event.{Event}
 use Rattle.run_log.specs.declared.event.Act.TheVariants as act
 use Rattle.run_log.specs.declared.event.Looked.{Looked}
-use Rattle.run_log.specs.Events.{ActTree, EventTree, act_tree, event_tree, log_tree}
+use Rattle.run_log.specs.declared.event.Totals.{Totals}
+use Rattle.run_log.specs.Events.{EventTree, act_tree, event_tree, log_tree}
 use Rattle.run_log.specs.Fold.{LogState, after, run_of}
 use Rattle.run_log.specs.Laws.{MayFollow}
 use Rattle.run_log.specs.Totals.{AreSmall, AreWithin, count_sum, with_look, with_pool}
@@ -48,27 +50,56 @@ open_more old new event session log =
     fold_more b [] = refl
     fold_more b (e ∷ es) = fold_more (and_opened session b e) es
 
--- the parts of the state behind an event are those of the new book
-pub record IsNext (old new : Inside) (event : Event) : Type 0 where
+-- the parts of the state behind an event are those of the new book, and it counts little
+pub record IsNext (old new : Inside) (event : Event) (count : Totals → Totals) : Type 0 where
   pub log : new.log.items ≡ old.log.items ++ event ∷ []
   pub options : new.pool.options ≡ old.pool.options
   pub may : MayFollow (state_of (book_shown old)) (act_tree event.act)
   pub db : (after (state_of (book_shown old)) (event_tree event)).db ≡ new.store.db
   pub versions : HasVersions (after (state_of (book_shown old)) (event_tree event)).versions new.store
   pub pool : (after (state_of (book_shown old)) (event_tree event)).pool ≡ new.pool
-  pub totals : (after (state_of (book_shown old)) (event_tree event)).totals ≡ new.totals
-  pub within : AreWithin (after (state_of (book_shown old)) (event_tree event)).at new.totals
+  pub counts : (after (state_of (book_shown old)) (event_tree event)).totals ≡ with_pool (after (state_of (book_shown old)) (event_tree event)).pool (count (state_of (book_shown old)).totals)
+  pub totals : new.totals ≡ with_pool new.pool (count old.totals)
+  pub few : count_sum (count old.totals) ≤ count_sum old.totals + 4095
 
-pub next_state : (old new : Inside) (event : Event) → IsBook old → IsNext old new event → IsStateOf (state_of (book_shown new)) new
-next_state old new event known next =
+pub next_state : (old new : Inside) (event : Event) (count : Totals → Totals) → IsBook old → IsNext old new event count → IsStateOf (state_of (book_shown new)) new
+next_state old new event count known next =
+    let at = (state_of (book_shown old)).at in
+    let within : AreWithin (at + 1) (with_pool new.pool (count old.totals)) = event_within at (count old.totals) new.pool 4095 old.totals next.few (omega arith) known.state.within in
     subst (λ (s : LogState). IsStateOf s new) (sym (state_more old new event next.log next.options)) (record {
       sound = steps_keep_holds.sound (state_of (book_shown old)) (event_tree event) known.state.sound next.may;
       db = next.db;
       versions = next.versions;
       pool = next.pool;
-      totals = next.totals;
-      within = next.within;
+      totals = next.counts ∙ (λ i. with_pool (next.pool i) (count (known.state.totals i))) ∙ sym next.totals;
+      within = subst (AreWithin (at + 1)) (sym next.totals) within;
     })
+
+-- an event that leaves the tables as they are
+pub record IsPlain (old new : Inside) (event : Event) (count : Totals → Totals) : Type 0 where
+  pub log : new.log.items ≡ old.log.items ++ event ∷ []
+  pub options : new.pool.options ≡ old.pool.options
+  pub store : new.store ≡ old.store
+  pub may : MayFollow (state_of (book_shown old)) (act_tree event.act)
+  pub db : (after (state_of (book_shown old)) (event_tree event)).db ≡ (state_of (book_shown old)).db
+  pub versions : (after (state_of (book_shown old)) (event_tree event)).versions ≡ (state_of (book_shown old)).versions
+  pub pool : (after (state_of (book_shown old)) (event_tree event)).pool ≡ new.pool
+  pub counts : (after (state_of (book_shown old)) (event_tree event)).totals ≡ with_pool (after (state_of (book_shown old)) (event_tree event)).pool (count (state_of (book_shown old)).totals)
+  pub totals : new.totals ≡ with_pool new.pool (count old.totals)
+  pub few : count_sum (count old.totals) ≤ count_sum old.totals + 4095
+
+pub plain_state : (old new : Inside) (event : Event) (count : Totals → Totals) → IsBook old → IsPlain old new event count → IsStateOf (state_of (book_shown new)) new
+plain_state old new event count known plain = next_state old new event count known (record {
+  log = plain.log;
+  options = plain.options;
+  may = plain.may;
+  db = plain.db ∙ known.state.db ∙ ap (λ (c : Content). c.db) (sym plain.store);
+  versions = λ table column. ap (version_of table column) plain.store ∙ known.state.versions table column ∙ ap (λ (vs : Versions). vs table column) (sym plain.versions);
+  pool = plain.pool;
+  counts = plain.counts;
+  totals = plain.totals;
+  few = plain.few;
+})
 
 -- an event of a session that opens and closes nothing
 pub same_open : (old new : Inside) (event : Event) → IsBook old → new.log.items ≡ old.log.items ++ event ∷ [] → ((up : Bool) → opened_by (act_tree event.act) up ≡ up) → new.begun ≡ old.begun
@@ -97,59 +128,41 @@ log_long old new event log = let long = length-append old.log.items (event ∷ [
 pub at_of : (b : Inside) → (state_of (book_shown b)).at ≡ length b.log.items
 at_of b = logs_tell_holds.at b.pool.options (log_tree b.log.items) ∙ length-map b.log.items event_tree
 
-pub quiet_book : (old new : Inside) (event : Event) → IsBook old → IsQuiet old new event → ((up : Bool) → opened_by (act_tree event.act) up ≡ up)
-    → IsStateOf (state_of (book_shown new)) new → IsBook new
-quiet_book old new event known quiet same state =
-    let long = log_long old new event quiet.log in
-    let flags = few_up new.begun (ap (λ (xs : List Bool). length xs) quiet.begun ∙ known.sessions) in
-    let room = quiet.room in
-    let few = quiet.few in record {
+-- there is room for it and the Ends behind it
+pub still_book : (old new : Inside) (event : Event) → IsBook old → new.log.items ≡ old.log.items ++ event ∷ [] → new.begun ≡ old.begun → length old.log.items + 18 ≤ vec_capacity new.log → length old.log.items < 2 ^ 29
+    → ((up : Bool) → opened_by (act_tree event.act) up ≡ up) → IsStateOf (state_of (book_shown new)) new → IsBook new
+still_book old new event known log begun room few same state =
+    let long = log_long old new event log in
+    let flags = few_up new.begun (ap (λ (xs : List Bool). length xs) begun ∙ known.sessions) in record {
       state = state;
-      sessions = ap (λ (xs : List Bool). length xs) quiet.begun ∙ known.sessions;
-      opened = same_open old new event known quiet.log same quiet.begun;
+      sessions = ap (λ (xs : List Bool). length xs) begun ∙ known.sessions;
+      opened = same_open old new event known log same begun;
       room = omega (arith, long, flags, room);
       few = omega (arith, long, flags, few);
     }
+
+pub quiet_book : (old new : Inside) (event : Event) → IsBook old → IsQuiet old new event → ((up : Bool) → opened_by (act_tree event.act) up ≡ up)
+    → IsStateOf (state_of (book_shown new)) new → IsBook new
+quiet_book old new event known quiet same state = still_book old new event known quiet.log quiet.begun quiet.room quiet.few same state
 
 -- ## A look
 
 pub look_book : (old new : Inside) (who : Who) (instr : ℕ) (key : Key) (found : Looked) → IsBook old → IsQuiet old new (event_of who (act.Look instr key found))
     → new.pool ≡ after_look who (length old.log.items + 1) key old.pool → new.totals ≡ with_pool new.pool (with_look found old.totals) → IsBook new
 look_book old new who instr key found known quiet pool totals =
-    let s = state_of (book_shown old) in
     let event : Event = event_of who (act.Look instr key found) in
     let counted = look_sum old.totals found in
-    let within : AreWithin (s.at + 1) (with_pool new.pool (with_look found old.totals)) = event_within s.at (with_look found old.totals) new.pool 2 old.totals (omega (arith, counted)) (omega arith) known.state.within in
-    let pool_is : after_look who (s.at + 1) key s.pool ≡ new.pool = (λ i. after_look who (at_of old i + 1) key (known.state.pool i)) ∙ sym pool in
-    quiet_book old new event known quiet (λ up. refl) (next_state old new event known (record {
+    quiet_book old new event known quiet (λ up. refl) (plain_state old new event (with_look found) known (record {
       log = quiet.log;
       options = quiet.options;
+      store = quiet.store;
       may = tt;
-      db = known.state.db ∙ ap (λ (c : Content). c.db) (sym quiet.store);
-      versions = λ table column. ap (version_of table column) quiet.store ∙ known.state.versions table column;
-      pool = pool_is;
-      totals = (λ i. with_pool (pool_is i) (with_look found (known.state.totals i))) ∙ sym totals;
-      within = subst (AreWithin (s.at + 1)) (sym totals) within;
-    }))
-
--- ## A text that is refused
-
-pub refuse_book : (old new : Inside) (who : Who) (code : ℕ) → IsBook old → IsQuiet old new (event_of who (act.Write None code 0))
-    → new.pool ≡ old.pool → new.totals ≡ with_pool new.pool old.totals → IsBook new
-refuse_book old new who code known quiet pool totals =
-    let s = state_of (book_shown old) in
-    let event : Event = event_of who (act.Write None code 0) in
-    let within : AreWithin (s.at + 1) (with_pool new.pool old.totals) = event_within s.at old.totals new.pool 0 old.totals (omega arith) (omega arith) known.state.within in
-    let pool_is : s.pool ≡ new.pool = known.state.pool ∙ sym pool in
-    quiet_book old new event known quiet (λ up. refl) (next_state old new event known (record {
-      log = quiet.log;
-      options = quiet.options;
-      may = tt;
-      db = known.state.db ∙ ap (λ (c : Content). c.db) (sym quiet.store);
-      versions = λ table column. ap (version_of table column) quiet.store ∙ known.state.versions table column;
-      pool = pool_is;
-      totals = (λ i. with_pool (pool_is i) (known.state.totals i)) ∙ sym totals;
-      within = subst (AreWithin (s.at + 1)) (sym totals) within;
+      db = refl;
+      versions = refl;
+      pool = (λ i. after_look who (at_of old i + 1) key (known.state.pool i)) ∙ sym pool;
+      counts = refl;
+      totals = totals;
+      few = omega (arith, counted);
     }))
 
 -- ## What the calls below ask for
@@ -180,10 +193,7 @@ pub end_book : (old new : Inside) (who : Who) (code : ℕ) → who.session < 17 
     → new.log.items ≡ old.log.items ++ event_of who (act.End code) ∷ [] → vec_capacity old.log ≤ vec_capacity new.log
     → new.pool ≡ release_of who.session old.pool → new.store ≡ old.store → new.totals ≡ with_pool new.pool old.totals → new.begun ≡ slice_set old.begun who.session false → IsBook new
 end_book old new who code low known up log room_kept pool store totals begun =
-    let s = state_of (book_shown old) in
     let event : Event = event_of who (act.End code) in
-    let within : AreWithin (s.at + 1) (with_pool new.pool old.totals) = event_within s.at old.totals new.pool 0 old.totals (omega arith) (omega arith) known.state.within in
-    let pool_is : release_of who.session s.pool ≡ new.pool = ap (release_of who.session) known.state.pool ∙ sym pool in
     let long = log_long old new event log in
     let flag : get_or old.begun who.session false ≡ true = sym (known.opened who.session low) ∙ up in
     let sessions = known.sessions in
@@ -191,15 +201,17 @@ end_book old new who code low known up log room_kept pool store totals begun =
     let counted : open_count new.begun + 1 ≡ open_count old.begun = ap (λ (flags : List Bool). open_count flags + 1) begun ∙ down in
     let room = known.room in
     let few = known.few in record {
-      state = next_state old new event known (record {
+      state = plain_state old new event (λ t. t) known (record {
         log = log;
         options = ap (λ (p : PoolState). p.options) pool;
+        store = store;
         may = tt;
-        db = known.state.db ∙ ap (λ (c : Content). c.db) (sym store);
-        versions = λ table column. ap (version_of table column) store ∙ known.state.versions table column;
-        pool = pool_is;
-        totals = (λ i. with_pool (pool_is i) (known.state.totals i)) ∙ sym totals;
-        within = subst (AreWithin (s.at + 1)) (sym totals) within;
+        db = refl;
+        versions = refl;
+        pool = ap (release_of who.session) known.state.pool ∙ sym pool;
+        counts = refl;
+        totals = totals;
+        few = omega arith;
       });
       sessions = ap (λ (flags : List Bool). length flags) begun ∙ length-set old.begun who.session false ∙ known.sessions;
       opened = λ session below. open_more old new event session log ∙ flag_set old.begun who.session session false (is_open session (book_shown old)) (omega (arith, low, sessions)) (known.opened session below) ∙ ap (λ (flags : List Bool). get_or flags session false) (sym begun);
@@ -213,23 +225,22 @@ pub begin_book : (old new : Inside) (who : Who) (code : ℕ) (plan : Option Plan
     → new.log.items ≡ old.log.items ++ event_of who (act.Begin code plan) ∷ [] → length old.log.items + 18 ≤ vec_capacity new.log → length old.log.items < 2 ^ 29
     → new.pool ≡ old.pool → new.store ≡ old.store → new.totals ≡ with_pool new.pool old.totals → new.begun ≡ slice_set old.begun who.session true → IsBook new
 begin_book old new who code plan low known log room few pool store totals begun =
-    let s = state_of (book_shown old) in
     let event : Event = event_of who (act.Begin code plan) in
-    let within : AreWithin (s.at + 1) (with_pool new.pool old.totals) = event_within s.at old.totals new.pool 0 old.totals (omega arith) (omega arith) known.state.within in
-    let pool_is : s.pool ≡ new.pool = known.state.pool ∙ sym pool in
     let long = log_long old new event log in
     let sessions = ap (λ (flags : List Bool). length flags) begun ∙ length-set old.begun who.session true ∙ known.sessions in
     let held = known.sessions in
     let flags = few_up new.begun sessions in record {
-      state = next_state old new event known (record {
+      state = plain_state old new event (λ t. t) known (record {
         log = log;
         options = ap (λ (p : PoolState). p.options) pool;
+        store = store;
         may = tt;
-        db = known.state.db ∙ ap (λ (c : Content). c.db) (sym store);
-        versions = λ table column. ap (version_of table column) store ∙ known.state.versions table column;
-        pool = pool_is;
-        totals = (λ i. with_pool (pool_is i) (known.state.totals i)) ∙ sym totals;
-        within = subst (AreWithin (s.at + 1)) (sym totals) within;
+        db = refl;
+        versions = refl;
+        pool = known.state.pool ∙ sym pool;
+        counts = refl;
+        totals = totals;
+        few = omega arith;
       });
       sessions = sessions;
       opened = λ session below. open_more old new event session log ∙ flag_set old.begun who.session session true (is_open session (book_shown old)) (omega (arith, low, held)) (known.opened session below) ∙ ap (λ (flags : List Bool). get_or flags session false) (sym begun);

@@ -1,5 +1,5 @@
 -- An admission gives up no more entries than there are.
-use Rattle.std.proofs.Common.{◌≡◌, ℕ, zero, suc, ◌+◌, ◌-◌, ◌≤◌, List, [], ◌∷◌, ◌++◌, Bool, true, false, ◌&&◌, cond, Option, Some, None, refl, ap, ◌∙◌, subst, arith, length, map}
+use Rattle.std.proofs.Common.{◌≡◌, ℕ, zero, suc, ◌-◌, ◌≤◌, List, [], ◌∷◌, ◌++◌, Bool, true, false, ◌&&◌, cond, Option, Some, None, refl, subst, arith, length}
 use Rattle.std.specs.Prelude.{◌==◌}
 use Rattle.std.specs.Option.{option_map_or}
 use Rattle.std.proofs.lemmas.List.{length-map}
@@ -18,7 +18,7 @@ use Rattle.pool_policy.specs.Keyed.{entry_of_key, shape_in}
 use Rattle.pool_policy.specs.Admits.{Offer, admit_of, by_credit, by_key, by_parents, by_room, credit_of, evictions_for, is_other_version, missing_parent, number_from, row_of, rows_of, shape_number, with_shape}
 use Rattle.run_log.specs.Totals.{gone_in}
 
-run_few : (n : ℕ) (score : Stats → Score) (rows : List Row) (bytes places : ℕ) → length (run_of n score rows bytes places).0 ≤ n
+pub run_few : (n : ℕ) (score : Stats → Score) (rows : List Row) (bytes places : ℕ) → length (run_of n score rows bytes places).0 ≤ n
 run_few zero score rows bytes places = omega arith
 run_few (suc n) score rows bytes places =
     step (is_enough bytes places) (next_of score rows) (λ (row : Row). run_of n score (without row.id rows) (bytes - row.bytes) (places - 1))

@@ -4,10 +4,8 @@ use Rattle.mal_meaning.specs.declared.plan.Plan.{Plan}
 use Rattle.sql_tree.specs.Tree.{StmtTree}
 use Rattle.sql_tree.specs.Tree.StmtTree.{Select}
 use Rattle.sql_semantics.specs.declared.refusal.Refusal.{Refusal}
-use Rattle.sql_semantics.specs.declared.source.Source.{Source}
 use Rattle.sql_semantics.specs.Refusals.{refusal_number}
 use Rattle.recycle_mark.specs.Marks.{marks_of}
-use Rattle.table_store.specs.declared.heading.Heading.{Heading}
 use Rattle.run_log.specs.declared.event.Act.{Act}
 use Rattle.run_log.specs.declared.event.Act.TheVariants.{Begin}
 
@@ -33,7 +31,3 @@ code_in (Err refusal) = refusal_number refusal
 -- the act of a Begin
 abbrev pub begin_act : StmtTree → Result Plan Refusal → Act
 begin_act stmt outcome = Begin (code_in outcome) (logged_plan stmt outcome)
-
--- a table without its rows, as the check has it
-abbrev pub source_in : Heading → Source
-source_in heading = record { table = heading.name; columns = heading.columns }

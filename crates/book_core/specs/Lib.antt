@@ -4,3 +4,4 @@ pub mod Offers
 pub mod Begins
 pub mod Versions
 pub mod Kept
+pub mod Writes

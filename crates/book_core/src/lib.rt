@@ -3,7 +3,7 @@
 //! A `Book` has the tables, the pool and the totals. Contracts see its options and its log alone: what
 //! it has is what the fold of its log says (`run_log`), so what a call answers follows from the options
 //! and the events before it. Each step of a session adds exactly one event; where memory runs out it adds
-//! nothing, and the book is as before. Writes that are accepted are yet to come.
+//! nothing, and the book is as before.
 #![tactic(auto)]
 
 mod admit;
@@ -11,6 +11,7 @@ mod begin;
 mod book;
 mod events;
 mod planning;
+mod write;
 
 pub use begin::Begun;
 pub use book::Book;

@@ -1,58 +1,24 @@
 //! The plan of a query over the tables of a store.
-ghost use Rattle.std.specs.Prelude.{◌≡◌, map, Some, None, IfOk};
-ghost use Rattle.cell_core.specs.declared.table.Db.{Db as DbSeen};
+ghost use Rattle.std.specs.Prelude.{◌≡◌, Some, None, IfOk};
 ghost use Rattle.mal_check.specs.Checked.{plan_fault};
 ghost use Rattle.mal_meaning.specs.Runs.{Runs};
 ghost use Rattle.plan_queries.specs.Plans.{plan_over, refusal_over};
 ghost use Rattle.sql_grammar.specs.Formed.{IsFormed};
 ghost use Rattle.sql_semantics.specs.Answer.{query_of};
-ghost use Rattle.sql_semantics.specs.Sources.{schema_of as schema_seen};
 ghost use Rattle.sql_semantics.specs.Valid.{IsValid};
 ghost use Rattle.sql_tree.specs.Tree.{query_tree, stmt_tree};
-ghost use Rattle.book_core.specs.Begins.{code_in, logged_plan as logged_plan_of, marks_in, source_in, unless_refused};
+ghost use Rattle.book_core.specs.Begins.{code_in, logged_plan as logged_plan_of, marks_in, unless_refused};
 
-use cell_core::{Memory, Sequence, copy_columns};
+use cell_core::Memory;
 use mal_meaning::Plan;
 use plan_queries::plan_query;
 use recycle_mark::marks;
 use sql_check::{CheckError, check};
-use sql_semantics::{Refusal, Schema, Source};
+use sql_semantics::Refusal;
 use sql_tree::{Query, Stmt};
 use std::alloc::Global;
-use table_store::{Heading, Store};
-
-/// A table without its rows, as the check has it.
-fn source_of(alloc: Global, heading: &Heading) -> Result<Source, Memory>
-    ensures { IfOk result (λ source. source ≡ source_in heading.now) }
-{
-    let columns = copy_columns(alloc, heading.columns.as_slice())?;
-    Ok(Source {
-        table: heading.name.share()?,
-        columns,
-    })
-}
-
-/// The tables without their rows, as the check has them.
-fn sources_of(alloc: Global, headings: &[Heading]) -> Result<Sequence<Source>, Memory>
-    ensures { IfOk result (λ sources. sources ≡ map source_in headings.now) }
-{
-    let mut sources = Sequence::new(alloc);
-    let mut rest = headings;
-    'headings: while let [heading, more @ ..] = rest {
-        sources.push(source_of(alloc, heading)?)?;
-        rest = more;
-    }
-    Ok(sources)
-}
-
-/// What the tables of a store say without their rows.
-#[tactic(auto, using(crate::proofs::SourceLemmas::sources_are))]
-fn schema_of(alloc: Global, store: &Store) -> Result<Schema, Memory>
-    ensures { IfOk result (λ schema. schema ≡ schema_seen store.now.db) }
-{
-    let tables = sources_of(alloc, store.schema())?;
-    Ok(Schema { tables })
-}
+use store_changes::schema_of;
+use table_store::Store;
 
 /// The plan by which a query is run over the tables of a store, or its refusal by them. `stmt` is its
 /// statement.

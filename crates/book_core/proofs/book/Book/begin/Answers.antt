@@ -1,4 +1,4 @@
-use Rattle.std.proofs.Common.{◌≡◌, ◌+◌, ◌∷◌, ◌++◌, [], ap, ◌∙◌, refl, arith, length, true, List}
+use Rattle.std.proofs.Common.{◌∷◌, ◌++◌, [], ap, ◌∙◌, refl, arith, length, true, List}
 use Rattle.std.specs.Prelude.{slice_set}
 use Rattle.run_log.specs.declared.event.Event.{Event}
 use Rattle.book_core.specs.declared.book.Book.TheInside.{Inside}
