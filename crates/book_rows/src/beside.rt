@@ -1,0 +1,182 @@
+//! A book beside plain tables, to which the same changes are done.
+ghost use Rattle.std.specs.Prelude.{◌≡◌, [], IfOk};
+ghost use Rattle.score_hook.specs.declared.stats.Evict.TheVariants.{Lru};
+ghost use Rattle.score_hook.specs.Scores.{IsInRange, score_of};
+ghost use Rattle.sql_grammar.specs.Formed.{IsFormed};
+ghost use Rattle.sql_tree.specs.Tree.{stmt_tree};
+
+use bat_core::{Columns, Shared};
+use bat_kernel::Kernel;
+use book_core::Book;
+use cell_core::{Cell, Column, Db, Memory, Sequence, Steps, Table};
+use pool_policy::{Admit, PoolOptions, Who};
+use score_hook::{Evict, Score, ScoreCall, Scorer, Stats, formula};
+use sql_changes::change;
+use sql_parse::parse;
+use sql_semantics::Reply;
+use sql_tree::Stmt;
+use std::alloc::Global;
+use std::sync::ledger::Ledger;
+use table_store::Snap;
+
+/// The session and the statement by which all is done.
+pub(crate) const WHO: Who = Who {
+    session: 1,
+    statement: 1,
+};
+
+/// The scores by the moment of the last use.
+pub(crate) fn by_last_use(alloc: Global) -> Result<Scorer, Memory>
+    ensures kind { IfOk result (λ scorer. scorer.kind ≡ Lru) }
+    ensures weights { IfOk result (λ scorer. scorer.weights.items ≡ []) }
+{
+    let call: ScoreCall = Box::new(
+        alloc,
+        move |stats: &Stats, now: u64| -> Score
+            requires { IsInRange stats.now now }
+            ensures { result ≡ score_of Lru [] stats.now now }
+        { formula(Evict::Lru, stats, now) },
+    )?;
+    Ok(Scorer::new(alloc, Evict::Lru, call))
+}
+
+/// A book without events, in whose pool the entry that was used least lately goes first.
+pub(crate) fn empty_book(alloc: Global) -> Result<Book, Memory>
+    ensures kind { IfOk result (λ book. book.options.evict ≡ Lru) }
+    ensures weights { IfOk result (λ book. book.options.weights ≡ []) }
+{
+    let options = PoolOptions {
+        places: 16,
+        budget: 1 << 30,
+        evict: Evict::Lru,
+        weights: Sequence::new(alloc),
+        admit: Admit::All,
+        credits: 1,
+    };
+    let book = Book::new(alloc, options)?;
+    Ok(book)
+}
+
+/// A statement; a text that is none counts as want of memory.
+pub(crate) fn read(alloc: Global, text: &str) -> Result<Stmt, Memory>
+    ensures { IfOk result (λ stmt. IsFormed (stmt_tree stmt)) }
+{
+    match parse(alloc, text) {
+        Ok(stmt) => Ok(stmt),
+        Err(_) => Err(Memory),
+    }
+}
+
+/// What the book replies to a change; a query counts as want of memory.
+fn written<L: Ledger>(
+    alloc: Global,
+    book: &mut Book,
+    scorer: &Scorer,
+    stmt: &Stmt,
+    steps: &mut Steps<L>,
+) -> Result<Reply, Memory>
+    requires kind { scorer.now.kind ≡ book.old.options.evict }
+    requires weights { scorer.now.weights.items ≡ book.old.options.weights }
+    requires formed { IsFormed (stmt_tree stmt.now) }
+    ensures { book.new.options ≡ book.old.options }
+{
+    match stmt {
+        Stmt::Query(_) | Stmt::Explain(_) => Err(Memory),
+        _ => book.write(alloc, scorer, WHO, stmt, &Kernel::new(), steps),
+    }
+}
+
+/// Whether two replies are the same.
+fn is_same(one: &Reply, other: &Reply) -> bool {
+    match (one, other) {
+        (Reply::Done, Reply::Done) => true,
+        (Reply::Rows(some), Reply::Rows(others)) => *some == *others,
+        (Reply::Refused(why), Reply::Refused(cause)) => *why == *cause,
+        _ => false,
+    }
+}
+
+/// Does a change, which the check accepts, to the book and to the plain tables, and tells whether both
+/// reply alike.
+pub(crate) fn write_both<L: Ledger>(
+    alloc: Global,
+    book: &mut Book,
+    scorer: &Scorer,
+    db: &mut Db,
+    text: &str,
+    steps: &mut Steps<L>,
+) -> Result<bool, Memory>
+    requires kind { scorer.now.kind ≡ book.old.options.evict }
+    requires weights { scorer.now.weights.items ≡ book.old.options.weights }
+    ensures { book.new.options ≡ book.old.options }
+{
+    let stmt = read(alloc, text)?;
+    let told = written(alloc, book, scorer, &stmt, steps)?;
+    let plain = change(alloc, &stmt, db)?;
+    Ok(is_same(&told, &plain))
+}
+
+/// The tables as they stand, by the begin of a query.
+pub(crate) fn snapshot_of(alloc: Global, book: &mut Book, text: &str) -> Result<Snap, Memory>
+    ensures { book.new.options ≡ book.old.options }
+{
+    let stmt = read(alloc, text)?;
+    match &stmt {
+        Stmt::Query(query) => Ok(book.begin(alloc, WHO, &stmt, query)?.snap),
+        _ => Err(Memory),
+    }
+}
+
+/// Whether a column holds the cells of rows at a place.
+fn holds(column: &Shared, rows: &[Sequence<Cell>], place: usize) -> bool {
+    let cells = column.bat().tails();
+    let mut at = 0;
+    'cells: while at < cells.len() {
+        let Some(row) = rows.get(at as usize) else {
+            return false;
+        };
+        let Some(cell) = row.as_slice().get(place) else {
+            return false;
+        };
+        if *cells.get(at).cell() != *cell {
+            return false;
+        }
+        at += 1;
+    }
+    cells.len() == rows.len() as u64
+}
+
+/// Whether a snapshot has this column of a table, which stands at a place.
+fn has_column(
+    alloc: Global,
+    snap: &Snap,
+    table: &Table,
+    column: &Column,
+    place: usize,
+) -> Result<bool, Memory> {
+    match snap.column(alloc, &table.name, &column.name)? {
+        Some(found) => Ok(holds(&found, table.rows.as_slice(), place)),
+        None => Ok(false),
+    }
+}
+
+/// Whether a snapshot has the table.
+fn has_table(alloc: Global, snap: &Snap, table: &Table) -> Result<bool, Memory> {
+    for (place, column) in table.columns.as_slice().iter().enumerate() {
+        if !has_column(alloc, snap, table, column, place)? {
+            return Ok(false);
+        }
+    }
+    Ok(true)
+}
+
+/// Whether a snapshot has all these tables and no others.
+pub(crate) fn has_tables(alloc: Global, snap: &Snap, db: &Db) -> Result<bool, Memory> {
+    let tables = db.tables.as_slice();
+    for table in tables {
+        if !has_table(alloc, snap, table)? {
+            return Ok(false);
+        }
+    }
+    Ok(snap.schema().len() == tables.len())
+}
