@@ -3,11 +3,12 @@ ghost use Rattle.std.specs.Prelude.{◌≡◌, None, IfOk};
 ghost use Rattle.mal_check.specs.Checked.{plan_fault};
 
 use crate::texts::{DROPPED, FOLDED, GIVEN, OPTIMISED, QUERY, QUERY_OPTIMISED, SHARED, TEXTS};
-use cell_core::Memory;
+use cell_core::{Arg, Cell, Memory, Sequence};
 use mal_check::{PlanError, check_plan};
-use mal_meaning::Plan;
+use mal_meaning::{Out, Plan};
 use mal_opt::{drop_dead, fold_constants, optimise, share_terms};
 use mal_print::print_mal;
+use mal_printed::{days_have_text, print_and_read};
 use mal_text::{MalError, parse_mal};
 use recycle_mark::marks;
 use std::alloc::Global;
@@ -148,5 +149,58 @@ fn scalars_and_what_they_lead_to_are_not_marked(rt: HostRuntime) -> Result<(), F
     // the select has a sum of constants as its bound
     let want = [true, false, false, true, false, true, false, false];
     assert!(rt; marked(alloc, GIVEN)?.as_slice() == want.as_slice());
+    Ok(())
+}
+
+/// A plan that shows a day.
+fn day_shown(alloc: Global, day: i32) -> Result<Plan, Memory> {
+    let mut cols = Sequence::new(alloc);
+    cols.push(Arg::Const(Cell::Day(day)))?;
+    let out = Out {
+        cols,
+        keep: None,
+        order: Sequence::new(alloc),
+        limit: None,
+    };
+    Ok(Plan {
+        instrs: Sequence::new(alloc),
+        out,
+    })
+}
+
+#[test]
+fn days_from_year_1_to_9999_have_a_text(rt: HostRuntime) -> Result<(), Fail> {
+    let alloc = rt.alloc();
+    for (day, want) in [
+        (-719_163, false),
+        (-719_162, true),
+        (2_932_896, true),
+        (2_932_897, false),
+    ] {
+        assert!(rt; days_have_text(&day_shown(alloc, day)?) == want);
+    }
+    Ok(())
+}
+
+/// A plan that is printed and read again. One with a day that has no text counts as want of memory.
+fn again(alloc: Global, plan: &Plan) -> Result<Plan, Memory>
+    requires { plan_fault plan.now ≡ None }
+{
+    if days_have_text(plan) {
+        print_and_read(alloc, plan)
+    } else {
+        Err(Memory)
+    }
+}
+
+#[test]
+fn a_plan_that_is_printed_and_read_again_is_the_same(rt: HostRuntime) -> Result<(), Fail> {
+    let alloc = rt.alloc();
+    for text in [GIVEN, QUERY_OPTIMISED] {
+        match read(alloc, text) {
+            Ok(plan) => assert!(rt; again(alloc, &plan)? == plan),
+            Err(_) => assert!(rt; false),
+        }
+    }
     Ok(())
 }

@@ -1,0 +1,11 @@
+pub mod CutLemmas
+pub mod WordLemmas
+pub mod CallLemmas
+pub mod CanonBlocks
+pub mod NamedLemmas
+pub mod PlanPrinted
+pub mod StandsLemmas
+pub mod ReadAgain
+pub mod DayTests
+pub mod Utf8Lemmas
+pub mod AgainLemmas
