@@ -12,22 +12,24 @@ use Rattle.pool_policy.specs.Keyed.{shape_in}
 use Rattle.pool_policy.specs.Admits.{Offer, evictions_for, number_from, offer_bytes, rows_of}
 use Rattle.pool_policy.proofs.Fitting.{pools_fit_all}
 use Rattle.recycle_pool.specs.declared.pool.Pool.TheInside.{Inside}
-use Rattle.recycle_pool.specs.Usable.{IsNew, IsPlannable, credit_with, shapes_with}
+use Rattle.recycle_pool.specs.Usable.{IsNew, IsWeighable, credit_with, shapes_with}
 use Rattle.recycle_pool.specs.Views.{pool_shown, IsKept}
 use Rattle.recycle_pool.proofs.Answered.{IsShaped}
 
 -- a plan can be made
-pub plannable : (now : ℕ) (p : Inside) (shown : List PoolEntry) → IsKept p → now < 2 ^ 30 → shown ≡ p.entries.items → IsPlannable now shown
+pub plannable : (now : ℕ) (p : Inside) (shown : List PoolEntry) → IsKept p → now < 2 ^ 30 → shown ≡ p.entries.items → IsWeighable now shown
 plannable now p shown known early same =
     let fit = pools_fit_all (pool_shown p) now known.pool known.few known.budget known.moment early in
-    subst (IsPlannable now) (sym same) (record { weighed = record { few = omega (arith, known.pool.places, known.few); ids = fit.ids; apart = fit.apart; range = fit.range }; bytes = omega (arith, known.pool.bytes, known.budget) })
+    subst (IsWeighable now) (sym same) (record { few = omega (arith, known.pool.places, known.few); ids = fit.ids; apart = fit.apart; range = fit.range })
 
 -- the plan is that of the policy
-pub run_from : (now : ℕ) (p : Inside) (offer : Offer) (shown : List PoolEntry) (bytes : ℕ) (run : Run) → shown ≡ p.entries.items → bytes ≡ offer_bytes offer
-    → run ≡ given_up (score_at p.options now) (rows_of (parents_of offer.key) shown) (pool_bytes shown + bytes - p.options.budget) (length shown + 1 - p.options.places) → run ≡ evictions_for now offer (pool_shown p)
-run_from now p offer shown bytes run same bytes_is is =
-    is ∙ ap (λ (es : List PoolEntry). given_up (score_at p.options now) (rows_of (parents_of offer.key) es) (pool_bytes es + bytes - p.options.budget) (length es + 1 - p.options.places)) same
-    ∙ ap (λ n. given_up (score_at p.options now) (rows_of (parents_of offer.key) p.entries.items) (pool_bytes p.entries.items + n - p.options.budget) (length p.entries.items + 1 - p.options.places)) bytes_is
+pub run_from : (now : ℕ) (p : Inside) (offer : Offer) (one two : List PoolEntry) (bytes need slots : ℕ) (run : Run) → IsKept p → one ≡ p.entries.items → two ≡ p.entries.items → bytes ≡ offer_bytes offer
+    → need ≡ p.bytes + bytes - p.options.budget → slots ≡ length one + 1 - p.options.places
+    → run ≡ given_up (score_at p.options now) (rows_of (parents_of offer.key) two) need slots → run ≡ evictions_for now offer (pool_shown p)
+run_from now p offer one two bytes need slots run known one_is two_is bytes_is need_is slots_is is =
+    let need_told : need ≡ pool_bytes p.entries.items + offer_bytes offer - p.options.budget = need_is ∙ (λ i. known.bytes i + bytes_is i - p.options.budget) in
+    let slots_told : slots ≡ length p.entries.items + 1 - p.options.places = slots_is ∙ ap (λ (es : List PoolEntry). length es + 1 - p.options.places) one_is in
+    is ∙ (λ i. given_up (score_at p.options now) (rows_of (parents_of offer.key) (two_is i)) (need_told i) (slots_told i))
 
 -- the shape has its number
 pub shaped_from : (who : Who) (now : ℕ) (offer : Offer) (p : Inside) (shown : List PoolEntry) (n : ℕ) (shapes : List Shape) (credit : List ℕ) → IsKept p → shown ≡ p.entries.items → IsNew offer (pool_shown p)

@@ -1,21 +1,16 @@
 -- What a look finds, case by case.
-use Rattle.std.proofs.Common.{◌≡◌, ℕ, ◌<◌, List, [], ◌∷◌, Bool, true, false, ◌||◌, Option, Some, refl, ap, sym, ◌∙◌, length, slice_index_or}
-use Rattle.std.specs.Prelude.{filter, if◌then◌else◌, ◌==◌, IsSome}
+use Rattle.std.proofs.Common.{◌≡◌, ℕ, ◌<◌, List, [], ◌∷◌, Bool, true, false, ◌||◌, refl, ap, sym, ◌∙◌, length, slice_index_or}
+use Rattle.std.specs.Prelude.{if◌then◌else◌, ◌==◌}
 use Rattle.std.specs.List.{list_any, slice_get}
 use Rattle.std.proofs.lemmas.Bool.Decides.{Decides-eqb}
-use Rattle.cell_core.specs.declared.cut.Span.{Span}
-use Rattle.cell_core.specs.Sorted.{first_by}
 use Rattle.lineage_key.specs.declared.key.Key.{Key}
 use Rattle.lineage_key.specs.Parents.{is_named, parents_of}
 use Rattle.lineage_key.specs.Spans.{span_asked}
-use Rattle.subsume.specs.Cutting.{is_contained}
-use Rattle.least_cover.specs.Chosen.{Selection}
 use Rattle.evict_admit.specs.Runs.{is_one_of}
 use Rattle.pool_policy.specs.declared.entry.PoolEntry.{PoolEntry}
-use Rattle.pool_policy.specs.Keyed.{entry_of_id, entry_of_key, first_parent}
-use Rattle.pool_policy.specs.Looks.{Finding, container_of, exact_found, found_of, is_smaller, selections_from, target_found}
+use Rattle.pool_policy.specs.Keyed.{entry_of_key, first_parent}
+use Rattle.pool_policy.specs.Looks.{Finding, exact_found, found_of, target_found}
 use Rattle.pool_policy.specs.Looks.Finding.{Exact, Miss}
-use Rattle.recycle_pool.proofs.Chains.{container_pooled}
 use Rattle.std.proofs.lemmas.Option.{slice_get-get_or}
 
 swapped : (m n : ℕ) → (m == n) ≡ (n == m)
@@ -35,13 +30,3 @@ exact_is es key named k d none is found low =
     let other : Finding = target_found (first_parent key) es (span_asked key) in
     ap (λ o. exact_found o other) (sym (slice_get-get_or es k d low) ∙ found)
     ∙ ap (λ b. if b then Miss else exact_found (entry_of_key key es) other) (sym none ∙ is ∙ one_of_is (parents_of key) 0)
-
-abbrev first_of : Span → List Selection → Option Selection
-first_of target selections = first_by is_smaller (filter (λ (s : Selection). is_contained target s.1.1) selections)
-
--- the container among the selections as they were listed
-pub container_is : (parent : ℕ) (target : Span) (es : List PoolEntry) (selections : List Selection) (o : Option Selection) → selections ≡ selections_from parent es → o ≡ first_of target selections → o ≡ container_of parent target es
-container_is parent target es selections o same is = is ∙ ap (first_of target) same
-
-pub found_pooled : (parent : ℕ) (target : Span) (es : List PoolEntry) (selections : List Selection) (s : Selection) → selections ≡ selections_from parent es → Some s ≡ first_of target selections → IsSome (entry_of_id s.0 es)
-found_pooled parent target es selections s same is = container_pooled parent target es s (sym (container_is parent target es selections (Some s) same is))

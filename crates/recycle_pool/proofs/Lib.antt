@@ -1,6 +1,9 @@
 pub mod Changed
 pub mod Stands
 pub mod Places
+pub mod Ids
+pub mod Totals
+pub mod Prints
 pub mod Chains
 pub mod Findings
 pub mod Owed
@@ -10,3 +13,4 @@ pub mod Planned
 pub mod Answered
 pub mod Admissions
 pub mod Carrying
+pub mod Contained

@@ -12,7 +12,8 @@ use Rattle.pool_policy.specs.Keeps.{IsCounted}
 use Rattle.pool_policy.proofs.Fitting.{pools_fit_all}
 use Rattle.pool_policy.proofs.Lists.{all_on}
 use Rattle.recycle_pool.specs.declared.pool.Pool.TheInside.{Inside}
-use Rattle.recycle_pool.specs.Usable.{CanUse, IsLookable, IsOwed}
+use Rattle.recycle_pool.specs.Usable.{CanUse, HaveRisingIds, IsLookable, IsOwed}
+use Rattle.recycle_pool.specs.Named.{IsNamed}
 use Rattle.recycle_pool.specs.Views.{pool_shown, IsKept}
 
 -- entries of a pool can be looked at
@@ -20,6 +21,14 @@ pub lookable : (p : Inside) (shown : List PoolEntry) → IsKept p → shown ≡ 
 lookable p shown known same =
     let fit = pools_fit_all (pool_shown p) p.moment known.pool known.few known.budget known.moment known.moment in
     subst IsLookable (sym same) (record { next = p.next; rising = known.pool.rising; few = fit.few; pairs = fit.pairs })
+
+-- their ids rise
+pub rising : (p : Inside) (shown : List PoolEntry) → IsKept p → shown ≡ p.entries.items → HaveRisingIds shown
+rising p shown known same = subst HaveRisingIds (sym same) (p.next, known.pool.rising)
+
+-- they are named
+pub named : (p : Inside) (shown : List PoolEntry) → IsKept p → shown ≡ p.entries.items → IsNamed p.keys shown
+named p shown known same = subst (IsNamed p.keys) (sym same) known.keys
 
 -- they may pay back
 pub owed : (p : Inside) (shown : List PoolEntry) → IsKept p → shown ≡ p.entries.items → IsOwed p.ledger shown

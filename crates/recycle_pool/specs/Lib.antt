@@ -2,3 +2,4 @@ pub mod Views
 pub mod Answers
 pub mod Usable
 pub mod Carries
+pub mod Named

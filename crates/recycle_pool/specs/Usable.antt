@@ -9,10 +9,14 @@ use Rattle.evict_admit.specs.Credits.{Credits}
 use Rattle.least_cover.specs.Chosen.{Selection}
 use Rattle.pool_policy.specs.declared.entry.PoolEntry.{PoolEntry}
 use Rattle.pool_policy.specs.Looks.{selections_from}
-use Rattle.pool_policy.specs.Pool.{PoolState, pool_bytes}
+use Rattle.pool_policy.specs.Pool.{PoolState}
 use Rattle.pool_policy.specs.Keyed.{entry_of_key}
 use Rattle.pool_policy.specs.Admits.{Offer, credit_of, is_other_version, missing_parent, number_from, rows_of}
 use Rattle.pool_policy.specs.Keeps.{Rises, faces, is_unpaid}
+
+-- ids that rise
+abbrev pub HaveRisingIds : List PoolEntry → Type 0
+HaveRisingIds entries = (next : ℕ) × Rises 1 next (faces entries)
 
 -- entries among which can be looked: their ids rise, and few selections have few pairs
 pub record IsLookable (entries : List PoolEntry) : Type 0 where
@@ -43,11 +47,6 @@ pub record IsWeighable (now : ℕ) (entries : List PoolEntry) : Type 0 where
   pub ids : (kept : List ℕ) → All (λ (r : Row). 0 < r.id) (rows_of kept entries)
   pub apart : (kept : List ℕ) → IsDistinct nat_eq (map (λ (r : Row). r.id) (rows_of kept entries))
   pub range : (kept : List ℕ) → All (λ (r : Row). IsInRange r.stats now) (rows_of kept entries)
-
--- entries from which a plan of evictions can be made
-pub record IsPlannable (now : ℕ) (entries : List PoolEntry) : Type 0 where
-  pub weighed : IsWeighable now entries
-  pub bytes : pool_bytes entries < 2 ^ 62
 
 -- an offer that isn't pooled and can be: its key is new, its version is the present one, and its parents are pooled
 pub record IsNew (offer : Offer) (pool : PoolState) : Type 0 where

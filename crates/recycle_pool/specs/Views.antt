@@ -1,10 +1,11 @@
 -- What a pool shows, and what it keeps beside.
 use Rattle.std.specs.Prelude.{◌≡◌, ◌+◌, ◌*◌, ◌≤◌, ◌<◌, ◌^◌, ℕ, length}
 use Rattle.std.specs.Vec.{vec_capacity}
-use Rattle.pool_policy.specs.Pool.{PoolState}
+use Rattle.pool_policy.specs.Pool.{PoolState, pool_bytes}
 use Rattle.pool_policy.specs.Keeps.{IsPool}
 use Rattle.recycle_pool.specs.declared.lists.Lists.{Lists}
 use Rattle.recycle_pool.specs.declared.pool.Pool.TheInside.{Inside}
+use Rattle.recycle_pool.specs.Named.{IsNamed}
 
 abbrev pub pool_shown : Inside → PoolState
 pool_shown p = record { options = p.options; entries = p.entries.items; next = p.next; moment = p.moment; shapes = p.shapes.items; credit = p.ledger.each }
@@ -15,7 +16,7 @@ pub record HaveRoom (places : ℕ) (lists : Lists) : Type 0 where
   pub gone : places ≤ vec_capacity lists.gone
   pub rows : places ≤ vec_capacity lists.rows
 
--- it is a pool, each shape starts with the credit of the options, all places are taken at the start, and there are few ids and shapes for its moment
+-- it is a pool, each shape starts with the credit of the options, all places are taken at the start, each key is found by its print, the bytes are told, and there are few ids and shapes for its moment
 pub record IsKept (p : Inside) : Type 0 where
   pub pool : IsPool (pool_shown p)
   pub few : p.options.places ≤ 1024
@@ -26,3 +27,6 @@ pub record IsKept (p : Inside) : Type 0 where
   pub shapes : length p.shapes.items ≤ p.moment
   pub room : p.options.places ≤ vec_capacity p.entries
   pub lists : HaveRoom p.options.places p.lists
+  pub keys : IsNamed p.keys p.entries.items
+  pub bytes : p.bytes ≡ pool_bytes p.entries.items
+  pub prints : 2 * p.options.places ≤ p.keys.prints.room

@@ -8,11 +8,11 @@ ghost use Rattle.recycle_pool.specs.Usable.{IsNew};
 
 use crate::offer::{Offered, bytes_of, first_missing, is_stale, new_entry};
 use crate::pool::Pool;
-use crate::room::{enter, is_spent, leave, left_bytes, pay, plan_room};
+use crate::room::{enter, is_spent, leave, left_bytes, pay, plan_room, wanted};
 use crate::shapes::give_number;
 use crate::uses::pin_id;
 use cell_core::Memory;
-use pool_policy::{Admitted, Who, place_of_key};
+use pool_policy::{Admitted, Who};
 use score_hook::Scorer;
 
 impl Pool {
@@ -62,7 +62,7 @@ impl Pool {
         ensures none { IfNone result (IsNew (offer_in offered.now) self.old) }
         ensures same { IfNone result (self.new ≡ self.old) }
     {
-        match place_of_key(self.entries.as_slice(), &offered.key) {
+        match self.keys.place(self.entries.as_slice(), &offered.key) {
             None => self.refuse(now, offered),
             Some(place) => {
                 let id = self.entries[place].id;
@@ -129,6 +129,7 @@ impl Pool {
         if is_spent(&self.ledger, shape) {
             return Ok(Admitted::NoCredit(shape));
         }
+        let (need, slots) = wanted(self.entries.as_slice(), self.bytes, &self.options, bytes);
         let enough = plan_room(
             &mut self.lists,
             self.entries.as_slice(),
@@ -136,26 +137,23 @@ impl Pool {
             scorer,
             now,
             &offered.key,
-            bytes,
+            need,
+            slots,
         );
+        let gone = self.lists.gone.as_slice();
+        let left = left_bytes(self.entries.as_slice(), self.bytes, gone);
         if !enough {
-            let left = left_bytes(self.entries.as_slice(), self.lists.gone.as_slice());
             return Ok(Admitted::NoRoom(left));
         }
         let id = self.next;
         let entry = new_entry(id, shape, offered, bytes, who, now);
-        leave(
-            &mut self.entries,
-            &mut self.ledger,
-            self.lists.gone.as_slice(),
-        );
+        leave(&mut self.entries, &mut self.ledger, gone);
+        self.bytes = left + bytes;
         pay(&mut self.ledger, shape);
+        self.keys.add(self.entries.as_slice(), &entry);
         enter(&mut self.entries, entry);
         self.next = id + 1;
-        Ok(Admitted::Taken {
-            id,
-            bytes,
-            gone: self.lists.gone.len() as u64,
-        })
+        let gone = self.lists.gone.len() as u64;
+        Ok(Admitted::Taken { id, bytes, gone })
     }
 }

@@ -7,22 +7,24 @@ ghost use Rattle.least_cover.specs.Chosen.{chain_of, entry_at, pieces_from};
 ghost use Rattle.pool_policy.specs.Keyed.{entry_of_id};
 ghost use Rattle.pool_policy.specs.Looks.{across_found, cover_of, has_rising_heads, selections_from};
 ghost use Rattle.recycle_pool.specs.Answers.{ArePooled, HandsOut, IsPooledAs, piece_in, told};
-ghost use Rattle.recycle_pool.specs.Usable.{IsLookable};
+ghost use Rattle.recycle_pool.specs.Usable.{HaveRisingIds, IsLookable};
 
+use crate::by_id::place_by_id;
 use crate::found::{Found, Part};
 use crate::selections::{Selection, priced};
 use bat_core::Shared;
 use cell_core::{Cut, Memory, Span, compare_cuts};
 use least_cover::cheapest;
-use pool_policy::{PoolEntry, place_of_id};
+use pool_policy::PoolEntry;
 use std::alloc::Global;
 
 /// The value of the entry with this id.
 pub(crate) fn value_at(entries: &[PoolEntry], id: u64) -> Result<Shared, Memory>
-    requires { IsSome (entry_of_id id entries.now) }
+    requires pooled { IsSome (entry_of_id id entries.now) }
+    requires rising { HaveRisingIds entries.now }
     ensures { IfOk result (λ value. IsPooledAs entries.now id value) }
 {
-    match place_of_id(entries, id) {
+    match place_by_id(entries, id) {
         None => unreachable!(),
         Some(place) => entries[place].value.share(),
     }
@@ -30,9 +32,10 @@ pub(crate) fn value_at(entries: &[PoolEntry], id: u64) -> Result<Shared, Memory>
 
 /// Whether the heads of the entry with this id rise.
 fn rises_at(entries: &[PoolEntry], id: u64) -> bool
+    requires { HaveRisingIds entries.now }
     ensures { result ≡ has_rising_heads id entries.now }
 {
-    match place_of_id(entries, id) {
+    match place_by_id(entries, id) {
         None => false,
         Some(place) => entries[place].value.bat().heads_rise(),
     }
@@ -59,6 +62,7 @@ fn part_at(
 ) -> Result<Part, Memory>
     requires low { place < length selections.now }
     requires pooled { IsSome (entry_of_id (entry_at selections.now place).0 entries.now) }
+    requires rising { HaveRisingIds entries.now }
     ensures piece { IfOk result (λ part. piece_in part ≡ piece_of target.now cut (entry_at selections.now place)) }
     ensures value { IfOk result (λ part. IsPooledAs entries.now part.id part.value) }
 {
@@ -82,6 +86,7 @@ fn cut_up(
 ) -> Result<(), Memory>
     requires within { AllByRecursion (λ place. place < length selections.now) chain.now }
     requires pooled { AllByRecursion (λ s. IsSome (entry_of_id s.0 entries.now)) selections.now }
+    requires rising { HaveRisingIds entries.now }
     requires empty { parts.old.items ≡ [] }
     ensures pieces { IfOk result (λ done. map piece_in parts.new.items ≡ pieces_from target.now selections.now target.now.low chain.now) }
     ensures values { IfOk result (λ done. ArePooled entries.now parts.new.items) }

@@ -4,14 +4,16 @@ ghost use Rattle.lineage_key.specs.Spans.{span_asked};
 ghost use Rattle.pool_policy.specs.Keyed.{first_parent as parent_in};
 ghost use Rattle.pool_policy.specs.Looks.{across_found, container_of, cover_of, found_of, target_found, within_found};
 ghost use Rattle.recycle_pool.specs.Answers.{HandsOut, told};
+ghost use Rattle.recycle_pool.specs.Named.{IsNamed};
 ghost use Rattle.recycle_pool.specs.Usable.{IsLookable};
 
 use crate::covers::{find_cover, value_at};
 use crate::found::{Found, Part};
+use crate::keys::Keys;
 use crate::selections::{container, first_parent, selections_of};
 use cell_core::{Memory, Span};
 use lineage_key::{Key, span_of};
-use pool_policy::{PoolEntry, place_of_key};
+use pool_policy::PoolEntry;
 
 /// What serves a selection of a target: one whose range contains it, or pieces that cover it.
 fn find_selection(
@@ -25,13 +27,15 @@ fn find_selection(
     ensures found { IfOk result (λ found. told found parts.new.items ≡ within_found (container_of parent target.now entries.now) (across_found (cover_of parent target.now entries.now))) }
     ensures values { IfOk result (λ found. HandsOut entries.now found parts.new.items) }
 {
-    let selections = selections_of(*parts.allocator(), entries, parent)?;
-    match container(selections.as_slice(), target) {
+    match container(entries, parent, target)? {
         Some(selection) => {
             let value = value_at(entries, selection.0)?;
             Ok(Found::Within(selection.0, value))
         }
-        None => find_cover(entries, parent, target, selections.as_slice(), parts),
+        None => {
+            let selections = selections_of(*parts.allocator(), entries, parent)?;
+            find_cover(entries, parent, target, selections.as_slice(), parts)
+        }
     }
 }
 
@@ -50,7 +54,13 @@ fn find_range(entries: &[PoolEntry], key: &Key, parts: &mut Vec<Part>) -> Result
 
 /// What a look finds: an entry with the key, or what serves its range; nothing where a parent isn't
 /// pooled.
-pub(crate) fn find(entries: &[PoolEntry], key: &Key, parts: &mut Vec<Part>) -> Result<Found, Memory>
+pub(crate) fn find(
+    keys: &Keys,
+    entries: &[PoolEntry],
+    key: &Key,
+    parts: &mut Vec<Part>,
+) -> Result<Found, Memory>
+    requires named { IsNamed keys.now entries.now }
     requires lookable { IsLookable entries.now }
     requires empty { parts.old.items ≡ [] }
     ensures found { IfOk result (λ found. told found parts.new.items ≡ found_of entries.now key.now) }
@@ -59,7 +69,7 @@ pub(crate) fn find(entries: &[PoolEntry], key: &Key, parts: &mut Vec<Part>) -> R
     if key.names(0) {
         return Ok(Found::Miss);
     }
-    match place_of_key(entries, key) {
+    match keys.place(entries, key) {
         None => find_range(entries, key, parts),
         Some(place) => {
             let value = entries[place].value.share()?;
@@ -70,17 +80,19 @@ pub(crate) fn find(entries: &[PoolEntry], key: &Key, parts: &mut Vec<Part>) -> R
 
 /// The same; where memory runs out, there are no parts.
 pub(crate) fn find_whole(
+    keys: &Keys,
     entries: &[PoolEntry],
     key: &Key,
     parts: &mut Vec<Part>,
 ) -> Result<Found, Memory>
+    requires named { IsNamed keys.now entries.now }
     requires lookable { IsLookable entries.now }
     requires empty { parts.old.items ≡ [] }
     ensures found { IfOk result (λ found. told found parts.new.items ≡ found_of entries.now key.now) }
     ensures values { IfOk result (λ found. HandsOut entries.now found parts.new.items) }
     ensures err { OnErr result (parts.new.items ≡ []) }
 {
-    match find(entries, key, parts) {
+    match find(keys, entries, key, parts) {
         Ok(found) => Ok(found),
         Err(memory) => {
             parts.clear();

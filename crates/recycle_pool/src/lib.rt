@@ -6,14 +6,17 @@
 //! for what goes to make room. What the entries mean, and that results from them are the plain ones, is
 //! told by the laws of `pool_policy`.
 //!
-//! Entries are found by a look at each of them.
+//! An entry with a key is found by the print of the key (`pool_index`), and one with an id by halves, since
+//! ids rise. The bytes of all entries are kept. Selections are found by a look at each entry.
 #![tactic(auto)]
 
 mod admit;
+mod by_id;
 mod carried;
 mod covers;
 mod finding;
 mod found;
+mod keys;
 mod lists;
 mod look;
 mod offer;

@@ -3,8 +3,9 @@ ghost use Rattle.std.specs.List.{slice_get};
 ghost use Rattle.pool_policy.specs.Pool.{empty_pool, pool_bytes};
 ghost use Rattle.pool_policy.specs.Admits.{release_of};
 
+use crate::keys::Keys;
 use crate::lists::Lists;
-use crate::uses::{total_bytes, unpin_all};
+use crate::uses::unpin_all;
 use bat_core::Shared;
 use cell_core::Memory;
 use evict_admit::Ledger;
@@ -23,6 +24,9 @@ pub struct Pool {
     pub(crate) shapes: Vec<Shape>,
     pub(crate) ledger: Ledger,
     pub(crate) lists: Lists,
+    pub(crate) keys: Keys,
+    /// The stated bytes of all entries.
+    pub(crate) bytes: u64,
 }
 
 impl Model for Pool {
@@ -46,6 +50,7 @@ impl Pool {
     {
         let entries = Vec::with_capacity(alloc, options.places as usize)?;
         let lists = Lists::new(alloc, options.places as usize)?;
+        let keys = Keys::new(alloc, options.places as usize)?;
         let ledger = Ledger::new(alloc, options.credits);
         Ok(Pool {
             options,
@@ -55,6 +60,8 @@ impl Pool {
             shapes: Vec::new(alloc),
             ledger,
             lists,
+            keys,
+            bytes: 0,
         })
     }
 
@@ -71,8 +78,7 @@ impl Pool {
         ensures entries { result.0 ≡ length self.now.entries }
         ensures bytes { result.1 ≡ pool_bytes self.now.entries }
     {
-        let bytes = total_bytes(self.entries.as_slice());
-        (self.entries.len() as u64, bytes)
+        (self.entries.len() as u64, self.bytes)
     }
 
     /// The entries, in the order of their ids. Takes no memory.

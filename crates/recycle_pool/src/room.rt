@@ -2,14 +2,15 @@
 ghost use Rattle.std.specs.Prelude.{◌≡◌, ◌≢◌, ◌==◌, ◌&&◌, ◌++◌, ◌∷◌, ◌-◌, ◌+◌, ◌<◌, ◌≤◌, ◌^◌, [], false, filter, length, not, slice_index, vec_len};
 ghost use Rattle.std.specs.Vec.{vec_capacity};
 ghost use Rattle.lineage_key.specs.Parents.{parents_of};
+ghost use Rattle.evict_admit.specs.Evictions.{is_enough};
 ghost use Rattle.evict_admit.specs.Runs.{given_up, is_one_of};
 ghost use Rattle.pool_policy.specs.Pool.{pool_bytes, score_at};
 ghost use Rattle.pool_policy.specs.Looks.{paid_back};
 ghost use Rattle.pool_policy.specs.Admits.{credit_of, left_without, one_less, pays_at_end, rows_of};
-ghost use Rattle.recycle_pool.specs.Usable.{IsOwed, IsPlannable};
+ghost use Rattle.recycle_pool.specs.Usable.{IsOwed, IsWeighable};
 
 use crate::lists::Lists;
-use crate::uses::{pay_if, total_bytes};
+use crate::uses::pay_if;
 use evict_admit::{Ledger, Row, plan_evictions};
 use lineage_key::Key;
 use pool_policy::{PoolEntry, PoolOptions, is_among};
@@ -29,7 +30,32 @@ fn fill_rows(rows: &mut Vec<Row>, entries: &[PoolEntry], key: &Key)
     }
 }
 
-/// Lists which entries are given up for a new one of so many bytes. Whether that is enough.
+/// How many bytes and places are wanted for a new entry of so many bytes, beside the total of these.
+pub(crate) fn wanted(
+    entries: &[PoolEntry],
+    total: u64,
+    options: &PoolOptions,
+    bytes: u64,
+) -> (u128, u64)
+    requires few { length entries.now ≤ 1024 }
+    ensures bytes { result.0 ≡ total + bytes - options.now.budget }
+    ensures places { result.1 ≡ length entries.now + 1 - options.now.places }
+{
+    let total = u128::from(total) + u128::from(bytes);
+    let need = total.saturating_sub(u128::from(options.budget));
+    let slots = (entries.len() as u64 + 1).saturating_sub(options.places);
+    (need, slots)
+}
+
+/// Whether nothing is wanted.
+fn is_nothing(need: u128, slots: u64) -> bool
+    ensures { result ≡ is_enough need slots }
+{
+    need == 0 && slots == 0
+}
+
+/// Lists which entries are given up for a new one, where so many bytes and places are wanted. Whether
+/// that is enough.
 pub(crate) fn plan_room(
     lists: &mut Lists,
     entries: &[PoolEntry],
@@ -37,33 +63,37 @@ pub(crate) fn plan_room(
     scorer: &Scorer,
     now: u64,
     key: &Key,
-    bytes: u64,
+    need: u128,
+    slots: u64,
 ) -> bool
     requires kind { scorer.now.kind ≡ options.now.evict }
     requires weights { scorer.now.weights.items ≡ options.now.weights }
-    requires plan { IsPlannable now entries.now }
-    requires small { bytes < 2 ^ 62 }
+    requires plan { IsWeighable now entries.now }
     requires rows { length entries.now ≤ vec_capacity lists.old.rows }
     requires gone { length entries.now ≤ vec_capacity lists.old.gone }
-    ensures plan { (lists.new.gone.items, result) ≡ given_up (score_at options.now now) (rows_of (parents_of key.now) entries.now) (pool_bytes entries.now + bytes - options.now.budget) (length entries.now + 1 - options.now.places) }
+    ensures plan { (lists.new.gone.items, result) ≡ given_up (score_at options.now now) (rows_of (parents_of key.now) entries.now) need slots }
     ensures gone_room { vec_capacity lists.old.gone ≤ vec_capacity lists.new.gone }
     ensures rows_room { vec_capacity lists.old.rows ≤ vec_capacity lists.new.rows }
     ensures touched { lists.new.touched ≡ lists.old.touched }
 {
-    fill_rows(&mut lists.rows, entries, key);
     lists.gone.clear();
-    let total = u128::from(total_bytes(entries)) + u128::from(bytes);
-    let need = total.saturating_sub(u128::from(options.budget));
-    let slots = (entries.len() as u64 + 1).saturating_sub(options.places);
+    if is_nothing(need, slots) {
+        return true;
+    }
+    fill_rows(&mut lists.rows, entries, key);
     let rows = lists.rows.as_slice();
     plan_evictions(rows, need, slots, scorer, now, &mut lists.gone)
 }
 
-/// The stated bytes of the entries whose ids aren't among these.
-pub(crate) fn left_bytes(entries: &[PoolEntry], gone: &[u64]) -> u64
-    requires { pool_bytes entries.now < 2 ^ 62 }
+/// The stated bytes of the entries whose ids aren't among these, where all have so many.
+pub(crate) fn left_bytes(entries: &[PoolEntry], all: u64, gone: &[u64]) -> u64
+    requires all { all ≡ pool_bytes entries.now }
+    requires small { all < 2 ^ 62 }
     ensures { result ≡ pool_bytes (left_without gone.now entries.now) }
 {
+    if gone.is_empty() {
+        return all;
+    }
     let mut total = 0;
     'entries: for i in 0..entries.len() {
         if !is_among(gone, entries[i].id) {
@@ -102,6 +132,9 @@ pub(crate) fn leave(entries: &mut Vec<PoolEntry>, ledger: &mut Ledger, gone: &[u
     ensures start { ledger.new.start ≡ ledger.old.start }
     ensures room { vec_capacity entries.new ≡ vec_capacity entries.old }
 {
+    if gone.is_empty() {
+        return;
+    }
     pay_leaving(ledger, entries.as_slice(), gone);
     take_out(entries, gone);
 }

@@ -1,10 +1,9 @@
 //! The selections from one parent, and which of them contains a range.
-ghost use Rattle.std.specs.Prelude.{◌≡◌, ◌++◌, IfOk, Some, filter, if◌then◌else◌, map};
-ghost use Rattle.std.specs.Option.{option_copied, option_map_or};
-ghost use Rattle.cell_core.specs.Sorted.{first_by};
+ghost use Rattle.std.specs.Prelude.{◌≡◌, ◌++◌, IfOk, Some, if◌then◌else◌, map};
+ghost use Rattle.std.specs.Option.{option_map_or};
 ghost use Rattle.subsume.specs.Cutting.{is_contained};
 ghost use Rattle.pool_policy.specs.Keyed.{first_parent as parent_in};
-ghost use Rattle.pool_policy.specs.Looks.{is_smaller, selection_from, selections_from};
+ghost use Rattle.pool_policy.specs.Looks.{container_of, is_smaller, selection_from, selections_from};
 
 use cell_core::{Memory, Span};
 use lineage_key::{Key, span_of};
@@ -83,14 +82,17 @@ fn has_less(a: &Selection, b: &Selection) -> bool
     a.1.0 < b.1.0 || a.1.0 == b.1.0 && a.0 < b.0
 }
 
-/// The smaller of the best so far and one more.
-fn smaller_of<'a>(best: Option<&'a Selection>, selection: &'a Selection) -> Option<&'a Selection>
-    ensures { option_copied result ≡ Some (option_map_or (λ b. if is_smaller selection.entry.now b then selection.entry.now else b) (option_copied best.entry) selection.entry.now) }
+/// The smaller of the best so far and one more, if the span of that contains the target.
+fn better(best: Option<Selection>, selection: Selection, target: &Span) -> Option<Selection>
+    ensures { result ≡ (if is_contained target.now selection.1.1 then Some (option_map_or (λ b. if is_smaller selection b then selection else b) best selection) else best) }
 {
+    if !within(target, &selection.1.1) {
+        return best;
+    }
     match best {
         None => Some(selection),
         Some(b) => {
-            if has_less(selection, b) {
+            if has_less(&selection, &b) {
                 Some(selection)
             } else {
                 Some(b)
@@ -99,17 +101,34 @@ fn smaller_of<'a>(best: Option<&'a Selection>, selection: &'a Selection) -> Opti
     }
 }
 
-/// The smallest of the selections whose span contains the target.
-pub(crate) fn container<'a>(selections: &'a [Selection], target: &Span) -> Option<&'a Selection>
-    ensures { option_copied result ≡ first_by is_smaller (filter (λ s. is_contained target.now s.1.1) selections.entry.now) }
+/// The better of the best so far and an entry, if that is a selection from the parent.
+fn weighed(
+    best: Option<Selection>,
+    entry: &PoolEntry,
+    parent: u64,
+    target: &Span,
+) -> Result<Option<Selection>, Memory>
+    ensures { IfOk result (λ better. better ≡ option_map_or (λ s. if is_contained target.now s.1.1 then Some (option_map_or (λ b. if is_smaller s b then s else b) best s) else best) (selection_from parent entry.now) best) }
 {
-    let mut rest = selections;
+    match selection_of(entry, parent)? {
+        None => Ok(best),
+        Some(selection) => Ok(better(best, selection, target)),
+    }
+}
+
+/// The smallest of the selections from a parent whose span contains the target.
+pub(crate) fn container(
+    entries: &[PoolEntry],
+    parent: u64,
+    target: &Span,
+) -> Result<Option<Selection>, Memory>
+    ensures { IfOk result (λ best. best ≡ container_of parent target.now entries.now) }
+{
+    let mut rest = entries;
     let mut best = None;
-    'selections: while let [selection, more @ ..] = rest {
-        if within(target, &selection.1.1) {
-            best = smaller_of(best, selection);
-        }
+    'entries: while let [entry, more @ ..] = rest {
+        best = weighed(best, entry, parent, target)?;
         rest = more;
     }
-    best
+    Ok(best)
 }

@@ -4,21 +4,23 @@ ghost use Rattle.std.specs.Option.{option_map_or};
 ghost use Rattle.pool_policy.specs.Keyed.{five, shape_in as shape_told, shape_number_of};
 ghost use Rattle.pool_policy.specs.Pool.{has_credits};
 ghost use Rattle.pool_policy.specs.Admits.{number_from};
-ghost use Rattle.recycle_pool.specs.Usable.{credit_with, shapes_with};
+ghost use Rattle.recycle_pool.specs.Usable.{HaveRisingIds, credit_with, shapes_with};
 
+use crate::by_id::place_by_id;
 use cell_core::Memory;
 use evict_admit::Ledger;
 use lineage_key::{Key, KeyArg, Shape, shape_of};
-use pool_policy::{Admit, PoolEntry, PoolOptions, place_of_id};
+use pool_policy::{Admit, PoolEntry, PoolOptions};
 use std::alloc::Global;
 
 /// The number of an argument's shape.
 fn number_of(entries: &[PoolEntry], arg: &KeyArg) -> u32
+    requires { HaveRisingIds entries.now }
     ensures { result ≡ shape_number_of entries.now arg.now }
 {
     match arg.id() {
         None => 0,
-        Some(id) => match place_of_id(entries, id) {
+        Some(id) => match place_by_id(entries, id) {
             None => 0,
             Some(place) => entries[place].shape,
         },
@@ -27,6 +29,7 @@ fn number_of(entries: &[PoolEntry], arg: &KeyArg) -> u32
 
 /// The number of the shape of the argument at a place.
 fn number_at(entries: &[PoolEntry], args: &[KeyArg], place: usize) -> u32
+    requires { HaveRisingIds entries.now }
     ensures { result ≡ slice_index (map (shape_number_of entries.now) args.now) place }
 {
     match args.get(place) {
@@ -37,6 +40,7 @@ fn number_at(entries: &[PoolEntry], args: &[KeyArg], place: usize) -> u32
 
 /// The shape of a key.
 fn shape_in(alloc: Global, entries: &[PoolEntry], key: &Key) -> Result<Shape, Memory>
+    requires { HaveRisingIds entries.now }
     ensures { IfOk result (λ shape. shape ≡ shape_told entries.now key.now) }
 {
     let args = key.args.as_slice();
@@ -100,6 +104,7 @@ pub(crate) fn give_number(
 ) -> Result<u32, Memory>
     requires few { length shapes.old.items < 2 ^ 30 }
     requires same { length shapes.old.items ≡ length ledger.old.each }
+    requires rising { HaveRisingIds entries.now }
     requires plain { has_credits options.now ≡ false → length ledger.old.each ≡ 0 }
     ensures shapes { OnOk result (shapes.new.items ≡ (if has_credits options.now then shapes_with (shape_told entries.now key.now) shapes.old.items else shapes.old.items)) }
     ensures each { OnOk result (ledger.new.each ≡ (if has_credits options.now then credit_with (shape_told entries.now key.now) shapes.old.items ledger.old.start ledger.old.each else ledger.old.each)) }

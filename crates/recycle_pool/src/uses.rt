@@ -10,8 +10,9 @@ ghost use Rattle.pool_policy.specs.Looks.{at_ids, ids_pinned, ids_used, one_more
 ghost use Rattle.pool_policy.specs.Admits.{unpinned};
 ghost use Rattle.recycle_pool.specs.declared.found.Part.{Part as PartValue};
 ghost use Rattle.recycle_pool.specs.Answers.{piece_in, told};
-ghost use Rattle.recycle_pool.specs.Usable.{CanUse, IsOwed};
+ghost use Rattle.recycle_pool.specs.Usable.{CanUse, HaveRisingIds, IsOwed};
 
+use crate::by_id::place_by_id;
 use crate::found::{Found, Part};
 use evict_admit::Ledger;
 use pool_policy::{PoolEntry, Who};
@@ -74,14 +75,21 @@ fn use_if(entry: &mut PoolEntry, found: &Found, parts: &[Part], who: Who, now: u
     }
 }
 
-/// All that a look uses is used.
-pub(crate) fn use_all(
-    entries: &mut Vec<PoolEntry>,
-    found: &Found,
-    parts: &[Part],
-    who: Who,
-    now: u64,
-)
+/// The entry with this id is used.
+fn use_id(entries: &mut Vec<PoolEntry>, id: u64, who: Who, now: u64)
+    requires rising { HaveRisingIds entries.old.items }
+    requires usable { AllByRecursion CanUse entries.old.items }
+    ensures entries { entries.new.items ≡ at_ids (id ∷ []) (used who now) entries.old.items }
+    ensures room { vec_capacity entries.new ≡ vec_capacity entries.old }
+{
+    match place_by_id(entries.as_slice(), id) {
+        None => {}
+        Some(place) => entries[place].use_by(who, now),
+    }
+}
+
+/// Each entry that a look uses is used.
+fn use_each(entries: &mut Vec<PoolEntry>, found: &Found, parts: &[Part], who: Who, now: u64)
     requires { AllByRecursion CanUse entries.old.items }
     ensures entries { entries.new.items ≡ at_ids (ids_used (told found.now parts.now)) (used who now) entries.old.items }
     ensures room { vec_capacity entries.new ≡ vec_capacity entries.old }
@@ -91,24 +99,36 @@ pub(crate) fn use_all(
     }
 }
 
-/// A session holds the entry, if it has this id.
-fn pin_if(entry: &mut PoolEntry, id: u64, who: Who)
-    requires { who.session < 17 }
-    ensures { entry.new ≡ (if is_one_of (id ∷ []) entry.old.id then pinned who entry.old else entry.old) }
+/// All that a look uses is used.
+pub(crate) fn use_all(
+    entries: &mut Vec<PoolEntry>,
+    found: &Found,
+    parts: &[Part],
+    who: Who,
+    now: u64,
+)
+    requires rising { HaveRisingIds entries.old.items }
+    requires usable { AllByRecursion CanUse entries.old.items }
+    ensures entries { entries.new.items ≡ at_ids (ids_used (told found.now parts.now)) (used who now) entries.old.items }
+    ensures room { vec_capacity entries.new ≡ vec_capacity entries.old }
 {
-    if entry.id == id {
-        entry.pin(who);
+    match found {
+        Found::Exact(id, _) | Found::Within(id, _) => use_id(entries, *id, who, now),
+        Found::Across(_) => use_each(entries, found, parts, who, now),
+        Found::Miss => {}
     }
 }
 
 /// A session holds the entry with this id.
 pub(crate) fn pin_id(entries: &mut Vec<PoolEntry>, id: u64, who: Who)
-    requires { who.session < 17 }
+    requires session { who.session < 17 }
+    requires rising { HaveRisingIds entries.old.items }
     ensures entries { entries.new.items ≡ at_ids (id ∷ []) (pinned who) entries.old.items }
     ensures room { vec_capacity entries.new ≡ vec_capacity entries.old }
 {
-    'entries: for i in 0..entries.len() {
-        pin_if(&mut entries[i], id, who);
+    match place_by_id(entries.as_slice(), id) {
+        None => {}
+        Some(place) => entries[place].pin(who),
     }
 }
 
@@ -124,7 +144,8 @@ fn exact_id(found: &Found) -> Option<u64>
 
 /// A session holds an exact result from now on.
 pub(crate) fn pin_found(entries: &mut Vec<PoolEntry>, found: &Found, who: Who)
-    requires { who.session < 17 }
+    requires session { who.session < 17 }
+    requires rising { HaveRisingIds entries.old.items }
     ensures entries { (parts : List PartValue) → entries.new.items ≡ at_ids (ids_pinned (told found.now parts)) (pinned who) entries.old.items }
     ensures room { vec_capacity entries.new ≡ vec_capacity entries.old }
 {
@@ -167,14 +188,24 @@ fn pays_now(entry: &PoolEntry, found: &Found, parts: &[Part], who: Who) -> bool
     is_used(found, parts, entry.id) && entry.pays_back(who)
 }
 
-/// What a look uses pays its credit back.
-pub(crate) fn pay_uses(
-    ledger: &mut Ledger,
-    entries: &[PoolEntry],
-    found: &Found,
-    parts: &[Part],
-    who: Who,
-)
+/// The entry with this id pays its credit back, where its use does.
+fn pay_id(ledger: &mut Ledger, entries: &[PoolEntry], id: u64, who: Who)
+    requires rising { HaveRisingIds entries.now }
+    requires owed { IsOwed ledger.old entries.now }
+    ensures each { ledger.new.each ≡ paid_back ledger.old.each (filter (λ e. is_one_of (id ∷ []) e.id && pays_back who e) entries.now) }
+    ensures start { ledger.new.start ≡ ledger.old.start }
+{
+    match place_by_id(entries, id) {
+        None => {}
+        Some(place) => {
+            let entry = &entries[place];
+            pay_if(ledger, entry, entry.pays_back(who));
+        }
+    }
+}
+
+/// Each entry that a look uses pays its credit back, where its use does.
+fn pay_each(ledger: &mut Ledger, entries: &[PoolEntry], found: &Found, parts: &[Part], who: Who)
     requires { IsOwed ledger.old entries.now }
     ensures each { ledger.new.each ≡ paid_back ledger.old.each (filter (λ e. is_one_of (ids_used (told found.now parts.now)) e.id && pays_back who e) entries.now) }
     ensures start { ledger.new.start ≡ ledger.old.start }
@@ -184,5 +215,25 @@ pub(crate) fn pay_uses(
         let pays = pays_now(entry, found, parts, who);
         pay_if(ledger, entry, pays);
         rest = more;
+    }
+}
+
+/// What a look uses pays its credit back.
+pub(crate) fn pay_uses(
+    ledger: &mut Ledger,
+    entries: &[PoolEntry],
+    found: &Found,
+    parts: &[Part],
+    who: Who,
+)
+    requires rising { HaveRisingIds entries.now }
+    requires owed { IsOwed ledger.old entries.now }
+    ensures each { ledger.new.each ≡ paid_back ledger.old.each (filter (λ e. is_one_of (ids_used (told found.now parts.now)) e.id && pays_back who e) entries.now) }
+    ensures start { ledger.new.start ≡ ledger.old.start }
+{
+    match found {
+        Found::Exact(id, _) | Found::Within(id, _) => pay_id(ledger, entries, *id, who),
+        Found::Across(_) => pay_each(ledger, entries, found, parts, who),
+        Found::Miss => {}
     }
 }

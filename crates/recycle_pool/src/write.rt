@@ -6,6 +6,7 @@ ghost use Rattle.recycle_pool.specs.Carries.{IsCarried};
 use crate::carried::Carried;
 use crate::pool::Pool;
 use crate::room::leave;
+use crate::uses::total_bytes;
 use crate::written::{enter_all, plan_last, take_touched};
 use cell_core::Word;
 use pool_policy::{Touched, note_touched};
@@ -27,6 +28,7 @@ impl Pool {
             &mut self.ledger,
             self.lists.touched.as_slice(),
         );
+        self.bytes = total_bytes(self.entries.as_slice());
     }
 
     /// An accepted write: what it touches leaves, what `carry` made of it comes back, and then entries
@@ -69,6 +71,7 @@ impl Pool {
             ids.as_slice(),
         );
         enter_all(&mut self.entries, entries);
+        self.keys.renew(self.entries.as_slice());
         let back = ids.len() as u64;
         let dropped = (self.lists.touched.len() as u64).saturating_sub(back);
         self.next += back;
@@ -85,6 +88,7 @@ impl Pool {
             &mut self.ledger,
             self.lists.gone.as_slice(),
         );
+        self.bytes = total_bytes(self.entries.as_slice());
         (dropped, self.lists.gone.len() as u64)
     }
 }

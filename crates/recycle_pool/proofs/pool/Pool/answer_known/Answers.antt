@@ -2,14 +2,27 @@ use Rattle.std.proofs.Common.{◌<◌, [], ◌∷◌, List, ap, sym, ◌∙◌, 
 use Rattle.pool_policy.specs.declared.entry.PoolEntry.{PoolEntry}
 use Rattle.pool_policy.specs.Pool.{PoolState}
 use Rattle.pool_policy.specs.Admits.{admit_of}
-use Rattle.pool_policy.specs.Keeps.{IsPool}
+use Rattle.pool_policy.specs.Keeps.{IsPool, faces}
+use Rattle.pool_policy.proofs.AdmitGiven.{pinned_faces}
 use Rattle.pool_policy.proofs.NewEntry.{moment_keeps}
 use Rattle.pool_policy.proofs.Kept.{pins_keep}
 use Rattle.recycle_pool.specs.Answers.{offer_in}
 use Rattle.recycle_pool.specs.Views.{pool_shown}
 use Rattle.recycle_pool.proofs.Answered.{there_shown}
+use Rattle.recycle_pool.proofs.Looked.{named, rising}
+use Rattle.recycle_pool.proofs.Prints.{named_faces}
+use Rattle.recycle_pool.proofs.Totals.{bytes_on}
 use Rattle.recycle_pool.proofs.Stands.{kept_on}
 use Rattle.recycle_pool.proofs.pool.Pool.answer_known.Goals as goal
+
+pub place-requires-clause-named : goal.place-requires-clause-named
+place-requires-clause-named c = named c.self.inside c.as_slice.result.now c.self.invariant c.as_slice.ensures.value
+
+pub place-requires-clause-rising : goal.place-requires-clause-rising
+place-requires-clause-rising c = rising c.self.inside c.as_slice.result.now c.self.invariant c.as_slice.ensures.value
+
+pub pin_id-requires-clause-rising : goal.pin_id-requires-clause-rising
+pin_id-requires-clause-rising c = rising c.self.inside c.self.inside.entries.items c.self.invariant refl
 
 pub invariant_of-self : goal.invariant_of-self
 invariant_of-self c =
@@ -18,6 +31,8 @@ invariant_of-self c =
     let kept = pins_keep c.args.who (c.index.result.now.id ∷ []) at (moment_keeps c.args.now (pool_shown c.self.inside) later c.self.invariant.pool) in
     kept_on c.self.inside _ c.self.invariant (subst (λ (es : List PoolEntry). IsPool (record at { entries = es })) (sym c.pin_id.ensures.entries) kept)
     refl refl c.requires.early (omega (arith, later, c.self.invariant.next)) (omega (arith, later, c.self.invariant.shapes)) (omega (arith, c.pin_id.ensures.room)) c.self.invariant.lists
+    (named_faces c.self.inside.keys c.self.inside.entries.items c.pin_id.new.entries.items (ap faces c.pin_id.ensures.entries ∙ pinned_faces c.args.who (c.index.result.now.id ∷ []) c.self.inside.entries.items) c.self.invariant.keys) (omega arith)
+    (bytes_on c.self.inside.bytes c.self.inside.entries.items c.pin_id.new.entries.items (ap faces c.pin_id.ensures.entries ∙ pinned_faces c.args.who (c.index.result.now.id ∷ []) c.self.inside.entries.items) c.self.invariant.bytes)
 
 pub returns-in-Some-clause-some : goal.returns-in-Some-clause-some
 returns-in-Some-clause-some c =

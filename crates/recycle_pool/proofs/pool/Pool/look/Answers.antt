@@ -4,23 +4,41 @@ use Rattle.std.specs.Prelude.{filter, ◌&&◌}
 use Rattle.evict_admit.specs.Runs.{is_one_of}
 use Rattle.pool_policy.specs.declared.entry.PoolEntry.{PoolEntry}
 use Rattle.pool_policy.specs.Pool.{PoolState}
-use Rattle.pool_policy.specs.Looks.{Finding, after_look, found_of, ids_used, paid_back, pays_back}
-use Rattle.pool_policy.specs.Keeps.{IsPool}
+use Rattle.pool_policy.specs.Looks.{Finding, after_look, found_of, ids_pinned, ids_used, paid_back, pays_back}
+use Rattle.pool_policy.specs.Keeps.{IsPool, faces}
+use Rattle.pool_policy.proofs.AdmitGiven.{pinned_faces, used_faces}
 use Rattle.pool_policy.proofs.Kept.{look_keeps}
 use Rattle.recycle_pool.specs.Answers.{told}
 use Rattle.recycle_pool.specs.Views.{pool_shown}
-use Rattle.recycle_pool.proofs.Looked.{lookable, looked, owed, usable}
+use Rattle.recycle_pool.proofs.Ids.{rising_on}
+use Rattle.recycle_pool.proofs.Looked.{lookable, looked, named, owed, rising, usable}
+use Rattle.recycle_pool.proofs.Prints.{named_faces}
+use Rattle.recycle_pool.proofs.Totals.{bytes_on}
 use Rattle.recycle_pool.proofs.Stands.{kept_on}
 use Rattle.recycle_pool.proofs.pool.Pool.look.Goals as goal
 
 pub find_whole-requires-clause-lookable : goal.find_whole-requires-clause-lookable
 find_whole-requires-clause-lookable c = lookable c.self.inside c.as_slice.result.now c.self.invariant c.as_slice.ensures.value
 
-pub pay_uses-requires : goal.pay_uses-requires
-pay_uses-requires c = owed c.self.inside c.as_slice-2.result.now c.self.invariant c.as_slice-2.ensures.value
+pub find_whole-requires-clause-named : goal.find_whole-requires-clause-named
+find_whole-requires-clause-named c = named c.self.inside c.as_slice.result.now c.self.invariant c.as_slice.ensures.value
 
-pub use_all-requires : goal.use_all-requires
-use_all-requires c = usable c.self.inside c.self.invariant
+pub pay_uses-requires-clause-rising : goal.pay_uses-requires-clause-rising
+pay_uses-requires-clause-rising c = rising c.self.inside c.as_slice-2.result.now c.self.invariant c.as_slice-2.ensures.value
+
+pub pay_uses-requires-clause-owed : goal.pay_uses-requires-clause-owed
+pay_uses-requires-clause-owed c = owed c.self.inside c.as_slice-2.result.now c.self.invariant c.as_slice-2.ensures.value
+
+pub use_all-requires-clause-rising : goal.use_all-requires-clause-rising
+use_all-requires-clause-rising c = rising c.self.inside c.self.inside.entries.items c.self.invariant refl
+
+pub use_all-requires-clause-usable : goal.use_all-requires-clause-usable
+use_all-requires-clause-usable c = usable c.self.inside c.self.invariant
+
+pub pin_found-requires-clause-rising : goal.pin_found-requires-clause-rising
+pin_found-requires-clause-rising c =
+    let found : Finding = told c.in_ok-found.found c.as_slice-used.result.now in
+    rising_on c.self.inside.entries.items c.use_all.new.entries.items (ap faces c.use_all.ensures.entries ∙ used_faces c.args.who c.args.now (ids_used found) c.self.inside.entries.items) (rising c.self.inside c.self.inside.entries.items c.self.invariant refl)
 
 pub invariant_of-self : goal.invariant_of-self
 invariant_of-self c =
@@ -31,6 +49,13 @@ invariant_of-self c =
     let later : c.self.inside.moment < c.args.now = let m = ap (λ (p : PoolState). p.moment) c.self.view_is in omega (arith, m, c.requires.later) in
     kept_on c.self.inside _ c.self.invariant (subst IsPool (sym done) (look_keeps c.args.who c.args.now c.args.key.now (pool_shown c.self.inside) later c.self.invariant.pool))
     refl c.pay_uses.ensures.start c.requires.early (omega (arith, later, c.self.invariant.next)) (omega (arith, later, c.self.invariant.shapes)) (omega (arith, c.use_all.ensures.room, c.pin_found.ensures.room)) c.self.invariant.lists
+    (named_faces c.self.inside.keys c.self.inside.entries.items c.pin_found.new.entries.items
+    (ap faces (c.pin_found.ensures.entries c.as_slice-used.result.now) ∙ pinned_faces c.args.who (ids_pinned found) c.use_all.new.entries.items ∙ ap faces c.use_all.ensures.entries ∙ used_faces c.args.who c.args.now (ids_used found) c.self.inside.entries.items)
+    c.self.invariant.keys)
+    (omega arith)
+    (bytes_on c.self.inside.bytes c.self.inside.entries.items c.pin_found.new.entries.items
+    (ap faces (c.pin_found.ensures.entries c.as_slice-used.result.now) ∙ pinned_faces c.args.who (ids_pinned found) c.use_all.new.entries.items ∙ ap faces c.use_all.ensures.entries ∙ used_faces c.args.who c.args.now (ids_used found) c.self.inside.entries.items)
+    c.self.invariant.bytes)
 
 pub returns-clause-pool : goal.returns-clause-pool
 returns-clause-pool c =

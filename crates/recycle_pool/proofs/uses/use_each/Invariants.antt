@@ -7,7 +7,7 @@ use Rattle.pool_policy.specs.declared.entry.PoolEntry.{PoolEntry}
 use Rattle.pool_policy.specs.Looks.{ids_used, used}
 use Rattle.recycle_pool.specs.Answers.{told}
 use Rattle.recycle_pool.proofs.Changed.{so_far}
-use Rattle.recycle_pool.proofs.uses.use_all.Given as goal
+use Rattle.recycle_pool.proofs.uses.use_each.Given as goal
 
 abbrev pub invariant-entries : goal.invariant-entries
 invariant-entries l =

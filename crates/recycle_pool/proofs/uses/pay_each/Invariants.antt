@@ -6,7 +6,7 @@ use Rattle.pool_policy.specs.declared.entry.PoolEntry.{PoolEntry}
 use Rattle.pool_policy.specs.Looks.{ids_used, paid_back, pays_back}
 use Rattle.recycle_pool.specs.Answers.{told}
 use Rattle.recycle_pool.specs.Usable.{IsOwed}
-use Rattle.recycle_pool.proofs.uses.pay_uses.Given as goal
+use Rattle.recycle_pool.proofs.uses.pay_each.Given as goal
 
 abbrev pub invariant-entries : goal.invariant-entries
 invariant-entries l = record {
