@@ -1,6 +1,6 @@
 -- One event more.
 use Rattle.std.proofs.Common.{◌≡◌, ℕ, ◌+◌, ◌≤◌, ◌<◌, List, [], ◌∷◌, ◌++◌, length, Bool, true, false, cond, refl, ap, sym, ◌∙◌, subst, arith, length-append}
-use Rattle.std.specs.Prelude.{fold, get_or, slice_set, ◌==◌, ◌^◌, Option}
+use Rattle.std.specs.Prelude.{fold, get_or, slice_set, ◌==◌, ◌^◌, Option, None}
 use Rattle.std.proofs.lemmas.List.{map-append, length-map, length-set}
 use Rattle.std.specs.Vec.{vec_capacity}
 use Rattle.mal_meaning.specs.declared.plan.Plan.{Plan}
@@ -17,7 +17,7 @@ use Rattle.run_log.specs.declared.event.Act.TheVariants as act
 use Rattle.run_log.specs.declared.event.Looked.{Looked}
 use Rattle.run_log.specs.declared.event.Totals.{Totals}
 use Rattle.run_log.specs.Events.{EventTree, act_tree, event_tree, log_tree}
-use Rattle.run_log.specs.Fold.{LogState, after, run_of}
+use Rattle.run_log.specs.Fold.{LogState, after, log_start, run_of}
 use Rattle.run_log.specs.Laws.{MayFollow}
 use Rattle.run_log.specs.Totals.{AreSmall, AreWithin, count_sum, with_look, with_pool}
 use Rattle.run_log.proofs.LogLemmas.{logs_tell_holds, run_more}
@@ -26,6 +26,7 @@ use Rattle.run_log.proofs.StepLemmas.{steps_keep_holds}
 use Rattle.book_core.specs.declared.book.Book.TheInside.{Inside}
 use Rattle.book_core.specs.BookView.{and_opened, event_of, is_open, opened_by, state_of}
 use Rattle.book_core.specs.Kept.{IsBook, IsStateOf, book_shown, open_count}
+use Rattle.book_core.specs.Lawful.{FollowAll, IsLawful}
 use Rattle.book_core.specs.Versions.{HasVersions}
 use Rattle.book_core.proofs.OpenLemmas.{few_up, flag_set, one_down}
 
@@ -62,11 +63,23 @@ pub record IsNext (old new : Inside) (event : Event) (count : Totals → Totals)
   pub totals : new.totals ≡ with_pool new.pool (count old.totals)
   pub few : count_sum (count old.totals) ≤ count_sum old.totals + 4095
 
+-- a lawful log goes on with what may follow it
+lawful_more : (old new : Inside) (event : Event) → new.log.items ≡ old.log.items ++ event ∷ [] → new.pool.options ≡ old.pool.options
+    → IsLawful old.pool.options (log_tree old.log.items) → MayFollow (state_of (book_shown old)) (act_tree event.act) → IsLawful new.pool.options (log_tree new.log.items)
+lawful_more old new event log options lawful may =
+    subst (λ (o : PoolOptions). IsLawful o (log_tree new.log.items)) (sym options)
+    (subst (IsLawful old.pool.options) (sym (ap log_tree log ∙ map-append event_tree old.log.items (event ∷ []))) (go (log_start old.pool.options) (log_tree old.log.items) lawful may))
+  where
+    go : (s : LogState) (es : List EventTree) → FollowAll s es → MayFollow (fold after s es) (act_tree event.act) → FollowAll s (es ++ event_tree event ∷ [])
+    go s [] all may = (may, tt)
+    go s (e ∷ es) all may = (all.0, go (after s e) es all.1 may)
+
 pub next_state : (old new : Inside) (event : Event) (count : Totals → Totals) → IsBook old → IsNext old new event count → IsStateOf (state_of (book_shown new)) new
 next_state old new event count known next =
     let at = (state_of (book_shown old)).at in
     let within : AreWithin (at + 1) (with_pool new.pool (count old.totals)) = event_within at (count old.totals) new.pool 4095 old.totals next.few (omega arith) known.state.within in
     subst (λ (s : LogState). IsStateOf s new) (sym (state_more old new event next.log next.options)) (record {
+      lawful = lawful_more old new event next.log next.options known.state.lawful next.may;
       sound = steps_keep_holds.sound (state_of (book_shown old)) (event_tree event) known.state.sound next.may;
       db = next.db;
       versions = next.versions;
@@ -163,6 +176,24 @@ look_book old new who instr key found known quiet pool totals =
       counts = refl;
       totals = totals;
       few = omega (arith, counted);
+    }))
+
+-- ## A text that is refused
+
+pub text_book : (old new : Inside) (who : Who) (code : ℕ) → IsBook old → IsQuiet old new (event_of who (act.Write None code 0)) → new.pool ≡ old.pool → new.totals ≡ with_pool new.pool old.totals → IsBook new
+text_book old new who code known quiet pool totals =
+    let event : Event = event_of who (act.Write None code 0) in
+    quiet_book old new event known quiet (λ up. refl) (plain_state old new event (λ t. t) known (record {
+      log = quiet.log;
+      options = quiet.options;
+      store = quiet.store;
+      may = tt;
+      db = refl;
+      versions = refl;
+      pool = known.state.pool ∙ sym pool;
+      counts = refl;
+      totals = totals;
+      few = omega arith;
     }))
 
 -- ## What the calls below ask for

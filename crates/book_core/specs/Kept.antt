@@ -1,11 +1,13 @@
 -- What a book keeps: all that it has is what the fold of its log says.
 use Rattle.std.specs.Prelude.{◌≡◌, ℕ, ◌+◌, ◌^◌, ◌<◌, ◌≤◌, List, Bool, false, count_by, get_or, length}
 use Rattle.std.specs.Vec.{vec_capacity}
+use Rattle.run_log.specs.Events.{log_tree}
 use Rattle.run_log.specs.Fold.{LogState}
 use Rattle.run_log.specs.Laws.{IsSound}
 use Rattle.run_log.specs.Totals.{AreWithin}
 use Rattle.book_core.specs.declared.book.Book.TheInside.{Inside}
 use Rattle.book_core.specs.BookView.{BookView, is_open, state_of}
+use Rattle.book_core.specs.Lawful.{IsLawful}
 use Rattle.book_core.specs.Versions.{HasVersions}
 
 abbrev pub book_shown : Inside → BookView
@@ -14,8 +16,9 @@ book_shown b = record { options = b.pool.options; log = b.log.items }
 abbrev pub open_count : List Bool → ℕ
 open_count up = count_by (λ b. b) up
 
--- the parts of a state
+-- the parts of a state, which a lawful log leads to
 pub record IsStateOf (s : LogState) (b : Inside) : Type 0 where
+  pub lawful : IsLawful b.pool.options (log_tree b.log.items)
   pub sound : IsSound s
   pub db : s.db ≡ b.store.db
   pub versions : HasVersions s.versions b.store

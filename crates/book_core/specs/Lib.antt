@@ -3,5 +3,6 @@ pub mod Answers
 pub mod Offers
 pub mod Begins
 pub mod Versions
+pub mod Lawful
 pub mod Kept
 pub mod Writes

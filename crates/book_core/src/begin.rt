@@ -1,9 +1,11 @@
 ghost use Rattle.std.specs.Prelude.{◌≡◌, ◌<◌, [], ◌∷◌, ◌++◌, Some, None, IfOk, OnErr};
 ghost use Rattle.mal_check.specs.Checked.{plan_fault};
+ghost use Rattle.mal_check.specs.Runnable.{FitsDb};
+ghost use Rattle.mal_meaning.specs.Meaning.{plan_rows};
 ghost use Rattle.mal_meaning.specs.Runs.{Runs};
 ghost use Rattle.plan_queries.specs.Plans.{plan_over, refusal_over};
 ghost use Rattle.sql_grammar.specs.Formed.{IsFormed};
-ghost use Rattle.sql_semantics.specs.Answer.{query_of};
+ghost use Rattle.sql_semantics.specs.Answer.{answer_of_stmt, query_of};
 ghost use Rattle.sql_tree.specs.Tree.{query_tree, stmt_tree};
 ghost use Rattle.book_core.specs.Begins.{begin_act, marks_in, unless_refused};
 ghost use Rattle.book_core.specs.BookView.{event_of, now_of, state_of};
@@ -36,7 +38,8 @@ pub struct Begun {
 
 impl Book {
     /// A query begins: it is checked, translated and optimised over the present tables, of which it gets a
-    /// snapshot. There is room for its End from then on. `stmt` is its statement.
+    /// snapshot. The plan fits these tables, and its meaning over them is the query's answer. There is room for
+    /// its End from then on. `stmt` is its statement.
     pub fn begin(
         &mut self,
         alloc: Global,
@@ -55,7 +58,9 @@ impl Book {
         ensures versions { IfOk result (λ begun. HasVersions (state_of self.old).versions begun.snap) }
         ensures marks { IfOk result (λ begun. begun.marks.items ≡ marks_in begun.plan) }
         ensures checked { IfOk result (λ begun. IfOk begun.plan (λ plan. plan_fault plan ≡ None)) }
+        ensures fits { IfOk result (λ begun. IfOk begun.plan (λ plan. FitsDb plan (state_of self.old).db)) }
         ensures runs { IfOk result (λ begun. IfOk begun.plan (λ plan. Runs plan (state_of self.old).db)) }
+        ensures meaning { IfOk result (λ begun. IfOk begun.plan (λ plan. plan_rows plan (state_of self.old).db ≡ answer_of_stmt (stmt_tree stmt.now) (state_of self.old).db)) }
         ensures same { OnErr result (self.new ≡ self.old) }
     {
         make_room(&mut self.log)?;

@@ -3,8 +3,9 @@ ghost use Rattle.pool_policy.specs.Looks.{look_of};
 ghost use Rattle.recycle_pool.specs.Answers.{HandsOut, told};
 ghost use Rattle.sql_semantics.specs.Refusals.{refusal_number};
 ghost use Rattle.run_log.specs.declared.event.Act.TheVariants as act;
-ghost use Rattle.run_log.specs.Events.{looked_of};
+ghost use Rattle.run_log.specs.Events.{log_tree, looked_of};
 ghost use Rattle.book_core.specs.BookView.{event_of, is_open, state_of};
+ghost use Rattle.book_core.specs.Lawful.{IsLawful};
 
 use crate::events::{SESSIONS, count_event, event, looked, make_room, push_event};
 use cell_core::Memory;
@@ -132,10 +133,19 @@ impl Book {
         self.totals
     }
 
-    /// The log. Takes no memory.
+    /// The log, of which each event may follow those before it (`run_log`). Takes no memory.
     pub fn log(&self) -> &[Event]
-        ensures { result.now ≡ self.now.log }
+        ensures log { result.now ≡ self.now.log }
+        ensures lawful { IsLawful self.now.options (log_tree self.now.log) }
     {
         self.log.as_slice()
+    }
+
+    /// The log and the totals, handed out. Takes no memory.
+    pub fn finish(self) -> (Vec<Event>, Totals)
+        ensures log { result.0.items ≡ self.log }
+        ensures totals { result.1 ≡ (state_of self).totals }
+    {
+        (self.log, self.totals)
     }
 }

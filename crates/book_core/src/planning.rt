@@ -1,10 +1,12 @@
 //! The plan of a query over the tables of a store.
 ghost use Rattle.std.specs.Prelude.{◌≡◌, Some, None, IfOk};
 ghost use Rattle.mal_check.specs.Checked.{plan_fault};
+ghost use Rattle.mal_check.specs.Runnable.{FitsDb};
+ghost use Rattle.mal_meaning.specs.Meaning.{plan_rows};
 ghost use Rattle.mal_meaning.specs.Runs.{Runs};
 ghost use Rattle.plan_queries.specs.Plans.{plan_over, refusal_over};
 ghost use Rattle.sql_grammar.specs.Formed.{IsFormed};
-ghost use Rattle.sql_semantics.specs.Answer.{query_of};
+ghost use Rattle.sql_semantics.specs.Answer.{answer_of_stmt, query_of};
 ghost use Rattle.sql_semantics.specs.Valid.{IsValid};
 ghost use Rattle.sql_tree.specs.Tree.{query_tree, stmt_tree};
 ghost use Rattle.book_core.specs.Begins.{code_in, logged_plan as logged_plan_of, marks_in, unless_refused};
@@ -33,7 +35,9 @@ pub(crate) fn plan_or_refusal(
     requires valid { IsValid store.now.db }
     ensures outcome { IfOk result (λ outcome. outcome ≡ unless_refused (refusal_over store.now.db (stmt_tree stmt.now)) (plan_over store.now.db (query_tree query.now))) }
     ensures checked { IfOk result (λ outcome. IfOk outcome (λ plan. plan_fault plan ≡ None)) }
+    ensures fits { IfOk result (λ outcome. IfOk outcome (λ plan. FitsDb plan store.now.db)) }
     ensures runs { IfOk result (λ outcome. IfOk outcome (λ plan. Runs plan store.now.db)) }
+    ensures meaning { IfOk result (λ outcome. IfOk outcome (λ plan. plan_rows plan store.now.db ≡ answer_of_stmt (stmt_tree stmt.now) store.now.db)) }
 {
     let schema = schema_of(alloc, store)?;
     match check(alloc, stmt, &schema) {

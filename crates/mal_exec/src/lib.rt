@@ -1,12 +1,13 @@
 //! Plans run over shared columns, by any machine that runs operators.
 //!
 //! It stands on `bat_core` for columns and operators and on `mal_meaning` for plans. `run_plan` gives
-//! the rows of a plan's meaning and counts exactly its work; `output` makes the rows of an output
-//! from the values of a plan's instructions.
+//! the rows of a plan's meaning and counts exactly its work; `run_instr` gives one instruction's value, for
+//! those who run a plan step by step; `output` makes the rows of an output from the values of a plan's
+//! instructions.
 #![tactic(auto)]
 
 mod rows;
 mod run;
 
 pub use rows::output;
-pub use run::{Ran, run_plan};
+pub use run::{Done, Ran, run_instr, run_plan};

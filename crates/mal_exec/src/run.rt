@@ -25,9 +25,11 @@ pub struct Ran {
 
 /// An instruction's result and its work.
 #[derive(Drop)]
-struct Done {
-    value: Obj,
-    work: u128,
+pub struct Done {
+    /// The result.
+    pub value: Obj,
+    /// The stated work, in pairs read and made.
+    pub work: u128,
 }
 
 /// The value at a place, if there is one.
@@ -118,9 +120,11 @@ fn pairs_of(values: &[Obj]) -> Result<u128, Memory>
     Ok(pairs)
 }
 
-/// The value of an instruction and its work.
+/// The value of an instruction, where those before it have these values, and its work, by which the
+/// counter rises. `Overflow` comes exactly where it has none, and then the counter rises by at most that
+/// work, and doesn't fall.
 #[tactic(auto, unfolding(mal_meaning::specs::Meaning::instr_value))]
-fn run_instr<C: Columns, E: Operate, L: Ledger>(
+pub fn run_instr<C: Columns, E: Operate, L: Ledger>(
     alloc: Global,
     instr: &Instr,
     values: &[Obj],
