@@ -1,0 +1,11 @@
+pub mod InstrLemmas
+pub mod MarkLemmas
+pub mod ArgLemmas
+pub mod KeyLemmas
+pub mod LookLemmas
+pub mod ServeLemmas
+pub mod RangeLemmas
+pub mod OfferLemmas
+pub mod WorthLemmas
+pub mod StepLemmas
+pub mod RememberLemmas

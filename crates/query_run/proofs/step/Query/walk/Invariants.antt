@@ -1,0 +1,10 @@
+use Rattle.std.proofs.Common.{◌-◌, length}
+use Rattle.query_run.specs.Queries.{GoesOn}
+use Rattle.query_run.proofs.step.Query.walk.Given as goal
+
+-- it goes on from where it began
+abbrev pub invariant-instrs : goal.invariant-instrs
+invariant-instrs g l = GoesOn l.fn.self.snap l.fn.self.plan l.fn.self.ids.items l.self
+
+abbrev pub decreases-instrs : goal.decreases-instrs
+decreases-instrs g l = length l.self.plan.instrs - length l.self.values

@@ -1,0 +1,29 @@
+//! What a query computes before its next event.
+ghost use Rattle.std.specs.Prelude.{IfOk};
+ghost use Rattle.query_run.specs.Steps.{Computes, IsSoundStep};
+
+use crate::step::Step;
+use bat_core::Operate;
+use cell_core::{Memory, Steps};
+use std::alloc::Global;
+use std::sync::ledger::Ledger;
+
+impl Step {
+    /// Computes what the next event needs.
+    pub fn outside<E: Operate, L: Ledger>(
+        self,
+        alloc: Global,
+        kernel: &E,
+        steps: &mut Steps<L>,
+    ) -> Result<Step, Memory>
+        requires { IsSoundStep self }
+        ensures { IfOk result (Computes self) }
+    {
+        match self {
+            Step::Begun(query) => query.walk(alloc, kernel, steps),
+            Step::Found(query, found, parts) => query.reuse(alloc, found, parts, kernel, steps),
+            Step::Gained(query, value, id) => query.gain(alloc, value, id, kernel, steps),
+            ready => Ok(ready),
+        }
+    }
+}

@@ -1,0 +1,309 @@
+//! The result of an instruction, from what a look found.
+ghost use Rattle.std.specs.Prelude.{◌≡◌, ◌+◌, ◌<◌, ◌^◌, ◌++◌, List, [], ◌∷◌, map, length, slice_get, true, Some, None, Err, IfOk, IfSome};
+ghost use Rattle.std.specs.List.{AllByRecursion};
+ghost use Rattle.std.specs.Option.{option_copied};
+ghost use Rattle.cell_core.specs.declared.cell.Cell.{Cell as CellSeen};
+ghost use Rattle.cell_core.specs.declared.cell.Cell.TheVariants.{Nil};
+ghost use Rattle.cell_core.specs.declared.memory.RunError.TheVariants as RunError;
+ghost use Rattle.cell_core.specs.declared.operator.Instr.{Instr as InstrSeen};
+ghost use Rattle.cell_core.specs.declared.operator.Value.TheVariants.{Bat as BatValue};
+ghost use Rattle.cell_core.specs.Pairs.{heads_of, is_true as is_true_cell, pair_count};
+ghost use Rattle.cell_core.specs.Relations.{selected};
+ghost use Rattle.chunk_core.specs.Facts.{rises};
+ghost use Rattle.cell_core.specs.Operators.{pairs_read};
+ghost use Rattle.mal_meaning.specs.Meaning.{arg_value, arg_values, instr_load};
+ghost use Rattle.bat_core.specs.Objects.{values_of};
+ghost use Rattle.reuse_laws.specs.Reuse.{high_bound as high_bound_of, low_bound as low_bound_of, merged, selected_in};
+ghost use Rattle.query_keys.specs.Laws.{HasBounds};
+ghost use Rattle.recycle_pool.specs.declared.found.Part.{Part as PartSeen};
+ghost use Rattle.query_run.specs.Queries.{BecomesOf, IsAt, IsUnderWay, Serves, all_values, next_value};
+
+use crate::query::overflow;
+use crate::step::{Offer, Query, Step};
+use bat_algebra::{merge_by_heads, select};
+use bat_core::{Bat, Obj, Operate, Shared};
+use cell_core::{Arg, Cell, Cut, Instr, Memory, RunError, Sequence, Span, Steps};
+use mal_exec::Done;
+use query_keys::{instrs_run, marked_are_bats};
+use recycle_pool::{Found, Part};
+use std::alloc::Global;
+use std::sync::ledger::Ledger;
+
+/// A result, and the stated work by which it was computed.
+#[derive(Drop)]
+struct Made {
+    value: Shared,
+    done: u128,
+}
+
+impl Query {
+    /// Computes the result that it asked for, and offers it.
+    pub(crate) fn reuse<E: Operate, L: Ledger>(
+        self,
+        alloc: Global,
+        found: Found,
+        parts: Vec<Part>,
+        kernel: &E,
+        steps: &mut Steps<L>,
+    ) -> Result<Step, Memory>
+        requires under { IsUnderWay self }
+        requires found { (instr : InstrSeen) × IsAt self instr × Serves self instr found parts.items }
+        ensures { IfOk result (λ next. (instr : InstrSeen) → IsAt self instr → BecomesOf self instr next) }
+    {
+        match self.make(alloc, found, parts, kernel, steps) {
+            Ok(made) => self.to_offer(alloc, made),
+            Err(RunError::Overflow) => Ok(overflow()),
+            Err(RunError::Memory) => Err(Memory),
+        }
+    }
+
+    /// Computes the result that it asked for.
+    fn make<E: Operate, L: Ledger>(
+        &self,
+        alloc: Global,
+        found: Found,
+        parts: Vec<Part>,
+        kernel: &E,
+        steps: &mut Steps<L>,
+    ) -> Result<Made, RunError>
+        requires under { IsUnderWay self.now }
+        requires found { (instr : InstrSeen) × IsAt self.now instr × Serves self.now instr found parts.items }
+        ensures value { IfOk result (λ made. next_value self.now ≡ Some (Some (BatValue made.value))) }
+        ensures overflow { result ≡ Err RunError.Overflow → next_value self.now ≡ Some None }
+    {
+        match found {
+            Found::Within(_, pooled) => {
+                let made = select_again(alloc, self.next(), &pooled, steps)?;
+                Ok(made)
+            }
+            Found::Across(_) => {
+                let made = select_parts(alloc, parts.as_slice(), steps)?;
+                Ok(made)
+            }
+            _ => self.run(alloc, kernel, steps),
+        }
+    }
+
+    /// Computes it from its arguments.
+    fn run<E: Operate, L: Ledger>(
+        &self,
+        alloc: Global,
+        kernel: &E,
+        steps: &mut Steps<L>,
+    ) -> Result<Made, RunError>
+        requires under { IsUnderWay self.now }
+        requires at { (instr : InstrSeen) × IsAt self.now instr }
+        ensures value { IfOk result (λ made. next_value self.now ≡ Some (Some (BatValue made.value))) }
+        ensures overflow { result ≡ Err RunError.Overflow → next_value self.now ≡ Some None }
+    {
+        marked_are_bats();
+        let done = self.run_next(alloc, kernel, steps)?;
+        let Done { value, work } = done;
+        match value {
+            Obj::Bat(value) => Ok(Made { value, done: work }),
+            Obj::One(_) => unreachable!(),
+        }
+    }
+
+    /// It offers the next result.
+    fn to_offer(self, alloc: Global, made: Made) -> Result<Step, Memory>
+        requires under { IsUnderWay self }
+        requires at { (instr : InstrSeen) × IsAt self instr }
+        requires value { next_value self ≡ Some (Some (BatValue made.value)) }
+        ensures { IfOk result (λ next. (instr : InstrSeen) → IsAt self instr → BecomesOf self instr next) }
+    {
+        let key = self.next_key(alloc)?;
+        let work = self.stated_work(&made.value)?;
+        let offer = Offer {
+            key,
+            value: made.value,
+            work,
+            done: made.done,
+        };
+        Ok(Step::Offering(self, offer))
+    }
+
+    /// The stated work of the next instruction, which has this result. Work past 2^62 counts as want of
+    /// memory.
+    fn stated_work(&self, value: &Shared) -> Result<u64, Memory>
+        requires under { IsUnderWay self.now }
+        requires at { (instr : InstrSeen) × IsAt self.now instr }
+        requires value { next_value self.now ≡ Some (Some (BatValue value.now)) }
+        ensures work { IfOk result (λ work. (instr : InstrSeen) → IsAt self.now instr → work ≡ instr_load self.now.snap.db (all_values self.now) instr) }
+        ensures small { IfOk result (λ work. work < 2 ^ 62) }
+    {
+        instrs_run();
+        let read = pairs_named(self.values.as_slice(), self.next().args.as_slice())?;
+        let work = sum(read, u128::from(value.bat().len()))?;
+        if work >= 1 << 62 {
+            return Err(Memory);
+        }
+        Ok(work as u64)
+    }
+}
+
+/// The sum of two numbers. One past 128 bits counts as want of memory.
+fn sum(one: u128, other: u128) -> Result<u128, Memory>
+    ensures { IfOk result (λ sum. sum ≡ one + other) }
+{
+    one.checked_add(other).ok_or(Memory)
+}
+
+/// How many pairs the arguments have, where all have values.
+fn pairs_named(values: &[Obj], args: &[Arg]) -> Result<u128, Memory>
+    ensures { IfOk result (λ pairs. IfSome (arg_values (map Some (values_of values.now)) args.now) (λ found. pairs ≡ pairs_read found)) }
+{
+    let mut pairs = 0_u128;
+    let mut rest = args;
+    'args: while let [arg, more @ ..] = rest {
+        pairs = sum(pairs, pairs_at(values, arg))?;
+        rest = more;
+    }
+    Ok(pairs)
+}
+
+/// How many pairs the argument has.
+fn pairs_at(values: &[Obj], arg: &Arg) -> u128
+    ensures { IfSome (arg_value (map Some (values_of values.now)) arg.now) (λ found. result ≡ pair_count found) }
+{
+    match arg {
+        Arg::Const(_) => 0,
+        Arg::Var(n) => match value_at(values, *n) {
+            Some(value) => u128::from(value.pair_count()),
+            None => 0,
+        },
+    }
+}
+
+/// The value at a place, if there is one.
+fn value_at<'a>(values: &'a [Obj], place: u32) -> Option<&'a Obj>
+    ensures { option_copied result ≡ slice_get values.entry.now place }
+{
+    values.get(place as usize)
+}
+
+/// A result that was computed from so many pairs.
+fn made_of(alloc: Global, read: u64, out: Bat) -> Result<Made, Memory>
+    ensures { IfOk result (λ made. made.value ≡ out) }
+{
+    let done = u128::from(read) + u128::from(out.len());
+    let value = Shared::new(alloc, out)?;
+    Ok(Made { value, done })
+}
+
+/// The selection from another result by the instruction's own bounds.
+fn select_again<L: Ledger>(
+    alloc: Global,
+    instr: &Instr,
+    pooled: &Shared,
+    steps: &mut Steps<L>,
+) -> Result<Made, Memory>
+    requires { (low : CellSeen) × (high : CellSeen) × (li : CellSeen) × (hi : CellSeen) × HasBounds instr.now low high li hi }
+    ensures { IfOk result (λ made. (low high li hi : CellSeen) → HasBounds instr.now low high li hi → made.value ≡ selected low high (is_true_cell li) (is_true_cell hi) pooled.now) }
+{
+    match instr.args.as_slice() {
+        [
+            _,
+            Arg::Const(low),
+            Arg::Const(high),
+            Arg::Const(li),
+            Arg::Const(hi),
+        ] => {
+            let from = pooled.bat();
+            let out = select(alloc, from, low, high, is_true(li), is_true(hi), steps)?;
+            made_of(alloc, from.len(), out)
+        }
+        _ => unreachable!(),
+    }
+}
+
+/// Whether a cell is the bit that is set.
+fn is_true(cell: &Cell) -> bool
+    ensures { result ≡ is_true_cell cell.now }
+{
+    match cell {
+        Cell::Bit(bit) => *bit,
+        _ => false,
+    }
+}
+
+/// The selections of parts, and the stated work by which they were computed.
+#[derive(Drop)]
+struct Pieces {
+    values: Sequence<Shared>,
+    done: u128,
+}
+
+/// The selections of the parts, merged by their heads.
+fn select_parts<L: Ledger>(
+    alloc: Global,
+    parts: &[Part],
+    steps: &mut Steps<L>,
+) -> Result<Made, Memory>
+    requires { AllByRecursion (λ (part : PartSeen). rises (heads_of (selected_in part.span part.value)) ≡ true) parts.now }
+    ensures { IfOk result (λ made. made.value ≡ merged (map (λ (part : PartSeen). selected_in part.span part.value) parts.now)) }
+{
+    let pieces = select_each(alloc, parts, steps)?;
+    let out = merge_by_heads(alloc, pieces.values.as_slice(), steps)?;
+    let done = sum(pieces.done, u128::from(out.len()))?;
+    let value = Shared::new(alloc, out)?;
+    Ok(Made { value, done })
+}
+
+/// The selections of the parts.
+fn select_each<L: Ledger>(
+    alloc: Global,
+    parts: &[Part],
+    steps: &mut Steps<L>,
+) -> Result<Pieces, Memory>
+    ensures { IfOk result (λ pieces. pieces.values ≡ map (λ (part : PartSeen). selected_in part.span part.value) parts.now) }
+{
+    let mut values = Sequence::new(alloc);
+    let mut done = 0_u128;
+    let mut rest = parts;
+    'parts: while let [part, more @ ..] = rest {
+        let made = select_part(alloc, part, steps)?;
+        done = sum(done, made.done)?;
+        values.push(made.value)?;
+        rest = more;
+    }
+    Ok(Pieces { values, done })
+}
+
+/// What a part's piece selects from its value.
+fn select_part<L: Ledger>(alloc: Global, part: &Part, steps: &mut Steps<L>) -> Result<Made, Memory>
+    ensures { IfOk result (λ made. made.value ≡ selected_in part.now.span part.now.value) }
+{
+    let nil = Cell::Nil;
+    let (low, li) = low_bound(&part.span.low, &nil);
+    let (high, hi) = high_bound(&part.span.high, &nil);
+    let from = part.value.bat();
+    let out = select(alloc, from, low, high, li, hi, steps)?;
+    made_of(alloc, from.len(), out)
+}
+
+/// The bound at which the selection that asks for a span begins, and whether it is included.
+fn low_bound<'a>(cut: &'a Cut, nil: &'a Cell) -> (&'a Cell, bool)
+    requires { nil.now ≡ Nil }
+    ensures bound { result.0.now ≡ (low_bound_of cut.entry.now).0 }
+    ensures included { result.1 ≡ is_true_cell (low_bound_of cut.entry.now).1 }
+{
+    match cut {
+        Cut::Before(cell) => (cell, true),
+        Cut::After(cell) => (cell, false),
+        Cut::Low | Cut::High => (nil, false),
+    }
+}
+
+/// The bound at which it ends, and whether it is included.
+fn high_bound<'a>(cut: &'a Cut, nil: &'a Cell) -> (&'a Cell, bool)
+    requires { nil.now ≡ Nil }
+    ensures bound { result.0.now ≡ (high_bound_of cut.entry.now).0 }
+    ensures included { result.1 ≡ is_true_cell (high_bound_of cut.entry.now).1 }
+{
+    match cut {
+        Cut::Before(cell) => (cell, false),
+        Cut::After(cell) => (cell, true),
+        Cut::Low | Cut::High => (nil, false),
+    }
+}
