@@ -1,0 +1,92 @@
+-- The commands that words name.
+use Rattle.std.specs.Prelude.{ℕ, ◌^◌, List, [], ◌∷◌, length, Bool, true, false, ◌&&◌, nat_le, if◌then◌else◌, bytes_eq, Option, Some, None, codes}
+use Rattle.std.specs.List.{list_all}
+use Rattle.std.specs.Option.{option_map, option_and_then}
+use Rattle.std.specs.Str.Parse.{digits_value}
+use Rattle.text_bytes.specs.Classes.{is_digit}
+use Rattle.score_hook.specs.declared.stats.Evict.{Evict}
+use Rattle.score_hook.specs.declared.stats.Evict.TheVariants.{Lru, Benefit, History, Weighted}
+use Rattle.pool_policy.specs.declared.options.Admit.{Admit}
+use Rattle.pool_policy.specs.declared.options.Admit.TheVariants.{All, Credit}
+use Rattle.command_line.specs.declared.command.RunOptions.{RunOptions}
+use Rattle.command_line.specs.declared.command.Command.{Command}
+use Rattle.command_line.specs.declared.command.Command.TheVariants.{Run, Replay}
+use Rattle.command_line.specs.Words.{Text, Uses, uses_named}
+
+-- 1 to 20 decimal digits
+abbrev pub is_number : Text → Bool
+is_number text = list_all is_digit text && (nat_le 1 (length text) && nat_le (length text) 20)
+
+-- the number that a text is, if it is one in this range
+abbrev pub number_in : ℕ → ℕ → Text → Option ℕ
+number_in low high text =
+    if is_number text && (nat_le low (digits_value 10 text) && nat_le (digits_value 10 text) high) then Some (digits_value 10 text) else None
+
+abbrev pub evict_in : Text → Option Evict
+evict_in text =
+    if bytes_eq text (codes "lru") then Some Lru
+    else (if bytes_eq text (codes "benefit") then Some Benefit
+    else (if bytes_eq text (codes "history") then Some History
+    else (if bytes_eq text (codes "weighted") then Some Weighted else None)))
+
+abbrev pub admit_in : Text → Option Admit
+admit_in text =
+    if bytes_eq text (codes "all") then Some All
+    else (if bytes_eq text (codes "credit") then Some Credit else None)
+
+-- the one value, as it is read, or what stands for none
+abbrev pub one_or : {X : Type 0} → X → (Text → Option X) → List Text → Option X
+one_or default read [] = Some default
+one_or default read (value ∷ []) = read value
+one_or default read (value ∷ more ∷ values) = None
+
+-- the option without a value is there, at most once
+abbrev pub flag_in : List Text → Option Bool
+flag_in [] = Some false
+flag_in (value ∷ []) = Some true
+flag_in (value ∷ more ∷ values) = None
+
+-- the list of weights, at most once, and only where the entries are weighed by it
+abbrev pub weights_for : Evict → List Text → Option (Option Text)
+weights_for Weighted values = one_or None (λ text. Some (Some text)) values
+weights_for _ [] = Some None
+weights_for _ (value ∷ values) = None
+
+-- the options, each at most once
+abbrev pub options_in : Uses → Option RunOptions
+options_in uses =
+    option_and_then (λ budget.
+    option_and_then (λ evict.
+    option_and_then (λ admit.
+    option_and_then (λ credits.
+    option_and_then (λ weights.
+    option_map (λ events. record { budget = budget; evict = evict; admit = admit; credits = credits; weights = weights; events = events })
+    (flag_in uses.events))
+    (weights_for evict uses.weights))
+    (one_or 3 (number_in 1 1000000) uses.credits))
+    (one_or All admit_in uses.admit))
+    (one_or Lru evict_in uses.evict))
+    (one_or 16777216 (number_in 0 (2 ^ 40)) uses.budget)
+
+-- 1 to 16 files
+abbrev pub are_files : List Text → Bool
+are_files files = nat_le 1 (length files) && nat_le (length files) 16
+
+-- `run`: all words that are no options are files
+abbrev pub run_in : Uses → Option Command
+run_in uses = if are_files uses.files then option_map (λ options. Run options uses.files) (options_in uses) else None
+
+-- `replay`: the first of them is the schedule
+abbrev pub replay_of : Uses → List Text → Option Command
+replay_of uses [] = None
+replay_of uses (schedule ∷ files) = if are_files files then option_map (λ options. Replay options schedule files) (options_in uses) else None
+
+abbrev pub replay_in : Uses → Option Command
+replay_in uses = replay_of uses uses.files
+
+-- the command that words name
+abbrev pub command_named : List Text → Option Command
+command_named [] = None
+command_named (command ∷ words) =
+    if bytes_eq command (codes "run") then option_and_then run_in (uses_named words)
+    else (if bytes_eq command (codes "replay") then option_and_then replay_in (uses_named words) else None)

@@ -1,0 +1,3 @@
+pub mod Command
+pub mod Told
+pub mod Words

@@ -1,0 +1,171 @@
+//! The commands, and their options as values.
+ghost use Rattle.std.specs.Prelude.{◌≡◌, IfOk};
+ghost use Rattle.std.specs.Option.{option_and_then};
+ghost use Rattle.command_line.specs.Command.{are_files, command_named, replay_in, run_in};
+ghost use Rattle.command_line.specs.Told.{AreUtf8, texts_in, uses_in};
+ghost use Rattle.command_line.specs.Words.{uses_named};
+
+use crate::options::options_of;
+use crate::told::{found, values};
+use cell_core::{Memory, Sequence, Word, word_of};
+use clap::ArgMatches;
+use pool_policy::Admit;
+use score_hook::Evict;
+use std::alloc::Global;
+
+/// The most files of a command.
+const MOST_FILES: usize = 16;
+
+/// The options of a run.
+#[derive(Debug, Drop)]
+pub struct RunOptions {
+    /// How many stated bytes the pool can have, at most 2^40.
+    pub budget: u64,
+    /// Which entry goes first.
+    pub evict: Evict,
+    /// Which results are admitted.
+    pub admit: Admit,
+    /// The credit that a shape starts with, 1 to 1,000,000.
+    pub credits: u64,
+    /// The text of the list of weights, where one is given. It is not read here.
+    pub weights: Option<Word>,
+    /// Whether the events are written.
+    pub events: bool,
+}
+
+/// What the program is to do.
+#[derive(Debug, Drop)]
+pub enum Command {
+    /// Runs the scripts in these files.
+    Run {
+        /// The options.
+        options: RunOptions,
+        /// The files, 1 to 16.
+        files: Sequence<Word>,
+    },
+    /// Runs them by a schedule.
+    Replay {
+        /// The options.
+        options: RunOptions,
+        /// The file of the schedule.
+        schedule: Word,
+        /// The files, 1 to 16.
+        files: Sequence<Word>,
+    },
+}
+
+/// The command that words name; `None` where they are outside the grammar.
+pub fn command_of(alloc: Global, words: &[Word]) -> Result<Option<Command>, Memory>
+    ensures { IfOk result (λ command. command ≡ command_named words.now) }
+{
+    let [command, more @ ..] = words else {
+        return Ok(None);
+    };
+    if command.text() == "run" {
+        return run_of(alloc, more);
+    }
+    if command.text() == "replay" {
+        return replay_of(alloc, more);
+    }
+    Ok(None)
+}
+
+/// `run`, of the words behind it.
+fn run_of(alloc: Global, words: &[Word]) -> Result<Option<Command>, Memory>
+    ensures { IfOk result (λ command. command ≡ option_and_then run_in (uses_named words.now)) }
+{
+    let texts = texts_of(alloc, words)?;
+    match found(alloc, texts.as_slice())? {
+        Some(matches) => {
+            let command = run_from(alloc, &matches)?;
+            Ok(command)
+        }
+        None => Ok(None),
+    }
+}
+
+/// `replay`, of the words behind it.
+fn replay_of(alloc: Global, words: &[Word]) -> Result<Option<Command>, Memory>
+    ensures { IfOk result (λ command. command ≡ option_and_then replay_in (uses_named words.now)) }
+{
+    let texts = texts_of(alloc, words)?;
+    match found(alloc, texts.as_slice())? {
+        Some(matches) => {
+            let command = replay_from(alloc, &matches)?;
+            Ok(command)
+        }
+        None => Ok(None),
+    }
+}
+
+/// `run` with these options and files.
+fn run_from(alloc: Global, matches: &ArgMatches) -> Result<Option<Command>, Memory>
+    ensures { IfOk result (λ command. command ≡ run_in (uses_in matches.now)) }
+{
+    let texts = values(alloc, matches, "files")?;
+    if !are_files(texts.as_slice()) {
+        return Ok(None);
+    }
+    let Some(options) = options_of(alloc, matches)? else {
+        return Ok(None);
+    };
+    let files = words_of(alloc, texts.as_slice())?;
+    Ok(Some(Command::Run { options, files }))
+}
+
+/// `replay` with these options, schedule and files.
+fn replay_from(alloc: Global, matches: &ArgMatches) -> Result<Option<Command>, Memory>
+    ensures { IfOk result (λ command. command ≡ replay_in (uses_in matches.now)) }
+{
+    let all = values(alloc, matches, "files")?;
+    let [first, texts @ ..] = all.as_slice() else {
+        return Ok(None);
+    };
+    if !are_files(texts) {
+        return Ok(None);
+    }
+    let Some(options) = options_of(alloc, matches)? else {
+        return Ok(None);
+    };
+    let schedule = word_of(alloc, first)?;
+    let files = words_of(alloc, texts)?;
+    Ok(Some(Command::Replay {
+        options,
+        schedule,
+        files,
+    }))
+}
+
+/// Whether a command may have so many files.
+fn are_files(texts: &[&str]) -> bool
+    ensures { result ≡ are_files (texts_in texts.now) }
+{
+    1 <= texts.len() && texts.len() <= MOST_FILES
+}
+
+/// The texts of words.
+fn texts_of<'a>(alloc: Global, words: &'a [Word]) -> Result<Vec<&'a str>, Memory>
+    ensures texts { IfOk result (λ texts. texts_in texts.items ≡ words.entry.now) }
+    ensures utf8 { IfOk result (λ texts. AreUtf8 texts.items) }
+{
+    let mut texts = Vec::new(alloc);
+    let mut rest = words;
+    'words: while let [word, more @ ..] = rest {
+        texts.push(word.text())?;
+        rest = more;
+    }
+    Ok(texts)
+}
+
+/// Words of these texts.
+fn words_of(alloc: Global, texts: &[&str]) -> Result<Sequence<Word>, Memory>
+    ensures { IfOk result (λ words. words ≡ texts_in texts.now) }
+{
+    let mut words = Sequence::new(alloc);
+    let mut rest = texts;
+    'texts: while let [text, more @ ..] = rest {
+        words.push(word_of(alloc, text)?)?;
+        rest = more;
+    }
+    Ok(words)
+}
