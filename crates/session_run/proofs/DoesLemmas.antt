@@ -1,0 +1,177 @@
+-- What an event of a book is to the session that did it.
+use Rattle.std.proofs.Common.{◌≡◌, ℕ, ◌+◌, List, [], ◌∷◌, ◌++◌, length, Some, None, refl, ap, sym, ◌∙◌, subst}
+use Rattle.std.specs.Prelude.{Bool, true, Result, Ok, Err, IfOk, slice_get}
+use Rattle.mal_meaning.specs.declared.plan.Plan.{Plan}
+use Rattle.mal_meaning.specs.Meaning.{plan_rows}
+use Rattle.mal_check.specs.Checked.{plan_fault}
+use Rattle.mal_check.specs.Runnable.{FitsDb}
+use Rattle.lineage_key.specs.declared.key.Key.{Key}
+use Rattle.sql_parse.specs.Answered.{Reads}
+use Rattle.sql_semantics.specs.Answer.{answer_of_stmt}
+use Rattle.sql_semantics.specs.Effect.{effect}
+use Rattle.sql_semantics.specs.Refusals.{refusal_number}
+use Rattle.sql_semantics.specs.declared.refusal.Refusal.{Refusal}
+use Rattle.sql_semantics.specs.declared.refusal.Reply.{Reply}
+use Rattle.plan_queries.specs.Plans.{plan_over, refusal_over}
+use Rattle.store_changes.specs.Outcomes.{is_change}
+use Rattle.table_store.specs.Content.{Content}
+use Rattle.sql_tree.specs.declared.tree.Query.{Query as Parsed}
+use Rattle.sql_tree.specs.declared.tree.Stmt.{Stmt}
+use Rattle.sql_tree.specs.declared.tree.Stmt.TheVariants as stmt
+use Rattle.sql_tree.specs.Tree.{QueryTree, StmtTree, stmt_tree}
+use Rattle.sql_tree.specs.Tree.StmtTree.{Select, ExplainSelect}
+use Rattle.pool_policy.specs.declared.options.Admitted.{Admitted}
+use Rattle.pool_policy.specs.Admits.{admit_of}
+use Rattle.pool_policy.specs.Looks.{look_of}
+use Rattle.run_log.specs.declared.event.Act.TheVariants as act
+use Rattle.run_log.specs.Fold.{LogState, key_offer}
+use Rattle.answer_text.specs.declared.shown.Shown.TheVariants as shown
+use Rattle.answer_text.specs.Log.{code_of, shown_reply}
+use Rattle.book_core.specs.Begins.{begin_act, marks_in, unless_refused}
+use Rattle.book_core.specs.Offers.{CanOffer}
+use Rattle.book_core.specs.Versions.{HasVersions}
+use Rattle.book_core.specs.Writes.{reply_code, reply_count, written_by}
+use Rattle.query_keys.specs.Laws.{id_given}
+use Rattle.query_run.specs.declared.step.Query.{Query}
+use Rattle.query_run.specs.declared.step.Offer.{Offer}
+use Rattle.query_run.specs.declared.step.Step.{Step}
+use Rattle.query_run.specs.declared.step.Step.TheVariants as step
+use Rattle.query_run.specs.Queries.{IsLooked}
+use Rattle.pool_policy.specs.declared.entry.Who.{Who}
+use Rattle.pool_policy.specs.declared.options.PoolOptions.{PoolOptions}
+use Rattle.run_log.specs.declared.event.Act.{Act}
+use Rattle.run_log.specs.declared.event.Event.{Event}
+use Rattle.run_log.specs.Events.{ActTree, Writes, Ends, EventTree, act_tree, event_tree, log_tree, looked_of}
+use Rattle.answer_text.specs.declared.shown.Shown.{Shown}
+use Rattle.book_core.specs.BookView.{BookView, event_of, is_open, now_of, state_of}
+use Rattle.book_core.specs.Lawful.{IsLawful}
+use Rattle.session_run.specs.declared.session.Session.{Session}
+use Rattle.session_run.specs.declared.stage.Stage.{Stage}
+use Rattle.session_run.specs.declared.stage.Stage.TheVariants as stage
+use Rattle.session_run.specs.Kept.{Stands}
+use Rattle.session_run.specs.Stages.{BeginsWith, HasDone, at_stage, explained, with_reply}
+use Rattle.session_run.specs.Turns.{IsNext}
+use Rattle.session_run.proofs.OutsideLemmas.{restaged}
+use Rattle.session_run.proofs.OwnLemmas.{event_by, now_is, replied, tree_more}
+use Rattle.session_run.proofs.InsideLemmas.{change_done, ends_open, statement_ends, text_refused}
+use Rattle.session_run.proofs.StageLemmas.{explain_starts, query_starts}
+use Rattle.session_run.proofs.TurnLemmas.{query_can_offer, query_looks, query_offers}
+
+-- who does it
+abbrev pub IsWho : Session → Who → Type 0
+IsWho x who = ◌≡◌ {A = Who} who (record { session = x.number; statement = x.ended + 1 })
+
+-- a book's log with one event more, by this session
+pub logged : (old new : List Event) (who : Who) (act : Act) (x : Session) → new ≡ old ++ event_of who act ∷ [] → IsWho x who → log_tree new ≡ log_tree old ++ event_by x (act_tree act) ∷ []
+logged old new who act x more is = ap log_tree more ∙ tree_more old (event_of who act) ∙ ap (λ (w : Who). log_tree old ++ event_tree (event_of w act) ∷ []) is
+
+-- the session has done it
+pub has_done : (old new : BookView) (before made after : Session) (act : ActTree) → after ≡ made → new.options ≡ old.options → log_tree new.log ≡ log_tree old.log ++ event_by before act ∷ []
+    → IsNext old.options before.pieces before.number (log_tree old.log) (event_by before act) × Stands old.options (log_tree old.log ++ event_by before act ∷ []) made → HasDone old new before after
+has_done old new before made after act same options log does = record {
+  event = event_by before act;
+  log = log;
+  next = does.0;
+  stands = subst (λ (o : PoolOptions). Stands o (log_tree new.log) after) (sym options) (subst (λ (l : List EventTree). Stands old.options l after) (sym log) (subst (λ (y : Session). Stands old.options (log_tree old.log ++ event_by before act ∷ []) y) (sym same) does.1));
+}
+
+-- a log that is lawful behind the event
+pub lawful_then : (old new : BookView) (event : EventTree) → new.options ≡ old.options → log_tree new.log ≡ log_tree old.log ++ event ∷ [] → IsLawful new.options (log_tree new.log) → IsLawful old.options (log_tree old.log ++ event ∷ [])
+lawful_then old new event options log lawful = subst (IsLawful old.options) log (subst (λ (o : PoolOptions). IsLawful o (log_tree new.log)) options lawful)
+
+-- a statement that is neither a query nor an EXPLAIN is a change
+pub change_of : (s : Stmt) → ((query : Parsed) → s ≡ stmt.Query query → ⊥) → ((query : Parsed) → s ≡ stmt.Explain query → ⊥) → is_change (stmt_tree s) ≡ true
+change_of (stmt.Create table columns) no_query no_explain = refl
+change_of (stmt.Drop table) no_query no_explain = refl
+change_of (stmt.Alter table column) no_query no_explain = refl
+change_of (stmt.Insert table columns rows) no_query no_explain = refl
+change_of (stmt.Delete table cond) no_query no_explain = refl
+change_of (stmt.Update table sets cond) no_query no_explain = refl
+change_of (stmt.Query query) no_query no_explain = absurd (no_query query refl)
+change_of (stmt.Explain query) no_query no_explain = absurd (no_explain query refl)
+
+-- ## A statement begins
+
+module _ (old new : BookView) (who : Who) (x after : Session) (s : Stands old.options (log_tree old.log) x) (is : x.stage ≡ stage.Between) (named : IsWho x who) (options : new.options ≡ old.options)
+    (piece : List ℕ) (here : slice_get x.pieces x.ended ≡ Some piece) where
+  abbrev now : LogState
+  now = state_of old
+
+  pub refused_does : (refusal : Refusal) → Reads piece (Err refusal) → new.log ≡ old.log ++ event_of who (act.Write None (refusal_number refusal) 0) ∷ [] → after ≡ with_reply x (shown.Refused refusal) → HasDone old new x after
+  refused_does refusal read log same =
+      has_done old new x (with_reply x (shown.Refused refusal)) after (Writes None (refusal_number refusal) 0) same options (logged old.log new.log who (act.Write None (refusal_number refusal) 0) x log named)
+      (text_refused old.options (log_tree old.log) x s is piece here refusal x.work read)
+
+  pub change_does : (statement : StmtTree) (reply : Reply) → Reads piece (Ok statement) → is_change statement ≡ true → reply ≡ (effect statement now.db).1 → log_tree new.log ≡ log_tree old.log ++ written_by who statement reply ∷ []
+      → after ≡ with_reply x (shown_reply reply) → HasDone old new x after
+  change_does statement reply read change effects log same =
+      has_done old new x (with_reply x (shown_reply reply)) after (Writes (Some statement) (reply_code reply) (reply_count reply)) same options
+      (log ∙ ap (λ (w : Who). log_tree old.log ++ written_by w statement reply ∷ []) named)
+      (change_done old.options (log_tree old.log) x s is piece here statement reply x.work read change effects)
+
+  module _ (query : QueryTree) (outcome : Result Plan Refusal) (next : Stage) (same : after ≡ at_stage x next) where
+    -- what a begin tells of its statement
+    pub record Tells (statement : StmtTree) (snap : Content) (marks : List Bool) : Type 0 where
+      pub read : Reads piece (Ok statement)
+      pub outcome_is : outcome ≡ unless_refused (refusal_over now.db statement) (plan_over now.db query)
+      pub log : new.log ≡ old.log ++ event_of who (begin_act statement outcome) ∷ []
+      pub db : snap.db ≡ now.db
+      pub versions : HasVersions now.versions snap
+      pub marks_are : marks ≡ marks_in outcome
+      pub checked : IfOk outcome (λ plan. plan_fault plan ≡ None)
+      pub fits : IfOk outcome (λ plan. FitsDb plan now.db)
+      pub meaning : IfOk outcome (λ plan. plan_rows plan now.db ≡ answer_of_stmt statement now.db)
+
+    pub query_does : (statement : StmtTree) (snap : Content) (marks : List Bool) → statement ≡ Select query → Tells statement snap marks → BeginsWith snap marks outcome next → HasDone old new x after
+    query_does statement snap marks select tells begins = go (subst (λ (t : StmtTree). Tells t snap marks) select tells)
+      where
+        go : Tells (Select query) snap marks → HasDone old new x after
+        go told =
+            has_done old new x (at_stage x next) after (act_tree (begin_act (Select query) outcome)) same options (logged old.log new.log who (begin_act (Select query) outcome) x told.log named)
+            (query_starts old.options (log_tree old.log) x s is piece here query outcome snap marks next x.work told.read told.outcome_is told.db told.versions told.marks_are told.checked told.fits told.meaning begins)
+
+    pub explain_does : (statement : StmtTree) (snap : Content) (marks : List Bool) → statement ≡ ExplainSelect query → Tells statement snap marks → next ≡ explained outcome → HasDone old new x after
+    explain_does statement snap marks explain tells begins = go (subst (λ (t : StmtTree). Tells t snap marks) explain tells)
+      where
+        go : Tells (ExplainSelect query) snap marks → HasDone old new x after
+        go told =
+            has_done old new x (at_stage x next) after (act_tree (begin_act (ExplainSelect query) outcome)) same options (logged old.log new.log who (begin_act (ExplainSelect query) outcome) x told.log named)
+            (explain_starts old.options (log_tree old.log) x s is piece here query outcome next x.work told.read told.outcome_is told.checked begins)
+
+-- ## A query goes on
+
+module _ (old new : BookView) (who : Who) (x after : Session) (s : Stands old.options (log_tree old.log) x) (named : IsWho x who) (options : new.options ≡ old.options) where
+  abbrev state : LogState
+  state = state_of old
+
+  pub look_does : (q : Query) (key : Key) (to : Step) → x.stage ≡ stage.Querying (step.Asking q key) → IsLawful old.options (log_tree old.log) → IsLawful new.options (log_tree new.log)
+      → new.log ≡ old.log ++ event_of who (act.Look (length q.values + 1) key (looked_of (look_of state.pool key))) ∷ [] → IsLooked q state.pool key to → after ≡ at_stage x (stage.Querying to) → HasDone old new x after
+  look_does q key to is lawful later log looked same =
+      let look : Act = act.Look (length q.values + 1) key (looked_of (look_of state.pool key)) in
+      let more = logged old.log new.log who look x log named in
+      has_done old new x (at_stage x (stage.Querying to)) after (act_tree look) same options more
+      (query_looks old.options (log_tree old.log) lawful x s q key is to x.work (lawful_then old new (event_by x (act_tree look)) options more later) looked)
+
+  pub can_offer : (q : Query) (offer : Offer) → x.stage ≡ stage.Querying (step.Offering q offer) → IsLawful old.options (log_tree old.log) → CanOffer offer.key offer.value offer.work state
+  can_offer q offer is lawful = query_can_offer old.options (log_tree old.log) lawful x s q offer is
+
+  pub offer_does : (q : Query) (offer : Offer) (to : Step) (work : ℕ) → x.stage ≡ stage.Querying (step.Offering q offer) → IsLawful old.options (log_tree old.log) → IsLawful new.options (log_tree new.log)
+      → new.log ≡ old.log ++ event_of who (act.Admit (length q.values + 1) offer.key (admit_of who (now_of old) (key_offer offer.key state) state.pool).0) ∷ []
+      → to ≡ step.Gained q offer.value (id_given (admit_of who (now_of old) (key_offer offer.key state) state.pool).0) → after ≡ restaged x work (stage.Querying to) → HasDone old new x after
+  offer_does q offer to work is lawful later log gained same =
+      let me : Who = record { session = x.number; statement = x.ended + 1 } in
+      let said : (admit_of who (now_of old) (key_offer offer.key state) state.pool).0 ≡ (admit_of me (state.at + 1) (key_offer offer.key state) state.pool).0 = λ i. (admit_of (named i) (now_is old i) (key_offer offer.key state) state.pool).0 in
+      let admit : Act = act.Admit (length q.values + 1) offer.key (admit_of me (state.at + 1) (key_offer offer.key state) state.pool).0 in
+      let more = logged old.log new.log who admit x (log ∙ ap (λ (a : Admitted). old.log ++ event_of who (act.Admit (length q.values + 1) offer.key a) ∷ []) said) named in
+      has_done old new x (restaged x work (stage.Querying (step.Gained q offer.value (id_given (admit_of me (state.at + 1) (key_offer offer.key state) state.pool).0)))) after (act_tree admit)
+      (same ∙ ap (λ (t : Step). restaged x work (stage.Querying t)) (gained ∙ ap (λ (a : Admitted). step.Gained q offer.value (id_given a)) said)) options more
+      (query_offers old.options (log_tree old.log) lawful x s q offer is work (lawful_then old new (event_by x (act_tree admit)) options more later))
+
+  pub end_open : (reply : Shown) (told : ℕ) → x.stage ≡ stage.Querying (step.Ending reply told) → is_open who.session old ≡ true
+  end_open reply told is = ap (λ (w : Who). is_open w.session old) named ∙ ends_open old.options (log_tree old.log) x s reply told is old refl
+
+  pub end_does : (reply : Shown) (told code work : ℕ) → x.stage ≡ stage.Querying (step.Ending reply told) → code ≡ code_of reply → new.log ≡ old.log ++ event_of who (act.End code) ∷ [] → after ≡ replied x work reply → HasDone old new x after
+  end_does reply told code work is coded log same =
+      has_done old new x (replied x work reply) after (Ends (code_of reply)) same options
+      (logged old.log new.log who (act.End (code_of reply)) x (log ∙ ap (λ n. old.log ++ event_of who (act.End n) ∷ []) coded) named)
+      (statement_ends old.options (log_tree old.log) x s reply told is work)

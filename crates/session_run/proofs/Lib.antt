@@ -1,0 +1,9 @@
+pub mod LogLemmas
+pub mod OtherLemmas
+pub mod OutsideLemmas
+pub mod OwnLemmas
+pub mod InsideLemmas
+pub mod TurnLemmas
+pub mod DoesLemmas
+pub mod StageLemmas
+pub mod RunLemmas

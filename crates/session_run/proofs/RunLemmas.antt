@@ -1,0 +1,54 @@
+-- Many events of others, and a session that is done.
+use Rattle.std.proofs.Common.{◌≡◌, ℕ, ◌≤◌, List, [], ◌∷◌, ◌++◌, length, false, Result, ap, sym, ◌∙◌, subst, arith}
+use Rattle.std.specs.Prelude.{◌==◌}
+use Rattle.std.specs.List.{AllByRecursion}
+use Rattle.std.proofs.lemmas.Bool.{ne_eqb}
+use Rattle.std.proofs.lemmas.List.{append_assoc, append-nil, take_all}
+use Rattle.sql_tree.specs.Tree.{StmtTree}
+use Rattle.sql_semantics.specs.declared.refusal.Refusal.{Refusal}
+use Rattle.pool_policy.specs.declared.options.PoolOptions.{PoolOptions}
+use Rattle.run_log.specs.Events.{EventTree}
+use Rattle.run_log.specs.Fold.{LogState, after, log_start}
+use Rattle.answer_text.specs.Layout.{replies_text}
+use Rattle.book_core.specs.Lawful.{FollowAll, IsLawful}
+use Rattle.session_run.specs.declared.session.Session.{Session}
+use Rattle.session_run.specs.declared.stage.Stage.TheVariants as stage
+use Rattle.session_run.specs.Readings.{AreReadings}
+use Rattle.session_run.specs.Turns.{IsDone, IsNext}
+use Rattle.session_run.specs.Kept.{Stands, untold}
+use Rattle.session_run.proofs.OtherLemmas.{others_stay}
+
+follow_front : (s : LogState) (log more : List EventTree) → FollowAll s (log ++ more) → FollowAll s log
+follow_front s [] more all = tt
+follow_front s (event ∷ log) more all = (all.0, follow_front (after s event) log more all.1)
+
+-- the front of a lawful log is lawful
+pub lawful_front : (options : PoolOptions) (log more : List EventTree) → IsLawful options (log ++ more) → IsLawful options log
+lawful_front options log more lawful = follow_front (log_start options) log more lawful
+
+-- a session stands as it did, whatever events of others come next
+pub others_along : (options : PoolOptions) (x : Session) (log more : List EventTree) → IsLawful options (log ++ more) → AllByRecursion (λ (event : EventTree). (event.session == x.number) ≡ false) more
+    → Stands options log x → Stands options (log ++ more) x
+others_along options x log [] lawful others s = subst (λ (events : List EventTree). Stands options events x) (sym (append-nil log)) s
+others_along options x log (event ∷ more) lawful others s =
+    let parts = append_assoc log (event ∷ []) more in
+    let all = subst (IsLawful options) (sym parts) lawful in
+    subst (λ (events : List EventTree). Stands options events x) parts
+    (others_along options x (log ++ event ∷ []) more all others.1 (others_stay options log x event (lawful_front options (log ++ event ∷ []) more all) s others.0))
+
+-- an event of one session is none of another
+pub next_other : (options : PoolOptions) (pieces : List (List ℕ)) (session other : ℕ) (log : List EventTree) (event : EventTree) → IsNext options pieces session log event → (session ≡ other → ⊥) → (event.session == other) ≡ false
+next_other options pieces session other log event next apart = ne_eqb event.session other (λ same. apart (sym (ap (λ (e : EventTree). e.session) next.is) ∙ same))
+
+-- a session is done where all its statements have ended
+pub done_is : (options : PoolOptions) (log : List EventTree) (x : Session) → Stands options log x → length x.pieces ≤ x.ended → IsDone x.pieces x.number log
+done_is options log x s all = let ended = s.ended in omega (arith, ended, all)
+
+-- it has no reply to write then but the last, and its text is the replies to all its statements
+pub done_text : (options : PoolOptions) (log : List EventTree) (x : Session) → Stands options log x → x.stage ≡ stage.Between → length x.pieces ≤ x.ended
+    → (readings : List (Result StmtTree Refusal)) × AreReadings x.pieces readings × (x.text.items ≡ replies_text log x.number readings)
+done_text options log x s is all = (
+  s.readings,
+  subst (λ pieces. AreReadings pieces s.readings) (take_all x.ended x.pieces all) s.read,
+  sym (append-nil x.text.items) ∙ ap (λ at. x.text.items ++ untold x.ended at) (sym is) ∙ s.text,
+)

@@ -1,0 +1,187 @@
+-- How a session stands by its stages.
+use Rattle.std.proofs.Common.{◌≡◌, ℕ, ◌≤◌, List, [], ◌∷◌, ◌++◌, take, length, Bool, Some, None, Result, Ok, Err, refl, ap, sym, ◌∙◌, subst, arith}
+use Rattle.std.specs.Prelude.{IfOk, slice_get}
+use Rattle.std.specs.declared.vec.Vec.{Vec}
+use Rattle.std.specs.declared.alloc.Global.{Global}
+use Rattle.mal_meaning.specs.declared.plan.Plan.{Plan}
+use Rattle.mal_meaning.specs.Meaning.{plan_rows}
+use Rattle.mal_check.specs.Checked.{plan_fault}
+use Rattle.mal_check.specs.Runnable.{FitsDb}
+use Rattle.mal_print.specs.Canon.{plan_text}
+use Rattle.sql_tree.specs.Tree.{QueryTree}
+use Rattle.sql_tree.specs.Tree.StmtTree.{Select, ExplainSelect}
+use Rattle.sql_semantics.specs.Answer.{answer_of_stmt}
+use Rattle.sql_semantics.specs.declared.refusal.Refusal.{Refusal}
+use Rattle.sql_parse.specs.Answered.{Reads}
+use Rattle.plan_queries.specs.Plans.{plan_over, refusal_over}
+use Rattle.pool_policy.specs.declared.options.PoolOptions.{PoolOptions}
+use Rattle.run_log.specs.Events.{ActTree, EventTree, act_tree}
+use Rattle.run_log.specs.Fold.{LogState, run_of}
+use Rattle.table_store.specs.Content.{Content}
+use Rattle.book_core.specs.Begins.{begin_act, marks_in, unless_refused}
+use Rattle.book_core.specs.Versions.{HasVersions}
+use Rattle.session_run.specs.declared.session.Session.{Session}
+use Rattle.session_run.specs.declared.stage.Stage.{Stage}
+use Rattle.session_run.specs.declared.stage.Stage.TheVariants as stage
+use Rattle.session_run.specs.Progress.{Progress, progress_of}
+use Rattle.session_run.specs.Readings.{AreReadings}
+use Rattle.session_run.specs.Turns.{IsNext, state_before}
+use Rattle.session_run.specs.Kept.{HasBegun, IsStage, IsUnder, Stands, untold}
+use Rattle.session_run.specs.Stages.{BeginsWith, ComesTo, HasComputed, IsSoundStage, explained}
+use Rattle.session_run.proofs.InsideLemmas.{explain_begins, explain_refused, query_begins, query_refused}
+use Rattle.session_run.proofs.OwnLemmas.{event_by}
+use Rattle.session_run.proofs.OutsideLemmas.{explain_computes, query_computes, query_sound, reply_told, restaged}
+
+-- ## A new session
+
+pub new_stands : (options : PoolOptions) (x : Session) → 1 ≤ x.number → x.number ≤ 16 → length x.pieces ≤ 256 → x.ended ≡ 0 → x.text.items ≡ [] → x.stage ≡ stage.Between → Stands options [] x
+new_stands options x low high short ended text is = record {
+  low = low;
+  high = high;
+  short = short;
+  ended = sym ended;
+  within = omega (arith, ended);
+  readings = [];
+  read = subst (λ n. AreReadings (take n x.pieces) []) (sym ended) tt;
+  text = ap (λ more. x.text.items ++ more) (ap (untold x.ended) is) ∙ ap (λ start. start ++ []) text;
+  placed = λ k above below. absurd (let no : ⊥ = omega (arith, above, below) in no);
+  open_ = λ k above. omega arith;
+  stage = subst (IsStage options [] x (progress_of x.number [])) (sym is) refl;
+}
+
+-- ## A session computes
+
+module _ (options : PoolOptions) (log : List EventTree) (x : Session) (text : Vec ℕ Global) (same : text.items ≡ x.text.items) where
+  abbrev retold : Session
+  retold = record x { text = text }
+
+  begun_retold : (p : Progress) → HasBegun options log x p → HasBegun options log retold p
+  begun_retold p has = record {
+    at = has.at;
+    begun = has.begun;
+    first = has.first;
+    within = has.within;
+    place = has.place;
+    piece = has.piece;
+    here = has.here;
+    statement = has.statement;
+    read = has.read;
+    under = has.under;
+  }
+
+  stage_retold : (p : Progress) (at : Stage) → IsStage options log x p at → IsStage options log retold p at
+  stage_retold p stage.Between is = is
+  stage_retold p (stage.Telling reply) is = is
+  stage_retold p (stage.Querying at) is = begun_retold p is
+  stage_retold p (stage.Explaining plan) is = begun_retold p is
+
+  retold_stands : Stands options log x → Stands options log retold
+  retold_stands s = record {
+    low = s.low;
+    high = s.high;
+    short = s.short;
+    ended = s.ended;
+    within = s.within;
+    readings = s.readings;
+    read = s.read;
+    text = ap (λ bytes. bytes ++ untold x.ended x.stage) same ∙ s.text;
+    placed = s.placed;
+    open_ = s.open_;
+    stage = stage_retold (progress_of x.number log) x.stage s.stage;
+  }
+
+module _ (options : PoolOptions) (log : List EventTree) (x : Session) (s : Stands options log x) where
+  -- it may compute
+  pub stage_sound : IsSoundStage x.stage
+  stage_sound = go x.stage refl
+    where
+      go : (at : Stage) → x.stage ≡ at → IsSoundStage at
+      go stage.Between is = tt
+      go (stage.Telling reply) is = tt
+      go (stage.Querying from) is = query_sound options log x from s is
+      go (stage.Explaining plan) is =
+          let has = subst (IsStage options log x (progress_of x.number log)) is s.stage in
+          (subst (IsUnder (state_before options log has.at) (run_of options log).given (progress_of x.number log) has.statement) is has.under).checked
+
+  computed_at : (at next : Stage) (text : Vec ℕ Global) (work : ℕ) → x.stage ≡ at → ComesTo at x.ended x.text.items next text.items → Stands options log (record x { text = text; work = work; stage = next })
+  computed_at stage.Between next text work is c =
+      subst (λ to. Stands options log (record x { text = text; work = work; stage = to })) (is ∙ sym c.0)
+      (retold_stands options log (restaged x work x.stage) text c.1 (worked work))
+    where
+      worked : (work : ℕ) → Stands options log (restaged x work x.stage)
+      worked work = record {
+        low = s.low;
+        high = s.high;
+        short = s.short;
+        ended = s.ended;
+        within = s.within;
+        readings = s.readings;
+        read = s.read;
+        text = s.text;
+        placed = s.placed;
+        open_ = s.open_;
+        stage = subst (IsStage options log (restaged x work x.stage) (progress_of x.number log)) (sym is) (subst (IsStage options log x (progress_of x.number log)) is s.stage);
+      }
+  computed_at (stage.Telling reply) next text work is c =
+      subst (λ to. Stands options log (record x { text = text; work = work; stage = to })) (sym c.0) (reply_told options log x reply text work s is c.1)
+  computed_at (stage.Querying from) next text work is c =
+      subst (λ to. Stands options log (record x { text = text; work = work; stage = to })) (sym c.1)
+      (retold_stands options log (restaged x work (stage.Querying c.0)) text c.3 (query_computes options log x from c.0 work s is c.2))
+  computed_at (stage.Explaining plan) next text work is c =
+      subst (λ to. Stands options log (record x { text = text; work = work; stage = to })) (sym c.0)
+      (retold_stands options log (restaged x work _) text c.1 (explain_computes options log x plan (plan_text plan) work s is refl))
+
+  -- and stands as before
+  pub computed_stands : (new : Session) → HasComputed x new → Stands options log new
+  computed_stands new c =
+      subst (Stands options log) (λ i. record {
+        number = sym c.number i;
+        pieces = sym c.pieces i;
+        ended = sym c.ended i;
+        text = new.text;
+        work = new.work;
+        stage = new.stage;
+      }) (computed_at x.stage new.stage new.text new.work refl c.stage)
+
+-- ## A statement begins
+
+module _ (options : PoolOptions) (log : List EventTree) (x : Session) (s : Stands options log x) (is : x.stage ≡ stage.Between) (piece : List ℕ) (here : slice_get x.pieces x.ended ≡ Some piece) (query : QueryTree) where
+  abbrev now : LogState
+  now = run_of options log
+
+  -- the session's next event, and where it stands behind it
+  abbrev Does : ActTree → Session → Type 0
+  Does act new = IsNext options x.pieces x.number log (event_by x act) × Stands options (log ++ event_by x act ∷ []) new
+
+  -- a query, with the plan that it began with or refused
+  pub query_starts : (outcome : Result Plan Refusal) (snap : Content) (marks : List Bool) (next : Stage) (work : ℕ) → Reads piece (Ok (Select query))
+      → outcome ≡ unless_refused (refusal_over now.db (Select query)) (plan_over now.db query) → snap.db ≡ now.db → HasVersions now.versions snap → marks ≡ marks_in outcome
+      → IfOk outcome (λ plan. plan_fault plan ≡ None) → IfOk outcome (λ plan. FitsDb plan now.db) → IfOk outcome (λ plan. plan_rows plan now.db ≡ answer_of_stmt (Select query) now.db)
+      → BeginsWith snap marks outcome next → Does (act_tree (begin_act (Select query) outcome)) (restaged x work next)
+  query_starts (Ok plan) snap marks next work read outcome db versions marked checked fits meaning begins =
+      let q = begins.0 in
+      let new = begins.2 in
+      subst (λ to. Does (act_tree (begin_act (Select query) (Ok plan))) (restaged x work to)) (sym begins.1)
+      (query_begins options log x s is piece here query plan q work read outcome (record {
+        db = ap (λ (content : Content). content.db) new.snap_is ∙ db;
+        versions = subst (HasVersions now.versions) (sym new.snap_is) versions;
+        plan_is = new.plan_is;
+        marks = new.marks_are ∙ marked;
+        ids = new.ids;
+        values = new.values;
+        checked = checked;
+        fits = fits;
+      }) meaning)
+  query_starts (Err refusal) snap marks next work read outcome db versions marked checked fits meaning begins =
+      subst (λ to. Does (act_tree (begin_act (Select query) (Err refusal))) (restaged x work to)) (sym begins)
+      (query_refused options log x s is piece here query refusal work read outcome)
+
+  -- and an EXPLAIN
+  pub explain_starts : (outcome : Result Plan Refusal) (next : Stage) (work : ℕ) → Reads piece (Ok (ExplainSelect query)) → outcome ≡ unless_refused (refusal_over now.db (ExplainSelect query)) (plan_over now.db query)
+      → IfOk outcome (λ plan. plan_fault plan ≡ None) → next ≡ explained outcome → Does (act_tree (begin_act (ExplainSelect query) outcome)) (restaged x work next)
+  explain_starts (Ok plan) next work read outcome checked begins =
+      subst (λ to. Does (act_tree (begin_act (ExplainSelect query) (Ok plan))) (restaged x work to)) (sym begins)
+      (explain_begins options log x s is piece here query plan work checked read outcome)
+  explain_starts (Err refusal) next work read outcome checked begins =
+      subst (λ to. Does (act_tree (begin_act (ExplainSelect query) (Err refusal))) (restaged x work to)) (sym begins)
+      (explain_refused options log x s is piece here query refusal work read outcome)

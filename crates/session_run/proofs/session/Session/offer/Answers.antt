@@ -1,0 +1,16 @@
+use Rattle.std.proofs.Common.{refl}
+use Rattle.query_run.specs.declared.step.Step.TheVariants as step
+use Rattle.session_run.specs.declared.stage.Stage.TheVariants as stage
+use Rattle.session_run.specs.Stages.{at_stage}
+use Rattle.session_run.proofs.DoesLemmas.{can_offer, offer_does}
+use Rattle.session_run.proofs.session.Session.offer.Goals as goal
+
+pub offer-requires-clause-offer : goal.offer-requires-clause-offer
+offer-requires-clause-offer g c =
+    can_offer c.args.book.now c.args.book.now c.who-who.result (at_stage c.args.self.now (stage.Querying (step.Offering c.args.query c.args.offer))) c.args.self.now c.requires.stands c.who-who.ensures refl
+    c.args.query c.args.offer refl c.log.ensures.lawful
+
+pub returns-clause-does : goal.returns-clause-does
+returns-clause-does g c =
+    offer_does c.args.book.now c.offer.new.book c.who-who.result (at_stage c.args.self.now (stage.Querying (step.Offering c.args.query c.args.offer))) _ c.requires.stands c.who-who.ensures c.offer.ensures.options
+    c.args.query c.args.offer c.in_ok-next.next c.in_ok-work.work refl c.log.ensures.lawful c.log-2.ensures.lawful c.in_ok-next.ensures.logged c.in_ok-next.ensures.step refl

@@ -1,0 +1,11 @@
+use Rattle.std.proofs.Common.{refl}
+use Rattle.sql_tree.specs.Tree.{query_tree, stmt_tree}
+use Rattle.session_run.proofs.DoesLemmas.{explain_does}
+use Rattle.session_run.proofs.session.Session.start_explain.Goals as goal
+
+pub returns-clause-does : goal.returns-clause-does
+returns-clause-does c =
+    let told = c.in_ok-begun.ensures in
+    explain_does c.args.book.now c.begin.new.self c.who.result c.args.self.now _ c.requires.stands c.requires.between c.who.ensures c.begin.ensures.options c.requires.read.0 c.requires.read.1
+    (query_tree c.args.query.now) c.in_ok-begun.begun.plan c.explain_stage.result refl (stmt_tree c.args.stmt.now) c.in_ok-begun.begun.snap c.in_ok-begun.begun.marks.items c.requires.explain
+    (record { read = c.requires.read.2; outcome_is = told.plan; log = told.logged; db = told.tables; versions = told.versions; marks_are = told.marks; checked = told.checked; fits = told.fits; meaning = told.meaning }) c.explain_stage.ensures

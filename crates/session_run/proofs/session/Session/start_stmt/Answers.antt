@@ -1,0 +1,13 @@
+use Rattle.session_run.proofs.DoesLemmas.{change_of}
+use Rattle.session_run.proofs.session.Session.start_stmt.Goals as goal
+
+pub change-requires : goal.change-requires
+change-requires g c = record {
+  kind = c.requires.kind;
+  weights = c.requires.weights;
+  between = c.requires.between;
+  stands = c.requires.stands;
+  change = change_of c.args.stmt c.in_default.not-Query c.in_default.not-Explain;
+  formed = c.requires.formed;
+  read = c.requires.read;
+}

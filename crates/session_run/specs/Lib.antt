@@ -1,0 +1,5 @@
+pub mod Readings
+pub mod Progress
+pub mod Turns
+pub mod Kept
+pub mod Stages

@@ -1,0 +1,88 @@
+-- How one stage of a session follows from another.
+use Rattle.std.specs.Prelude.{◌≡◌, ℕ, ◌+◌, List, [], ◌∷◌, ◌++◌, Bool, None, Result, Ok, Err}
+use Rattle.mal_meaning.specs.declared.plan.Plan.{Plan}
+use Rattle.sql_semantics.specs.declared.refusal.Refusal.{Refusal}
+use Rattle.table_store.specs.Content.{Content}
+use Rattle.query_run.specs.declared.step.Query.{Query}
+use Rattle.mal_check.specs.Checked.{plan_fault}
+use Rattle.mal_print.specs.Canon.{plan_text}
+use Rattle.run_log.specs.Events.{EventTree, log_tree}
+use Rattle.answer_text.specs.declared.shown.Shown.{Shown}
+use Rattle.answer_text.specs.declared.shown.Shown.TheVariants as shown
+use Rattle.answer_text.specs.Layout.{reply_text}
+use Rattle.book_core.specs.BookView.{BookView}
+use Rattle.query_run.specs.declared.step.Step.{Step}
+use Rattle.query_run.specs.declared.step.Step.TheVariants as step
+use Rattle.query_run.specs.Steps.{Computes, IsSoundStep}
+use Rattle.session_run.specs.declared.session.Session.{Session}
+use Rattle.session_run.specs.declared.stage.Stage.{Stage}
+use Rattle.session_run.specs.declared.stage.Stage.TheVariants as stage
+use Rattle.session_run.specs.Kept.{Stands}
+use Rattle.session_run.specs.Turns.{IsNext}
+
+-- ## Outside
+
+-- what a stage needs to be computed
+abbrev pub IsSoundStage : Stage → Type 0
+IsSoundStage (stage.Querying at) = IsSoundStep at
+IsSoundStage (stage.Explaining plan) = plan_fault plan ≡ None
+IsSoundStage _ = Unit {0}
+
+-- what it comes to behind k statements that have ended, with the text of their replies before and after
+abbrev pub ComesTo : Stage → ℕ → List ℕ → Stage → List ℕ → Type 0
+ComesTo (stage.Querying from) k text next more = (to : Step) × (next ≡ stage.Querying to) × Computes from to × (more ≡ text)
+ComesTo (stage.Explaining plan) k text next more = (next ≡ stage.Querying (step.Ending (shown.Plan (plan_text plan)) 0)) × (more ≡ text)
+ComesTo (stage.Telling reply) k text next more = (next ≡ stage.Between) × (more ≡ text ++ reply_text k reply)
+ComesTo stage.Between k text next more = (next ≡ stage.Between) × (more ≡ text)
+
+-- a session computes: nothing of it changes but its stage and its text
+pub record HasComputed (old new : Session) : Type 0 where
+  pub number : new.number ≡ old.number
+  pub pieces : new.pieces ≡ old.pieces
+  pub ended : new.ended ≡ old.ended
+  pub stage : ComesTo old.stage old.ended old.text.items new.stage new.text.items
+
+-- ## Inside
+
+-- its next event stands
+abbrev pub IsReady : Stage → Type 0
+IsReady stage.Between = Unit {0}
+IsReady (stage.Querying (step.Asking q key)) = Unit {0}
+IsReady (stage.Querying (step.Offering q offer)) = Unit {0}
+IsReady (stage.Querying (step.Ending reply work)) = Unit {0}
+IsReady _ = ⊥
+
+-- a session in another stage
+abbrev pub at_stage : Session → Stage → Session
+at_stage x next = record x { stage = next }
+
+-- one statement more has ended, with this reply
+abbrev pub with_reply : Session → Shown → Session
+with_reply x reply = record x { ended = x.ended + 1; stage = stage.Telling reply }
+
+-- a session does its next event, and then stands where the log says
+pub record HasDone (old new : BookView) (before after : Session) : Type 0 where
+  pub event : EventTree
+  pub log : log_tree new.log ≡ log_tree old.log ++ event ∷ []
+  pub next : IsNext old.options before.pieces before.number (log_tree old.log) event
+  pub stands : Stands new.options (log_tree new.log) after
+
+-- ## A query begins
+
+-- a query without results, over this snapshot by this plan
+pub record IsNew (q : Query) (snap : Content) (plan : Plan) (marks : List Bool) : Type 0 where
+  pub snap_is : q.snap ≡ snap
+  pub plan_is : q.plan ≡ plan
+  pub marks_are : q.marks.items ≡ marks
+  pub ids : q.ids.items ≡ []
+  pub values : q.values ≡ []
+
+-- the stage of a query that has begun with a plan, or that is refused
+abbrev pub BeginsWith : Content → List Bool → Result Plan Refusal → Stage → Type 0
+BeginsWith snap marks (Ok plan) next = (q : Query) × (next ≡ stage.Querying (step.Begun q)) × IsNew q snap plan marks
+BeginsWith snap marks (Err refusal) next = next ≡ stage.Querying (step.Ending (shown.Refused refusal) 0)
+
+-- the stage of an EXPLAIN, so
+abbrev pub explained : Result Plan Refusal → Stage
+explained (Ok plan) = stage.Explaining plan
+explained (Err refusal) = stage.Querying (step.Ending (shown.Refused refusal) 0)

@@ -1,0 +1,122 @@
+//! The events of a query under way.
+ghost use Rattle.std.specs.Prelude.{◌≡◌, ◌<◌, length, OnOk, OnErr};
+ghost use Rattle.run_log.specs.Events.{log_tree};
+ghost use Rattle.answer_text.specs.Log.{code_of as code_shown};
+ghost use Rattle.query_run.specs.declared.step.Step.TheVariants as step;
+ghost use Rattle.session_run.specs.declared.stage.Stage.TheVariants as stage;
+ghost use Rattle.session_run.specs.Kept.{Stands};
+ghost use Rattle.session_run.specs.Stages.{HasDone, IsReady, at_stage};
+
+use crate::session::Session;
+use crate::stage::Stage;
+use answer_text::Shown;
+use book_core::Book;
+use cell_core::Memory;
+use lineage_key::Key;
+use query_run::{Offer, Query, Step};
+use score_hook::Scorer;
+use std::alloc::Global;
+
+impl Session {
+    /// Does the next event of a query, which is in this step.
+    pub(crate) fn go_on(
+        &mut self,
+        alloc: Global,
+        book: &mut Book,
+        scorer: &Scorer,
+        step: Step,
+    ) -> Result<(), Memory>
+        requires kind { scorer.now.kind ≡ book.old.options.evict }
+        requires weights { scorer.now.weights.items ≡ book.old.options.weights }
+        requires stands { Stands book.old.options (log_tree book.old.log) (at_stage self.old (stage.Querying step)) }
+        requires more { self.old.ended < length self.old.pieces }
+        requires ready { IsReady (stage.Querying step) }
+        ensures options { book.new.options ≡ book.old.options }
+        ensures number { OnOk result (self.new.number ≡ self.old.number) }
+        ensures pieces { OnOk result (self.new.pieces ≡ self.old.pieces) }
+        ensures does { OnOk result (HasDone book.old book.new (at_stage self.old (stage.Querying step)) self.new) }
+        ensures same { OnErr result (book.new ≡ book.old) }
+    {
+        match step {
+            Step::Asking(query, key) => self.ask(alloc, book, query, key),
+            Step::Offering(query, offer) => self.offer(alloc, book, scorer, query, offer),
+            Step::Ending(shown, work) => self.end(book, shown, work),
+            Step::Begun(_) | Step::Found(..) | Step::Gained(..) => unreachable!(),
+        }
+    }
+
+    /// Asks the pool for the next result.
+    fn ask(&mut self, alloc: Global, book: &mut Book, query: Query, key: Key) -> Result<(), Memory>
+        requires stands { Stands book.old.options (log_tree book.old.log) (at_stage self.old (stage.Querying (step.Asking query key))) }
+        requires more { self.old.ended < length self.old.pieces }
+        ensures options { book.new.options ≡ book.old.options }
+        ensures number { OnOk result (self.new.number ≡ self.old.number) }
+        ensures pieces { OnOk result (self.new.pieces ≡ self.old.pieces) }
+        ensures does { OnOk result (HasDone book.old book.new (at_stage self.old (stage.Querying (step.Asking query key))) self.new) }
+        ensures same { OnErr result (book.new ≡ book.old) }
+    {
+        let _ = book.log();
+        let who = self.who();
+        let next = query.ask(alloc, book, who, key)?;
+        let _ = book.log();
+        self.stage = Stage::Querying(next);
+        Ok(())
+    }
+
+    /// Offers the next result to the pool.
+    fn offer(
+        &mut self,
+        alloc: Global,
+        book: &mut Book,
+        scorer: &Scorer,
+        query: Query,
+        offer: Offer,
+    ) -> Result<(), Memory>
+        requires kind { scorer.now.kind ≡ book.old.options.evict }
+        requires weights { scorer.now.weights.items ≡ book.old.options.weights }
+        requires stands { Stands book.old.options (log_tree book.old.log) (at_stage self.old (stage.Querying (step.Offering query offer))) }
+        requires more { self.old.ended < length self.old.pieces }
+        ensures options { book.new.options ≡ book.old.options }
+        ensures number { OnOk result (self.new.number ≡ self.old.number) }
+        ensures pieces { OnOk result (self.new.pieces ≡ self.old.pieces) }
+        ensures does { OnOk result (HasDone book.old book.new (at_stage self.old (stage.Querying (step.Offering query offer))) self.new) }
+        ensures same { OnErr result (book.new ≡ book.old) }
+    {
+        let _ = book.log();
+        let who = self.who();
+        let work = self.work.checked_add(offer.done).ok_or(Memory)?;
+        let next = query.offer(alloc, book, scorer, who, offer)?;
+        let _ = book.log();
+        self.stage = Stage::Querying(next);
+        self.work = work;
+        Ok(())
+    }
+
+    /// Ends its query with this reply.
+    fn end(&mut self, book: &mut Book, shown: Shown, work: u128) -> Result<(), Memory>
+        requires stands { Stands book.old.options (log_tree book.old.log) (at_stage self.old (stage.Querying (step.Ending shown work))) }
+        requires more { self.old.ended < length self.old.pieces }
+        ensures options { book.new.options ≡ book.old.options }
+        ensures number { OnOk result (self.new.number ≡ self.old.number) }
+        ensures pieces { OnOk result (self.new.pieces ≡ self.old.pieces) }
+        ensures does { OnOk result (HasDone book.old book.new (at_stage self.old (stage.Querying (step.Ending shown work))) self.new) }
+        ensures same { OnErr result (book.new ≡ book.old) }
+    {
+        let _ = book.log();
+        let who = self.who();
+        self.work = self.work.checked_add(work).ok_or(Memory)?;
+        book.end(who, code_of(&shown));
+        self.tell(shown);
+        Ok(())
+    }
+}
+
+/// 0, or the refusal's number.
+fn code_of(shown: &Shown) -> u8
+    ensures { result ≡ code_shown shown.now }
+{
+    match shown {
+        Shown::Refused(refusal) => refusal.number(),
+        _ => 0,
+    }
+}

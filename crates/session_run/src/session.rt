@@ -1,0 +1,166 @@
+ghost use Rattle.std.specs.Prelude.{◌≡◌, ℕ, ◌+◌, ◌≤◌, ◌<◌, List, [], length, nat_le, IfOk, OnOk, OnErr, None};
+ghost use Rattle.mal_check.specs.Checked.{plan_fault};
+ghost use Rattle.mal_print.specs.Canon.{plan_text};
+ghost use Rattle.pool_policy.specs.declared.options.PoolOptions.{PoolOptions as OptionsSeen};
+ghost use Rattle.run_log.specs.Events.{log_tree};
+ghost use Rattle.answer_text.specs.Log.{code_of as code_shown};
+ghost use Rattle.answer_text.specs.declared.shown.Shown.TheVariants as shown;
+ghost use Rattle.query_run.specs.declared.step.Step.TheVariants as step;
+ghost use Rattle.session_run.specs.declared.stage.Stage.TheVariants as stage;
+ghost use Rattle.session_run.specs.Kept.{Stands};
+ghost use Rattle.session_run.specs.Stages.{ComesTo, HasComputed, HasDone, IsReady, IsSoundStage, at_stage, with_reply};
+
+use crate::stage::Stage;
+use answer_text::{Shown, write_reply};
+use bat_core::Operate;
+use book_core::Book;
+use cell_core::{Memory, Sequence, Steps, Word};
+use mal_meaning::Plan;
+use mal_print::print_mal;
+use pool_policy::Who;
+use query_run::Step;
+use score_hook::Scorer;
+use std::alloc::Global;
+use std::mem;
+use std::sync::ledger::Ledger;
+
+/// One script's way through a run.
+#[derive(Drop)]
+pub struct Session {
+    /// Its number, from 1.
+    pub number: u32,
+    /// The texts of its statements.
+    pub pieces: Sequence<Word>,
+    /// How many of them have ended.
+    pub ended: u32,
+    /// Their replies, as they are printed.
+    pub text: Vec<u8>,
+    /// The stated work of its queries so far, as it was done.
+    pub work: u128,
+    /// What it does next.
+    pub stage: Stage,
+}
+
+impl Session {
+    /// A session that has not begun.
+    pub fn new(alloc: Global, number: u32, pieces: Sequence<Word>) -> Session
+        requires low { 1 ≤ number }
+        requires high { number ≤ 16 }
+        requires short { length pieces ≤ 256 }
+        ensures number { result.number ≡ number }
+        ensures pieces { result.pieces ≡ pieces }
+        ensures stands { (options : OptionsSeen) → Stands options [] result }
+    {
+        Session {
+            number,
+            pieces,
+            ended: 0,
+            text: Vec::new(alloc),
+            work: 0,
+            stage: Stage::Between,
+        }
+    }
+
+    /// Whether all its statements have ended.
+    pub fn done(&self) -> bool
+        ensures { result ≡ nat_le (length self.now.pieces) self.now.ended }
+    {
+        self.ended as usize >= self.pieces.len()
+    }
+
+    /// The statement that it is at.
+    pub(crate) fn who(&self) -> Who
+        requires { self.now.ended < 256 }
+        ensures { result ≡ record { session = self.now.number; statement = self.now.ended + 1 } }
+    {
+        Who {
+            session: self.number,
+            statement: self.ended + 1,
+        }
+    }
+
+    /// Computes what the next event needs, and writes the reply of a statement that has ended.
+    pub fn outside<E: Operate, L: Ledger>(
+        &mut self,
+        alloc: Global,
+        kernel: &E,
+        steps: &mut Steps<L>,
+    ) -> Result<(), Memory>
+        requires { IsSoundStage self.old.stage }
+        ensures { OnOk result (HasComputed self.old self.new) }
+    {
+        let stage = mem::replace(&mut self.stage, Stage::Between);
+        self.stage = compute(alloc, stage, self.ended, &mut self.text, kernel, steps)?;
+        Ok(())
+    }
+
+    /// Does the next event. After Memory the book is as before, and nothing is said of the session.
+    pub fn inside<E: Operate, L: Ledger>(
+        &mut self,
+        alloc: Global,
+        book: &mut Book,
+        scorer: &Scorer,
+        kernel: &E,
+        steps: &mut Steps<L>,
+    ) -> Result<(), Memory>
+        requires kind { scorer.now.kind ≡ book.old.options.evict }
+        requires weights { scorer.now.weights.items ≡ book.old.options.weights }
+        requires stands { Stands book.old.options (log_tree book.old.log) self.old }
+        requires more { self.old.ended < length self.old.pieces }
+        requires ready { IsReady self.old.stage }
+        ensures options { book.new.options ≡ book.old.options }
+        ensures number { OnOk result (self.new.number ≡ self.old.number) }
+        ensures pieces { OnOk result (self.new.pieces ≡ self.old.pieces) }
+        ensures does { OnOk result (HasDone book.old book.new self.old self.new) }
+        ensures same { OnErr result (book.new ≡ book.old) }
+    {
+        let stage = mem::replace(&mut self.stage, Stage::Between);
+        match stage {
+            Stage::Between => self.start(alloc, book, scorer, kernel, steps),
+            Stage::Querying(step) => self.go_on(alloc, book, scorer, step),
+            Stage::Explaining(_) | Stage::Telling(_) => unreachable!(),
+        }
+    }
+
+    /// Its statement has ended with this reply.
+    pub(crate) fn tell(&mut self, shown: Shown)
+        requires { self.old.ended < 256 }
+        ensures { self.new ≡ with_reply self.old shown }
+    {
+        self.ended += 1;
+        self.stage = Stage::Telling(shown);
+    }
+}
+
+/// What a stage comes to behind so many statements that have ended, with the text of their replies.
+fn compute<E: Operate, L: Ledger>(
+    alloc: Global,
+    stage: Stage,
+    ended: u32,
+    text: &mut Vec<u8>,
+    kernel: &E,
+    steps: &mut Steps<L>,
+) -> Result<Stage, Memory>
+    requires { IsSoundStage stage }
+    ensures { IfOk result (λ next. ComesTo stage ended text.old.items next text.new.items) }
+{
+    match stage {
+        Stage::Querying(step) => Ok(Stage::Querying(step.outside(alloc, kernel, steps)?)),
+        Stage::Explaining(plan) => explain(alloc, &plan),
+        Stage::Telling(shown) => {
+            write_reply(alloc, ended, &shown, text)?;
+            Ok(Stage::Between)
+        }
+        Stage::Between => Ok(Stage::Between),
+    }
+}
+
+/// An EXPLAIN ends with the text of its plan.
+fn explain(alloc: Global, plan: &Plan) -> Result<Stage, Memory>
+    requires { plan_fault plan.now ≡ None }
+    ensures { IfOk result (λ next. next ≡ stage.Querying (step.Ending (shown.Plan (plan_text plan.now)) 0)) }
+{
+    let text = print_mal(alloc, plan)?;
+    let shown = Shown::Plan(Sequence::from_vec(text));
+    Ok(Stage::Querying(Step::Ending(shown, 0)))
+}

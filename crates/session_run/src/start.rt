@@ -1,0 +1,247 @@
+//! The first event of a statement.
+ghost use Rattle.std.specs.Prelude.{◌≡◌, ℕ, ◌<◌, List, length, slice_get, true, Some, Ok, Err, IfOk, OnOk, OnErr};
+ghost use Rattle.sql_grammar.specs.Formed.{IsFormed};
+ghost use Rattle.sql_parse.specs.Answered.{Reads};
+ghost use Rattle.sql_parse.specs.declared.error.ParseError.TheVariants.{Refused};
+ghost use Rattle.sql_semantics.specs.declared.refusal.Refusal.{Refusal as RefusalSeen};
+ghost use Rattle.sql_tree.specs.Tree.{query_tree, stmt_tree};
+ghost use Rattle.sql_tree.specs.Tree.StmtTree.{Select, ExplainSelect};
+ghost use Rattle.run_log.specs.Events.{log_tree};
+ghost use Rattle.answer_text.specs.Log.{shown_reply};
+ghost use Rattle.store_changes.specs.Outcomes.{is_change};
+ghost use Rattle.session_run.specs.declared.stage.Stage.TheVariants as stage;
+ghost use Rattle.session_run.specs.Kept.{Stands};
+ghost use Rattle.session_run.specs.Stages.{BeginsWith, HasDone, explained};
+ghost use Rattle.query_run.specs.declared.step.Step.TheVariants as step;
+ghost use Rattle.answer_text.specs.declared.shown.Shown.TheVariants as shown;
+
+use crate::session::Session;
+use crate::stage::Stage;
+use answer_text::Shown;
+use bat_core::Operate;
+use book_core::{Begun, Book};
+use cell_core::{Memory, Steps, Word};
+use query_run::{Query, Step};
+use score_hook::Scorer;
+use sql_parse::{ParseError, parse};
+use sql_semantics::{Refusal, Reply};
+use sql_tree::Stmt;
+use std::alloc::Global;
+use std::sync::ledger::Ledger;
+
+impl Session {
+    /// Begins the next statement, or does it whole where it is no query.
+    pub(crate) fn start<E: Operate, L: Ledger>(
+        &mut self,
+        alloc: Global,
+        book: &mut Book,
+        scorer: &Scorer,
+        kernel: &E,
+        steps: &mut Steps<L>,
+    ) -> Result<(), Memory>
+        requires kind { scorer.now.kind ≡ book.old.options.evict }
+        requires weights { scorer.now.weights.items ≡ book.old.options.weights }
+        requires between { self.old.stage ≡ stage.Between }
+        requires stands { Stands book.old.options (log_tree book.old.log) self.old }
+        requires more { self.old.ended < length self.old.pieces }
+        ensures options { book.new.options ≡ book.old.options }
+        ensures number { OnOk result (self.new.number ≡ self.old.number) }
+        ensures pieces { OnOk result (self.new.pieces ≡ self.old.pieces) }
+        ensures does { OnOk result (HasDone book.old book.new self.old self.new) }
+        ensures same { OnErr result (book.new ≡ book.old) }
+    {
+        match self.read_next(alloc) {
+            Ok(stmt) => self.start_stmt(alloc, book, scorer, stmt, kernel, steps),
+            Err(ParseError::Refused(refusal)) => self.refuse(book, refusal),
+            Err(ParseError::Memory) => Err(Memory),
+        }
+    }
+
+    /// The text of its next statement.
+    fn piece(&self) -> &Word
+        requires { self.now.ended < length self.now.pieces }
+        ensures { slice_get self.now.pieces self.now.ended ≡ Some result.now }
+    {
+        &self.pieces.as_slice()[self.ended as usize]
+    }
+
+    /// Its next statement.
+    fn read_next(&self, alloc: Global) -> Result<Stmt, ParseError>
+        requires { self.now.ended < length self.now.pieces }
+        ensures read { IfOk result (λ stmt. (piece : List ℕ) × (slice_get self.now.pieces self.now.ended ≡ Some piece) × Reads piece (Ok (stmt_tree stmt))) }
+        ensures formed { IfOk result (λ stmt. IsFormed (stmt_tree stmt)) }
+        ensures refused { (refusal : RefusalSeen) → result ≡ Err (Refused refusal) → (piece : List ℕ) × (slice_get self.now.pieces self.now.ended ≡ Some piece) × Reads piece (Err refusal) }
+    {
+        parse(alloc, self.piece().text())
+    }
+
+    /// Logs a text that is refused.
+    fn refuse(&mut self, book: &mut Book, refusal: Refusal) -> Result<(), Memory>
+        requires between { self.old.stage ≡ stage.Between }
+        requires stands { Stands book.old.options (log_tree book.old.log) self.old }
+        requires read { (piece : List ℕ) × (slice_get self.old.pieces self.old.ended ≡ Some piece) × Reads piece (Err refusal) }
+        ensures options { book.new.options ≡ book.old.options }
+        ensures number { OnOk result (self.new.number ≡ self.old.number) }
+        ensures pieces { OnOk result (self.new.pieces ≡ self.old.pieces) }
+        ensures does { OnOk result (HasDone book.old book.new self.old self.new) }
+        ensures same { OnErr result (book.new ≡ book.old) }
+    {
+        let _ = book.log();
+        book.refuse(self.who(), &refusal)?;
+        self.tell(Shown::Refused(refusal));
+        Ok(())
+    }
+
+    /// Begins a statement, or does it whole where it is no query.
+    fn start_stmt<E: Operate, L: Ledger>(
+        &mut self,
+        alloc: Global,
+        book: &mut Book,
+        scorer: &Scorer,
+        stmt: Stmt,
+        kernel: &E,
+        steps: &mut Steps<L>,
+    ) -> Result<(), Memory>
+        requires kind { scorer.now.kind ≡ book.old.options.evict }
+        requires weights { scorer.now.weights.items ≡ book.old.options.weights }
+        requires between { self.old.stage ≡ stage.Between }
+        requires stands { Stands book.old.options (log_tree book.old.log) self.old }
+        requires formed { IsFormed (stmt_tree stmt) }
+        requires read { (piece : List ℕ) × (slice_get self.old.pieces self.old.ended ≡ Some piece) × Reads piece (Ok (stmt_tree stmt)) }
+        ensures options { book.new.options ≡ book.old.options }
+        ensures number { OnOk result (self.new.number ≡ self.old.number) }
+        ensures pieces { OnOk result (self.new.pieces ≡ self.old.pieces) }
+        ensures does { OnOk result (HasDone book.old book.new self.old self.new) }
+        ensures same { OnErr result (book.new ≡ book.old) }
+    {
+        match &stmt {
+            Stmt::Query(query) => self.start_query(alloc, book, &stmt, query),
+            Stmt::Explain(query) => self.start_explain(alloc, book, &stmt, query),
+            _ => self.change(alloc, book, scorer, &stmt, kernel, steps),
+        }
+    }
+
+    /// Does a statement that is neither a query nor an EXPLAIN.
+    fn change<E: Operate, L: Ledger>(
+        &mut self,
+        alloc: Global,
+        book: &mut Book,
+        scorer: &Scorer,
+        stmt: &Stmt,
+        kernel: &E,
+        steps: &mut Steps<L>,
+    ) -> Result<(), Memory>
+        requires kind { scorer.now.kind ≡ book.old.options.evict }
+        requires weights { scorer.now.weights.items ≡ book.old.options.weights }
+        requires between { self.old.stage ≡ stage.Between }
+        requires stands { Stands book.old.options (log_tree book.old.log) self.old }
+        requires change { is_change (stmt_tree stmt.now) ≡ true }
+        requires formed { IsFormed (stmt_tree stmt.now) }
+        requires read { (piece : List ℕ) × (slice_get self.old.pieces self.old.ended ≡ Some piece) × Reads piece (Ok (stmt_tree stmt.now)) }
+        ensures options { book.new.options ≡ book.old.options }
+        ensures number { OnOk result (self.new.number ≡ self.old.number) }
+        ensures pieces { OnOk result (self.new.pieces ≡ self.old.pieces) }
+        ensures does { OnOk result (HasDone book.old book.new self.old self.new) }
+        ensures same { OnErr result (book.new ≡ book.old) }
+    {
+        let _ = book.log();
+        let reply = book.write(alloc, scorer, self.who(), stmt, kernel, steps)?;
+        self.tell(shown_of(reply));
+        Ok(())
+    }
+
+    /// Begins a query.
+    fn start_query(
+        &mut self,
+        alloc: Global,
+        book: &mut Book,
+        stmt: &Stmt,
+        query: &sql_tree::Query,
+    ) -> Result<(), Memory>
+        requires between { self.old.stage ≡ stage.Between }
+        requires stands { Stands book.old.options (log_tree book.old.log) self.old }
+        requires select { stmt_tree stmt.now ≡ Select (query_tree query.now) }
+        requires formed { IsFormed (stmt_tree stmt.now) }
+        requires read { (piece : List ℕ) × (slice_get self.old.pieces self.old.ended ≡ Some piece) × Reads piece (Ok (stmt_tree stmt.now)) }
+        ensures options { book.new.options ≡ book.old.options }
+        ensures number { OnOk result (self.new.number ≡ self.old.number) }
+        ensures pieces { OnOk result (self.new.pieces ≡ self.old.pieces) }
+        ensures does { OnOk result (HasDone book.old book.new self.old self.new) }
+        ensures same { OnErr result (book.new ≡ book.old) }
+    {
+        let _ = book.log();
+        let begun = book.begin(alloc, self.who(), stmt, query)?;
+        self.stage = query_stage(alloc, begun);
+        Ok(())
+    }
+
+    /// Begins an EXPLAIN.
+    fn start_explain(
+        &mut self,
+        alloc: Global,
+        book: &mut Book,
+        stmt: &Stmt,
+        query: &sql_tree::Query,
+    ) -> Result<(), Memory>
+        requires between { self.old.stage ≡ stage.Between }
+        requires stands { Stands book.old.options (log_tree book.old.log) self.old }
+        requires explain { stmt_tree stmt.now ≡ ExplainSelect (query_tree query.now) }
+        requires formed { IsFormed (stmt_tree stmt.now) }
+        requires read { (piece : List ℕ) × (slice_get self.old.pieces self.old.ended ≡ Some piece) × Reads piece (Ok (stmt_tree stmt.now)) }
+        ensures options { book.new.options ≡ book.old.options }
+        ensures number { OnOk result (self.new.number ≡ self.old.number) }
+        ensures pieces { OnOk result (self.new.pieces ≡ self.old.pieces) }
+        ensures does { OnOk result (HasDone book.old book.new self.old self.new) }
+        ensures same { OnErr result (book.new ≡ book.old) }
+    {
+        let _ = book.log();
+        let begun = book.begin(alloc, self.who(), stmt, query)?;
+        self.stage = explain_stage(begun);
+        Ok(())
+    }
+}
+
+/// Where a query stands that has begun.
+fn query_stage(alloc: Global, begun: Begun) -> Stage
+    ensures { BeginsWith begun.snap begun.marks.items begun.plan result }
+{
+    let Begun {
+        snap,
+        plan,
+        marks,
+        ..
+    } = begun;
+    match plan {
+        Ok(plan) => Stage::Querying(Step::Begun(Query::new(alloc, snap, plan, marks))),
+        Err(refusal) => refused(refusal),
+    }
+}
+
+/// Where an EXPLAIN stands that has begun.
+fn explain_stage(begun: Begun) -> Stage
+    ensures { result ≡ explained begun.plan }
+{
+    let Begun { plan, .. } = begun;
+    match plan {
+        Ok(plan) => Stage::Explaining(plan),
+        Err(refusal) => refused(refusal),
+    }
+}
+
+/// The end of a query that its tables refuse.
+fn refused(refusal: Refusal) -> Stage
+    ensures { result ≡ stage.Querying (step.Ending (shown.Refused refusal) 0) }
+{
+    Stage::Querying(Step::Ending(Shown::Refused(refusal), 0))
+}
+
+/// What a change shows.
+fn shown_of(reply: Reply) -> Shown
+    ensures { result ≡ shown_reply reply }
+{
+    match reply {
+        Reply::Done => Shown::Done,
+        Reply::Rows(count) => Shown::Count(count),
+        Reply::Refused(refusal) => Shown::Refused(refusal),
+    }
+}
