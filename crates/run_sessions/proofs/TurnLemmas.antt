@@ -1,0 +1,137 @@
+-- One turn of a session.
+use Rattle.std.proofs.Common.{◌≡◌, ◌≢◌, ℕ, ◌+◌, ◌-◌, ◌≤◌, List, [], ◌∷◌, ◌++◌, length, Bool, true, false, Some, refl, ap, sym, ◌∙◌, subst, arith, slice_set}
+use Rattle.std.specs.Prelude.{slice_get, option_map}
+use Rattle.std.proofs.lemmas.Option.{slice_get-map, slice_get_within}
+use Rattle.pool_policy.specs.declared.options.PoolOptions.{PoolOptions}
+use Rattle.run_log.specs.Events.{EventTree, log_tree}
+use Rattle.book_core.specs.BookView.{BookView}
+use Rattle.book_core.specs.Lawful.{IsLawful}
+use Rattle.table_store.specs.Content.{Content}
+use Rattle.mal_meaning.specs.declared.plan.Plan.{Plan}
+use Rattle.query_run.specs.declared.step.Query.{Query}
+use Rattle.query_run.specs.declared.step.Step.{Step}
+use Rattle.query_run.specs.declared.step.Step.TheVariants as step
+use Rattle.query_run.specs.Queries.{ComesTo as QueryComesTo, BecomesOf}
+use Rattle.cell_core.specs.declared.operator.Instr.{Instr}
+use Rattle.query_run.specs.Steps.{Computes, IsSoundStep}
+use Rattle.session_run.specs.declared.session.Session.{Session}
+use Rattle.session_run.specs.declared.stage.Stage.{Stage}
+use Rattle.session_run.specs.declared.stage.Stage.TheVariants as stage
+use Rattle.session_run.specs.Kept.{IsStage, Stands}
+use Rattle.session_run.specs.Progress.{progress_of}
+use Rattle.session_run.specs.Stages.{ComesTo, HasComputed, HasDone, IsReady, IsSoundStage}
+use Rattle.session_run.specs.Turns.{IsDone, IsNext}
+use Rattle.session_run.proofs.DoesLemmas.{lawful_then}
+use Rattle.session_run.proofs.OtherLemmas.{others_stay}
+use Rattle.session_run.proofs.RunLemmas.{done_is, next_other}
+use Rattle.session_run.proofs.StageLemmas.{stage_sound}
+use Rattle.run_sessions.specs.Played.{IsPlayed, Does, Passes}
+use Rattle.run_sessions.specs.Tables.{AreStanding, HasTurned, HavePlayed, IsOver, scripts_of}
+use Rattle.run_sessions.proofs.PlaceLemmas.{map_set, set_all}
+
+-- ## A stage that was computed
+
+query_ready : (snap : Content) (plan : Plan) (ids : List ℕ) (to : Step) → QueryComesTo snap plan ids to → IsReady (stage.Querying to)
+query_ready snap plan ids (step.Asking q key) comes = tt
+query_ready snap plan ids (step.Ending reply work) comes = tt
+query_ready snap plan ids (step.Begun q) comes = absurd comes
+query_ready snap plan ids (step.Found q found parts) comes = absurd comes
+query_ready snap plan ids (step.Offering q offer) comes = absurd comes
+query_ready snap plan ids (step.Gained q value id) comes = absurd comes
+
+result_ready : (q : Query) (instr : Instr) (to : Step) → BecomesOf q instr to → IsReady (stage.Querying to)
+result_ready q instr (step.Offering to offer) becomes = tt
+result_ready q instr (step.Ending reply work) becomes = tt
+result_ready q instr (step.Begun to) becomes = absurd becomes
+result_ready q instr (step.Asking to key) becomes = absurd becomes
+result_ready q instr (step.Found to found parts) becomes = absurd becomes
+result_ready q instr (step.Gained to value id) becomes = absurd becomes
+
+step_ready : (from to : Step) → IsSoundStep from → Computes from to → IsReady (stage.Querying to)
+step_ready (step.Begun q) to sound comes = query_ready q.snap q.plan q.ids.items to comes
+step_ready (step.Gained q value id) to sound comes = query_ready q.snap q.plan (q.ids.items ++ id ∷ []) to comes
+step_ready (step.Found q found parts) to sound comes = result_ready q sound.1.0 to (comes sound.1.0 sound.1.1)
+step_ready (step.Asking q key) to sound comes = subst (λ at. IsReady (stage.Querying at)) (sym comes) tt
+step_ready (step.Offering q offer) to sound comes = subst (λ at. IsReady (stage.Querying at)) (sym comes) tt
+step_ready (step.Ending reply work) to sound comes = subst (λ at. IsReady (stage.Querying at)) (sym comes) tt
+
+stage_ready : (from : Stage) (k : ℕ) (text : List ℕ) (next : Stage) (more : List ℕ) → IsSoundStage from → ComesTo from k text next more → IsReady next
+stage_ready (stage.Querying from) k text next more sound comes = subst IsReady (sym comes.1) (step_ready from comes.0 sound comes.2)
+stage_ready (stage.Explaining plan) k text next more sound comes = subst IsReady (sym comes.0) tt
+stage_ready (stage.Telling reply) k text next more sound comes = subst IsReady (sym comes.0) tt
+stage_ready stage.Between k text next more sound comes = subst IsReady (sym comes.0) tt
+
+-- its next event stands
+pub computed_ready : (options : PoolOptions) (log : List EventTree) (x new : Session) → Stands options log x → HasComputed x new → IsReady new.stage
+computed_ready options log x new s c = stage_ready x.stage x.ended x.text.items new.stage new.text.items (stage_sound options log x s) c.stage
+
+-- a session whose statements have all ended is at none
+pub over_is : (options : PoolOptions) (log : List EventTree) (x : Session) → Stands options log x → IsReady x.stage → length x.pieces ≤ x.ended → IsOver x
+over_is options log x s ready all = record { between = go x.stage refl ready s.stage; all = all }
+  where
+    go : (at : Stage) → x.stage ≡ at → IsReady at → IsStage options log x (progress_of x.number log) at → x.stage ≡ stage.Between
+    go stage.Between is is_ready has = is
+    go (stage.Querying to) is is_ready has = absurd (let low = slice_get_within x.pieces x.ended has.piece has.here in let none : ⊥ = omega (arith, low, all) in none)
+    go (stage.Explaining plan) is is_ready has = absurd is_ready
+    go (stage.Telling reply) is is_ready has = absurd is_ready
+
+-- an event of the session as it stood before it computed
+pub done_before : (old new : BookView) (x mid y : Session) → mid.number ≡ x.number → mid.pieces ≡ x.pieces → HasDone old new mid y → HasDone old new x y
+done_before old new x mid y number pieces d = record {
+  event = d.event;
+  log = d.log;
+  next = subst (λ n. IsNext old.options x.pieces n (log_tree old.log) d.event) number (subst (λ ps. IsNext old.options ps mid.number (log_tree old.log) d.event) pieces d.next);
+  stands = d.stands;
+}
+
+-- ## A turn of one of the sessions
+
+module _ (old new : BookView) (sessions : List Session) (place : ℕ) (x y : Session) (here : slice_get sessions place ≡ Some x) (standing : AreStanding old.options (log_tree old.log) sessions)
+    (options : new.options ≡ old.options) (number : y.number ≡ x.number) (pieces : y.pieces ≡ x.pieces) (lawful : IsLawful new.options (log_tree new.log)) where
+  abbrev after : List Session
+  after = slice_set sessions place y
+
+  numbered : x.number ≡ place + 1
+  numbered = (standing place x here).0
+
+  script : slice_get (scripts_of sessions) ((place + 1) - 1) ≡ Some x.pieces
+  script =
+      let same : (place + 1) - 1 ≡ place = omega arith in
+      ap (slice_get (scripts_of sessions)) same ∙ slice_get-map (λ (z : Session). z.pieces) sessions place ∙ ap (option_map (λ (z : Session). z.pieces)) here
+
+  scripts_stay : scripts_of after ≡ scripts_of sessions
+  scripts_stay = map_set (λ (z : Session). z.pieces) sessions place x y here pieces
+
+  -- another session stands as it did behind the event
+  other_stands : HasDone old new x y → (other : ℕ) (z : Session) → other ≢ place → slice_get sessions other ≡ Some z → (z.number ≡ other + 1) × Stands new.options (log_tree new.log) z
+  other_stands d other z apart there =
+      let stood = standing other z there in
+      let far : x.number ≡ z.number → ⊥ = λ same. apart (let a = stood.0 in let b = numbered in omega (arith, a, b, same)) in (
+        stood.0,
+        subst (λ (o : PoolOptions). Stands o (log_tree new.log) z) (sym options)
+            (subst (λ (l : List EventTree). Stands old.options l z) (sym d.log)
+            (others_stay old.options (log_tree old.log) z d.event (lawful_then old new d.event options d.log lawful) stood.1 (next_other old.options x.pieces x.number z.number (log_tree old.log) d.event d.next far))),
+      )
+
+  pub turn_played : (more : Bool) → HasTurned old new x y more → HavePlayed old new sessions after ((place + 1) ∷ [])
+  turn_played true d = record {
+    options = options;
+    scripts = scripts_stay;
+    standing = set_all (λ at z. (z.number ≡ at + 1) × Stands new.options (log_tree new.log) z) sessions place y (number ∙ numbered, d.stands) (other_stands d);
+    played = λ earlier before. subst (IsPlayed old.options (scripts_of sessions) (earlier ++ (place + 1) ∷ [])) (sym d.log)
+        (Does earlier (log_tree old.log) (place + 1) x.pieces d.event before (omega arith) script (subst (λ n. IsNext old.options x.pieces n (log_tree old.log) d.event) numbered d.next));
+  }
+  turn_played false d = record {
+    options = options;
+    scripts = scripts_stay;
+    standing = subst (λ (book : BookView). AreStanding book.options (log_tree book.log) after) (sym d.0)
+        (set_all (λ at z. (z.number ≡ at + 1) × Stands old.options (log_tree old.log) z) sessions place y (number ∙ numbered, d.1) (λ other z apart there. standing other z there));
+    played = λ earlier before. subst (λ (book : BookView). IsPlayed old.options (scripts_of sessions) (earlier ++ (place + 1) ∷ []) (log_tree book.log)) (sym d.0)
+        (Passes earlier (log_tree old.log) (place + 1) x.pieces before (omega arith) script
+        (subst (λ n. IsDone x.pieces n (log_tree old.log)) (number ∙ numbered) (subst (λ ps. IsDone ps y.number (log_tree old.log)) pieces (done_is old.options (log_tree old.log) y d.1 d.2.all))));
+  }
+
+  -- a session that did no event is over
+  pub turn_over : (more : Bool) → HasTurned old new x y more → more ≡ false → (z : Session) → slice_get after place ≡ Some z → IsOver z
+  turn_over more turned none z there =
+      set_all (λ at w. at ≡ place → IsOver w) sessions place y (λ _. (subst (HasTurned old new x y) none turned).2) (λ other w apart at is. absurd (apart is)) place z there refl

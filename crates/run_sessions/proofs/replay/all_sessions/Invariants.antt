@@ -1,0 +1,12 @@
+use Rattle.std.proofs.Common.{◌≡◌, [], ◌++◌}
+use Rattle.pool_policy.specs.declared.options.PoolOptions.{PoolOptions}
+use Rattle.run_sessions.specs.Tables.{AreStanding, scripts_of}
+use Rattle.run_sessions.proofs.replay.all_sessions.Given as goal
+
+-- the scripts so far have their sessions
+abbrev pub invariant-scripts : goal.invariant-scripts
+invariant-scripts l = record {
+  scripts : scripts_of l.sessions.items ≡ l.yielded;
+  standing : (options : PoolOptions) → AreStanding options [] l.sessions.items;
+  rest : l.yielded ++ l.pieces-iterator.rest.items ≡ l.fn.scripts.items;
+}

@@ -1,0 +1,26 @@
+use Rattle.std.proofs.Common.{ap, sym, ◌∙◌, arith}
+use Rattle.pool_policy.specs.declared.options.PoolOptions.{PoolOptions}
+use Rattle.run_sessions.proofs.RunLemmas.{all_have_run, more_have_run, none_have_run, played_length}
+use Rattle.run_sessions.proofs.replay.run_all.Goals as goal
+
+pub sessions-init : goal.sessions-init
+sessions-init g c = none_have_run c.args.book.now c.args.sessions.now.items c.requires.standing
+
+pub run_on-requires : goal.run_on-requires
+run_on-requires g c =
+    let played = c.sessions.invariant.played in
+    let same = played_length c.args.book.now c.sessions.book c.args.sessions.now.items c.sessions.sessions.items _ played in
+    let low = c.sessions-test.true in
+    record {
+      kind = c.requires.kind ∙ ap (λ (o : PoolOptions). o.evict) (sym played.options);
+      weights = c.requires.weights ∙ ap (λ (o : PoolOptions). o.weights) (sym played.options);
+      inside = omega (arith, low, same);
+      standing = played.standing;
+    }
+
+pub sessions-preserved : goal.sessions-preserved
+sessions-preserved g c =
+    more_have_run c.args.book.now c.sessions.book c.run_on.new.book c.args.sessions.now.items c.sessions.sessions.items c.run_on.new.sessions.items c.sessions.place c.sessions.invariant c.in_ok-run_on.ensures.run c.in_ok-run_on.ensures.others c.in_ok-run_on.ensures.over
+
+pub returns : goal.returns
+returns g c = all_have_run c.args.book.now c.sessions.book c.args.sessions.now.items c.sessions.sessions.items c.sessions.place (omega arith) c.sessions.invariant

@@ -1,0 +1,35 @@
+use Rattle.std.proofs.Common.{◌≡◌, ℕ, ◌≤◌, ◌-◌, ◌+◌, ap, sym, ◌∙◌, subst, take, length, get_or, arith, [], ◌∷◌, ◌++◌}
+use Rattle.std.proofs.lemmas.List.{take_more}
+use Rattle.pool_policy.specs.declared.options.PoolOptions.{PoolOptions}
+use Rattle.run_sessions.specs.Tables.{HavePlayed}
+use Rattle.run_sessions.proofs.RunLemmas.{none_played, played_length, then_played}
+use Rattle.run_sessions.proofs.PlaceLemmas.{all_at}
+use Rattle.run_sessions.proofs.replay.take_turns.Goals as goal
+
+pub turns-init : goal.turns-init
+turns-init g c = none_played c.args.book.now c.args.sessions.now.items c.requires.standing
+
+pub take_turn-requires : goal.take_turn-requires
+take_turn-requires g c =
+    let played = c.turns.invariant in
+    let turn = all_at (λ (turn : ℕ). (1 ≤ turn) × (turn ≤ length c.args.sessions.now.items)) c.args.turns.now c.turns.i 0 c.requires.turns c.turns-test.true in
+    let low = turn.0 in
+    let high = turn.1 in
+    let same = played_length c.args.book.now c.turns.book c.args.sessions.now.items c.turns.sessions.items (take c.turns.i c.args.turns.now) played in
+    record {
+      kind = c.requires.kind ∙ ap (λ (o : PoolOptions). o.evict) (sym played.options);
+      weights = c.requires.weights ∙ ap (λ (o : PoolOptions). o.weights) (sym played.options);
+      inside = omega (arith, low, high, same);
+      standing = played.standing;
+    }
+
+pub turns-preserved : goal.turns-preserved
+turns-preserved g c =
+    let i = c.turns.i in
+    let turns = c.args.turns.now in
+    let turn = all_at (λ (turn : ℕ). (1 ≤ turn) × (turn ≤ length c.args.sessions.now.items)) turns i 0 c.requires.turns c.turns-test.true in
+    let low = turn.0 in
+    let back : (get_or turns i 0 - 1) + 1 ≡ get_or turns i 0 = omega (arith, low) in
+    subst (HavePlayed c.args.book.now c.take_turn.new.book c.args.sessions.now.items c.take_turn.new.sessions.items)
+    (ap (λ n. take i turns ++ n ∷ []) back ∙ sym (take_more turns i 0 c.turns-test.true))
+    (then_played c.args.book.now c.turns.book c.take_turn.new.book c.args.sessions.now.items c.turns.sessions.items c.take_turn.new.sessions.items (take i turns) (((get_or turns i 0 - 1) + 1) ∷ []) c.turns.invariant c.in_ok-take_turn.ensures.played)

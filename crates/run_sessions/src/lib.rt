@@ -1,0 +1,12 @@
+//! A run of sessions on one thread.
+//!
+//! `play_sessions` runs a session for each script, event by event, in the order of a schedule: each turn
+//! lets one session do its next event, and a turn of a session that is done is passed over. Behind the
+//! last turn session 1 runs to its end, then session 2, and so on. `specs/Played` says which log that
+//! gives, and each session's text is the replies to its statements over that log.
+#![tactic(auto)]
+
+mod replay;
+mod turn;
+
+pub use replay::{Run, play_sessions};

@@ -1,0 +1,176 @@
+//! Sessions that run one event after another.
+ghost use Rattle.std.specs.Prelude.{◌≡◌, ◌≢◌, ℕ, ◌+◌, ◌<◌, ◌≤◌, ◌^◌, List, [], ◌∷◌, length, map, slice_get, Some, IfOk, OnOk};
+ghost use Rattle.std.specs.List.{AllByRecursion};
+ghost use Rattle.std.specs.declared.vec.Vec.{Vec as VecSeen};
+ghost use Rattle.std.specs.declared.alloc.Global.{Global as GlobalSeen};
+ghost use Rattle.pool_policy.specs.declared.options.PoolOptions.{PoolOptions as OptionsSeen};
+ghost use Rattle.run_log.specs.Events.{EventTree, log_tree};
+ghost use Rattle.session_run.specs.declared.session.Session.{Session as SessionSeen};
+ghost use Rattle.run_sessions.specs.Played.{IsScheduled};
+ghost use Rattle.run_sessions.specs.Tables.{AreOver, AreStanding, AreTexts, HasRun, HaveEnded, HavePlayed, IsOver, scripts_of};
+
+use crate::turn::take_turn;
+use bat_core::Operate;
+use book_core::Book;
+use cell_core::{Memory, Sequence, Steps, Word};
+use pool_policy::PoolOptions;
+use run_log::{Event, Totals};
+use score_hook::Scorer;
+use session_run::Session;
+use std::alloc::Global;
+use std::sync::ledger::Ledger;
+
+/// No log has so many events: a `Book` has no memory for them.
+const MANY_EVENTS: u32 = 1 << 30;
+
+/// What a run gives.
+#[derive(Drop)]
+pub struct Run {
+    /// The replies of each session, as they are printed.
+    pub texts: Vec<Vec<u8>>,
+    /// The log.
+    pub log: Vec<Event>,
+    /// The totals, of whose work the part of writes alone is told.
+    pub totals: Totals,
+}
+
+/// Runs sessions, one for each script, by turns: each turn lets a session do its next event, if it has one,
+/// and behind the last turn session 1 runs to its end, then session 2, and so on.
+pub fn play_sessions<E: Operate, L: Ledger>(
+    alloc: Global,
+    scripts: Vec<Sequence<Word>>,
+    turns: &[u32],
+    options: PoolOptions,
+    scorer: &Scorer,
+    kernel: &E,
+    steps: &mut Steps<L>,
+) -> Result<Run, Memory>
+    requires few { length scripts.items ≤ 16 }
+    requires short { AllByRecursion (λ (pieces : List (List ℕ)). length pieces ≤ 256) scripts.items }
+    requires turns { AllByRecursion (λ turn. (1 ≤ turn) × (turn ≤ length scripts.items)) turns.now }
+    requires kind { scorer.now.kind ≡ options.evict }
+    requires weights { scorer.now.weights.items ≡ options.weights }
+    requires places { options.places ≤ 1024 }
+    requires budget { options.budget ≤ 2 ^ 40 }
+    ensures scheduled { IfOk result (λ run. IsScheduled options scripts.items turns.now (log_tree run.log.items)) }
+    ensures texts { IfOk result (λ run. AreTexts (log_tree run.log.items) 1 scripts.items (map (λ (text : VecSeen ℕ GlobalSeen). text.items) run.texts.items)) }
+{
+    let mut book = Book::new(alloc, options)?;
+    let mut sessions = all_sessions(alloc, scripts)?;
+    take_turns(
+        alloc,
+        &mut sessions,
+        turns,
+        &mut book,
+        scorer,
+        kernel,
+        steps,
+    )?;
+    run_all(alloc, &mut sessions, &mut book, scorer, kernel, steps)?;
+    let texts = texts_of(alloc, sessions)?;
+    let (log, totals) = book.finish();
+    Ok(Run { texts, log, totals })
+}
+
+/// A session for each script.
+fn all_sessions(alloc: Global, scripts: Vec<Sequence<Word>>) -> Result<Vec<Session>, Memory>
+    requires few { length scripts.items ≤ 16 }
+    requires short { AllByRecursion (λ (pieces : List (List ℕ)). length pieces ≤ 256) scripts.items }
+    ensures scripts { IfOk result (λ sessions. scripts_of sessions.items ≡ scripts.items) }
+    ensures standing { IfOk result (λ sessions. (options : OptionsSeen) → AreStanding options [] sessions.items) }
+{
+    let mut sessions = Vec::new(alloc);
+    'scripts: for pieces in scripts {
+        let number = sessions.len() as u32 + 1;
+        sessions.push(Session::new(alloc, number, pieces))?;
+    }
+    Ok(sessions)
+}
+
+/// Lets sessions take these turns.
+fn take_turns<E: Operate, L: Ledger>(
+    alloc: Global,
+    sessions: &mut Vec<Session>,
+    turns: &[u32],
+    book: &mut Book,
+    scorer: &Scorer,
+    kernel: &E,
+    steps: &mut Steps<L>,
+) -> Result<(), Memory>
+    requires kind { scorer.now.kind ≡ book.old.options.evict }
+    requires weights { scorer.now.weights.items ≡ book.old.options.weights }
+    requires turns { AllByRecursion (λ turn. (1 ≤ turn) × (turn ≤ length sessions.old.items)) turns.now }
+    requires standing { AreStanding book.old.options (log_tree book.old.log) sessions.old.items }
+    ensures { OnOk result (HavePlayed book.old book.new sessions.old.items sessions.new.items turns.now) }
+{
+    'turns: for i in 0..turns.len() {
+        let place = turns[i] as usize - 1;
+        take_turn(alloc, sessions, place, book, scorer, kernel, steps)?;
+    }
+    Ok(())
+}
+
+/// Runs the session at a place to its end. A log never reaches so many events that this ends before.
+fn run_on<E: Operate, L: Ledger>(
+    alloc: Global,
+    sessions: &mut Vec<Session>,
+    place: usize,
+    book: &mut Book,
+    scorer: &Scorer,
+    kernel: &E,
+    steps: &mut Steps<L>,
+) -> Result<(), Memory>
+    requires kind { scorer.now.kind ≡ book.old.options.evict }
+    requires weights { scorer.now.weights.items ≡ book.old.options.weights }
+    requires inside { place < length sessions.old.items }
+    requires standing { AreStanding book.old.options (log_tree book.old.log) sessions.old.items }
+    ensures run { OnOk result (HasRun book.old book.new sessions.old.items sessions.new.items place) }
+    ensures others { OnOk result ((other : ℕ) → other ≢ place → slice_get sessions.new.items other ≡ slice_get sessions.old.items other) }
+    ensures over { OnOk result ((x : SessionSeen) → slice_get sessions.new.items place ≡ Some x → IsOver x) }
+{
+    'events: for _event in 0..MANY_EVENTS {
+        if !take_turn(alloc, sessions, place, book, scorer, kernel, steps)? {
+            return Ok(());
+        }
+    }
+    Err(Memory)
+}
+
+/// Runs all sessions to their ends, one after the other.
+fn run_all<E: Operate, L: Ledger>(
+    alloc: Global,
+    sessions: &mut Vec<Session>,
+    book: &mut Book,
+    scorer: &Scorer,
+    kernel: &E,
+    steps: &mut Steps<L>,
+) -> Result<(), Memory>
+    requires kind { scorer.now.kind ≡ book.old.options.evict }
+    requires weights { scorer.now.weights.items ≡ book.old.options.weights }
+    requires standing { AreStanding book.old.options (log_tree book.old.log) sessions.old.items }
+    ensures { OnOk result (HaveEnded book.old book.new sessions.old.items sessions.new.items) }
+{
+    'sessions: for place in 0..sessions.len() {
+        run_on(alloc, sessions, place, book, scorer, kernel, steps)?;
+    }
+    Ok(())
+}
+
+/// The text of a session.
+fn text_of(session: Session) -> Vec<u8>
+    ensures { result ≡ session.text }
+{
+    let Session { text, .. } = session;
+    text
+}
+
+/// The texts of the sessions.
+fn texts_of(alloc: Global, sessions: Vec<Session>) -> Result<Vec<Vec<u8>>, Memory>
+    ensures { IfOk result (λ texts. texts.items ≡ map (λ (x : SessionSeen). x.text) sessions.items) }
+{
+    let mut texts = Vec::new(alloc);
+    'sessions: for session in sessions {
+        texts.push(text_of(session))?;
+    }
+    Ok(texts)
+}

@@ -1,0 +1,63 @@
+//! One turn of a session.
+ghost use Rattle.std.specs.Prelude.{◌≡◌, ◌≢◌, ℕ, ◌+◌, ◌<◌, [], ◌∷◌, length, false, slice_get, Some, IfOk, OnOk};
+ghost use Rattle.run_log.specs.Events.{log_tree};
+ghost use Rattle.session_run.specs.Kept.{Stands};
+ghost use Rattle.session_run.specs.declared.session.Session.{Session as SessionSeen};
+ghost use Rattle.run_sessions.specs.Tables.{AreStanding, HasTurned, HavePlayed, IsOver};
+
+use bat_core::Operate;
+use book_core::Book;
+use cell_core::{Memory, Steps};
+use score_hook::Scorer;
+use session_run::Session;
+use std::alloc::Global;
+use std::sync::ledger::Ledger;
+
+/// Lets a session do its next event, and answers whether it had one.
+fn step<E: Operate, L: Ledger>(
+    alloc: Global,
+    session: &mut Session,
+    book: &mut Book,
+    scorer: &Scorer,
+    kernel: &E,
+    steps: &mut Steps<L>,
+) -> Result<bool, Memory>
+    requires kind { scorer.now.kind ≡ book.old.options.evict }
+    requires weights { scorer.now.weights.items ≡ book.old.options.weights }
+    requires stands { Stands book.old.options (log_tree book.old.log) session.old }
+    ensures options { OnOk result (book.new.options ≡ book.old.options) }
+    ensures number { OnOk result (session.new.number ≡ session.old.number) }
+    ensures pieces { OnOk result (session.new.pieces ≡ session.old.pieces) }
+    ensures turned { IfOk result (λ more. HasTurned book.old book.new session.old session.new more) }
+{
+    session.outside(alloc, kernel, steps)?;
+    if session.done() {
+        return Ok(false);
+    }
+    session.inside(alloc, book, scorer, kernel, steps)?;
+    Ok(true)
+}
+
+/// Lets the session at a place do its next event, and answers whether it had one. After Memory nothing is
+/// said of the sessions.
+pub(crate) fn take_turn<E: Operate, L: Ledger>(
+    alloc: Global,
+    sessions: &mut Vec<Session>,
+    place: usize,
+    book: &mut Book,
+    scorer: &Scorer,
+    kernel: &E,
+    steps: &mut Steps<L>,
+) -> Result<bool, Memory>
+    requires kind { scorer.now.kind ≡ book.old.options.evict }
+    requires weights { scorer.now.weights.items ≡ book.old.options.weights }
+    requires inside { place < length sessions.old.items }
+    requires standing { AreStanding book.old.options (log_tree book.old.log) sessions.old.items }
+    ensures played { OnOk result (HavePlayed book.old book.new sessions.old.items sessions.new.items ((place + 1) ∷ [])) }
+    ensures others { OnOk result ((other : ℕ) → other ≢ place → slice_get sessions.new.items other ≡ slice_get sessions.old.items other) }
+    ensures over { IfOk result (λ more. more ≡ false → (x : SessionSeen) → slice_get sessions.new.items place ≡ Some x → IsOver x) }
+{
+    let more = step(alloc, &mut sessions[place], book, scorer, kernel, steps)?;
+    let _ = book.log();
+    Ok(more)
+}
