@@ -1,13 +1,14 @@
 -- Worked cases of the grammar.
-use Rattle.std.proofs.Common.{◌≡◌, [], ◌∷◌, true, false, Some, None, refl, codes}
+use Rattle.std.proofs.Common.{◌≡◌, [], ◌∷◌, ◌++◌, replicate, true, false, Some, None, refl, codes}
 use Rattle.score_hook.specs.declared.stats.Evict.TheVariants.{Lru, Weighted}
 use Rattle.pool_policy.specs.declared.options.Admit.TheVariants.{All, Credit}
 use Rattle.command_line.specs.declared.command.RunOptions.{RunOptions}
 use Rattle.command_line.specs.declared.command.Command.TheVariants.{Run, Replay}
 use Rattle.command_line.specs.Command.{command_named}
+use Rattle.command_line.specs.Weights.{operator_named, weights_in, weights_of}
 
 usual : RunOptions
-usual = record { budget = 16777216; evict = Lru; admit = All; credits = 3; weights = None; events = false }
+usual = record { budget = 16777216; evict = Lru; admit = All; credits = 3; weights = []; events = false }
 
 with_events :
     command_named (codes "run" ∷ codes "--events" ∷ codes "a.sql" ∷ codes "b.sql" ∷ []) ≡ Some (Run (record usual { events = true }) (codes "a.sql" ∷ codes "b.sql" ∷ []))
@@ -21,6 +22,7 @@ by_credits :
 unfolding usual
 by_credits = refl
 
+-- all operators weigh 1, but for the eighth
 by_weights :
     command_named
     (codes "replay"
@@ -33,9 +35,15 @@ by_weights :
     ∷ codes "schedule"
     ∷ codes "a.sql"
     ∷ [])
-    ≡ Some (Replay (record usual { budget = 584; evict = Weighted; weights = Some (codes "markT=100") }) (codes "schedule") (codes "a.sql" ∷ []))
-unfolding usual
+    ≡ Some (Replay (record usual { budget = 584; evict = Weighted; weights = replicate 7 1 ++ 100 ∷ replicate 27 1 }) (codes "schedule") (codes "a.sql" ∷ []))
+unfolding usual operator_named weights_of
 by_weights = refl
+
+-- without a list all weigh 1
+evenly :
+    command_named (codes "run" ∷ codes "--evict=weighted" ∷ codes "a.sql" ∷ []) ≡ Some (Run (record usual { evict = Weighted; weights = replicate 35 1 }) (codes "a.sql" ∷ []))
+unfolding usual
+evenly = refl
 
 -- behind `--` all are files
 behind_the_end :
@@ -67,5 +75,47 @@ unweighted = refl
 short_option : command_named (codes "run" ∷ codes "-b" ∷ codes "a.sql" ∷ []) ≡ None
 short_option = refl
 
+bad_weights : command_named (codes "run" ∷ codes "--evict=weighted" ∷ codes "--weights=" ∷ codes "a.sql" ∷ []) ≡ None
+bad_weights = refl
+
 over_budget : command_named (codes "run" ∷ codes "--budget" ∷ codes "1099511627777" ∷ codes "a.sql" ∷ []) ≡ None
 over_budget = refl
+
+-- ## Lists of weights
+
+-- the first and the last operator, and a number with zeros in front
+some_weights : weights_in (codes "isnil=1000,bind=007") ≡ Some (7 ∷ replicate 33 1 ++ 1000 ∷ [])
+unfolding operator_named weights_of
+some_weights = refl
+
+no_list : weights_in [] ≡ None
+no_list = refl
+
+no_name : weights_in (codes "select=2,lookup=3") ≡ None
+unfolding operator_named
+no_name = refl
+
+-- a name has no module, and is written as in MAL
+with_module : weights_in (codes "algebra.select=2") ≡ None
+unfolding operator_named
+with_module = refl
+
+small_letter : weights_in (codes "markt=2") ≡ None
+unfolding operator_named
+small_letter = refl
+
+given_twice : weights_in (codes "plus=1,plus=2") ≡ None
+unfolding operator_named
+given_twice = refl
+
+no_weight : (weights_in (codes "plus") ≡ None) × (weights_in (codes "plus=") ≡ None) × (weights_in (codes "plus=+1") ≡ None)
+unfolding operator_named
+no_weight = (refl, refl, refl)
+
+out_of_range : (weights_in (codes "plus=0") ≡ None) × (weights_in (codes "plus=1001") ≡ None)
+unfolding operator_named
+out_of_range = (refl, refl)
+
+empty_part : (weights_in (codes "plus=1,") ≡ None) × (weights_in (codes ",plus=1") ≡ None)
+unfolding operator_named
+empty_part = (refl, refl)

@@ -1,6 +1,7 @@
 pub mod Classes
 pub mod Each
 pub mod Examples
+pub mod FitLemmas
 pub mod Found
 pub mod Run
 pub mod Steps

@@ -1,26 +1,17 @@
 -- The commands that words name.
-use Rattle.std.specs.Prelude.{ℕ, ◌^◌, List, [], ◌∷◌, length, Bool, true, false, ◌&&◌, nat_le, if◌then◌else◌, bytes_eq, Option, Some, None, codes}
-use Rattle.std.specs.List.{list_all}
+use Rattle.std.specs.Prelude.{◌≡◌, ◌≢◌, ℕ, ◌^◌, ◌≤◌, List, [], ◌∷◌, length, Bool, true, false, ◌&&◌, nat_le, if◌then◌else◌, bytes_eq, Option, Some, None, codes}
 use Rattle.std.specs.Option.{option_map, option_and_then}
-use Rattle.std.specs.Str.Parse.{digits_value}
-use Rattle.text_bytes.specs.Classes.{is_digit}
 use Rattle.score_hook.specs.declared.stats.Evict.{Evict}
 use Rattle.score_hook.specs.declared.stats.Evict.TheVariants.{Lru, Benefit, History, Weighted}
+use Rattle.score_hook.specs.Scores.{AreWeights}
 use Rattle.pool_policy.specs.declared.options.Admit.{Admit}
 use Rattle.pool_policy.specs.declared.options.Admit.TheVariants.{All, Credit}
 use Rattle.command_line.specs.declared.command.RunOptions.{RunOptions}
 use Rattle.command_line.specs.declared.command.Command.{Command}
 use Rattle.command_line.specs.declared.command.Command.TheVariants.{Run, Replay}
+use Rattle.command_line.specs.Numbers.{number_in}
+use Rattle.command_line.specs.Weights.{even_weights, weights_in}
 use Rattle.command_line.specs.Words.{Text, Uses, uses_named}
-
--- 1 to 20 decimal digits
-abbrev pub is_number : Text → Bool
-is_number text = list_all is_digit text && (nat_le 1 (length text) && nat_le (length text) 20)
-
--- the number that a text is, if it is one in this range
-abbrev pub number_in : ℕ → ℕ → Text → Option ℕ
-number_in low high text =
-    if is_number text && (nat_le low (digits_value 10 text) && nat_le (digits_value 10 text) high) then Some (digits_value 10 text) else None
 
 abbrev pub evict_in : Text → Option Evict
 evict_in text =
@@ -46,10 +37,10 @@ flag_in [] = Some false
 flag_in (value ∷ []) = Some true
 flag_in (value ∷ more ∷ values) = None
 
--- the list of weights, at most once, and only where the entries are weighed by it
-abbrev pub weights_for : Evict → List Text → Option (Option Text)
-weights_for Weighted values = one_or None (λ text. Some (Some text)) values
-weights_for _ [] = Some None
+-- the weights of the 35 operators, by at most one list, where the entries are weighed by them; else none
+abbrev pub weights_for : Evict → List Text → Option (List ℕ)
+weights_for Weighted values = one_or even_weights weights_in values
+weights_for _ [] = Some []
 weights_for _ (value ∷ values) = None
 
 -- the options, each at most once
@@ -90,3 +81,25 @@ command_named [] = None
 command_named (command ∷ words) =
     if bytes_eq command (codes "run") then option_and_then run_in (uses_named words)
     else (if bytes_eq command (codes "replay") then option_and_then replay_in (uses_named words) else None)
+
+-- ## What is promised of commands
+
+abbrev pub options_of : Command → RunOptions
+options_of (Run options files) = options
+options_of (Replay options schedule files) = options
+
+abbrev pub files_of : Command → List Text
+files_of (Run options files) = files
+files_of (Replay options schedule files) = files
+
+-- options that a pool and its scorer are made of
+pub record AreFit (options : RunOptions) : Type 0 where
+  pub budget : options.budget ≤ 2 ^ 40
+  pub weighted : options.evict ≡ Weighted → AreWeights options.weights
+  pub plain : options.evict ≢ Weighted → options.weights ≡ []
+
+-- a command with such options, and 1 to 16 files
+pub record IsFit (command : Command) : Type 0 where
+  pub options : AreFit (options_of command)
+  pub some : 1 ≤ length (files_of command)
+  pub few : length (files_of command) ≤ 16

@@ -1,7 +1,7 @@
 //! The commands, and their options as values.
-ghost use Rattle.std.specs.Prelude.{◌≡◌, IfOk};
+ghost use Rattle.std.specs.Prelude.{◌≡◌, IfOk, IfSome};
 ghost use Rattle.std.specs.Option.{option_and_then};
-ghost use Rattle.command_line.specs.Command.{are_files, command_named, replay_in, run_in};
+ghost use Rattle.command_line.specs.Command.{IsFit, are_files, command_named, replay_in, run_in};
 ghost use Rattle.command_line.specs.Told.{AreUtf8, texts_in, uses_in};
 ghost use Rattle.command_line.specs.Words.{uses_named};
 
@@ -27,8 +27,8 @@ pub struct RunOptions {
     pub admit: Admit,
     /// The credit that a shape starts with, 1 to 1,000,000.
     pub credits: u64,
-    /// The text of the list of weights, where one is given. It is not read here.
-    pub weights: Option<Word>,
+    /// The weights of the 35 operators, 1 to 1,000 each, where the entries are weighed by them; else none.
+    pub weights: Sequence<u64>,
     /// Whether the events are written.
     pub events: bool,
 }
@@ -56,7 +56,8 @@ pub enum Command {
 
 /// The command that words name; `None` where they are outside the grammar.
 pub fn command_of(alloc: Global, words: &[Word]) -> Result<Option<Command>, Memory>
-    ensures { IfOk result (λ command. command ≡ command_named words.now) }
+    ensures named { IfOk result (λ command. command ≡ command_named words.now) }
+    ensures limits { IfOk result (λ command. IfSome command IsFit) }
 {
     let [command, more @ ..] = words else {
         return Ok(None);

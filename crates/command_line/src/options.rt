@@ -1,21 +1,19 @@
 //! The options of a run, read from the values that clap found.
 ghost use Rattle.std.specs.Prelude.{◌≡◌, IfOk};
-ghost use Rattle.std.specs.List.{list_all};
-ghost use Rattle.text_bytes.specs.Classes.{is_digit};
 ghost use Rattle.command_line.specs.Command as told;
+ghost use Rattle.command_line.specs.Numbers.{number_in};
 ghost use Rattle.command_line.specs.Told.{texts_in, uses_in};
+ghost use Rattle.command_line.specs.Weights.{even_weights, weights_in};
 
 use crate::command::RunOptions;
+use crate::numbers::number_between;
 use crate::told::values;
-use cell_core::{Memory, Word, word_of};
+use crate::weights::{even_weights, weights_in};
+use cell_core::{Memory, Sequence};
 use clap::ArgMatches;
 use pool_policy::Admit;
 use score_hook::Evict;
 use std::alloc::Global;
-use text_bytes::{is_digit, number_64};
-
-/// The most digits of a number.
-const MOST_DIGITS: usize = 20;
 
 /// The options, if each is there at most once and its value is one.
 pub(crate) fn options_of(alloc: Global, matches: &ArgMatches) -> Result<Option<RunOptions>, Memory>
@@ -62,7 +60,7 @@ pub(crate) fn options_of(alloc: Global, matches: &ArgMatches) -> Result<Option<R
 
 /// The one number, or what stands for none.
 fn one_number(texts: &[&str], default: u64, low: u64, high: u64) -> Option<u64>
-    ensures { result ≡ told.one_or default (told.number_in low high) (texts_in texts.now) }
+    ensures { result ≡ told.one_or default (number_in low high) (texts_in texts.now) }
 {
     match texts {
         [] => Some(default),
@@ -71,33 +69,6 @@ fn one_number(texts: &[&str], default: u64, low: u64, high: u64) -> Option<u64>
             [_, ..] => None,
         },
     }
-}
-
-/// The number that a text is, if it is one in this range.
-fn number_between(text: &str, low: u64, high: u64) -> Option<u64>
-    ensures { result ≡ told.number_in low high text.now }
-{
-    if !is_number(text.as_bytes()) {
-        return None;
-    }
-    match number_64(text) {
-        Some(number) if low <= number && number <= high => Some(number),
-        _ => None,
-    }
-}
-
-/// Whether these are 1 to 20 decimal digits.
-fn is_number(bytes: &[u8]) -> bool
-    ensures { result ≡ told.is_number bytes.now }
-{
-    are_digits(bytes) && 1 <= bytes.len() && bytes.len() <= MOST_DIGITS
-}
-
-/// Whether all of these are digits.
-fn are_digits(bytes: &[u8]) -> bool
-    ensures { result ≡ list_all is_digit bytes.now }
-{
-    bytes.iter().all(|byte| is_digit(*byte))
 }
 
 /// The one rule of eviction, or the first.
@@ -156,19 +127,29 @@ fn admit_named(text: &str) -> Option<Admit>
     None
 }
 
-/// The text of the weights, which are there at most once, and only where entries are weighed by them.
-fn weights_for(alloc: Global, evict: Evict, texts: &[&str]) -> Result<Option<Option<Word>>, Memory>
+/// The weights, where entries are weighed by them; else none, and then there is no list of them.
+fn weights_for(alloc: Global, evict: Evict, texts: &[&str]) -> Result<Option<Sequence<u64>>, Memory>
     ensures { IfOk result (λ weights. weights ≡ told.weights_for evict (texts_in texts.now)) }
 {
-    let [text, more @ ..] = texts else {
-        return Ok(Some(None));
-    };
     match evict {
-        Evict::Weighted => match more {
-            [] => Ok(Some(Some(word_of(alloc, text)?))),
+        Evict::Weighted => one_list(alloc, texts),
+        _ => match texts {
+            [] => Ok(Some(Sequence::new(alloc))),
             [_, ..] => Ok(None),
         },
-        _ => Ok(None),
+    }
+}
+
+/// The weights of the one list, or the same weight for each operator.
+fn one_list(alloc: Global, texts: &[&str]) -> Result<Option<Sequence<u64>>, Memory>
+    ensures { IfOk result (λ weights. weights ≡ told.one_or even_weights weights_in (texts_in texts.now)) }
+{
+    match texts {
+        [] => Ok(Some(even_weights(alloc)?)),
+        [text, more @ ..] => match more {
+            [] => weights_in(alloc, text),
+            [_, ..] => Ok(None),
+        },
     }
 }
 
