@@ -1,5 +1,5 @@
 -- What the definitions say of small cases, and of a whole run.
-use Rattle.std.proofs.Common.{◌≡◌, ℕ, zero, suc, ◌+◌, List, [], ◌∷◌, ◌++◌, map, false, Some, None, Ok, Err, Result, pos, codes, refl, subst, lit≤}
+use Rattle.std.proofs.Common.{◌≡◌, ℕ, zero, suc, ◌+◌, List, [], ◌∷◌, ◌++◌, map, true, false, Some, None, Ok, Err, Result, pos, codes, refl, subst, lit≤}
 use Rattle.std.specs.Prelude.{slice_get}
 use Rattle.std.specs.Fmt.{digits}
 use Rattle.cell_core.specs.declared.cell.Cell.{Cell}
@@ -14,8 +14,9 @@ use Rattle.sql_semantics.specs.declared.refusal.Refusal.{Refusal}
 use Rattle.sql_semantics.specs.declared.refusal.Refusal.TheVariants.{Syntax, NoTable}
 use Rattle.mal_opt.specs.Passes.{constant_value}
 use Rattle.answer_text.specs.declared.shown.Shown.TheVariants as shown
-use Rattle.answer_text.specs.Log.{acts_over, tables_met, AreStatements, logged_of, IsOrdered}
+use Rattle.answer_text.specs.Log.{acts_over, tables_met, AreStatements, logged_of, IsOrdered, with_between}
 use Rattle.run_log.specs.Events.{EventTree, ActTree, Begins, Writes, Ends}
+use Rattle.run_log.specs.Totals.{no_totals}
 use Rattle.mal_meaning.specs.declared.plan.Plan.{Plan}
 use Rattle.plan_queries.specs.Plans.{optimised_plan, plan_over}
 use Rattle.sql_semantics.specs.Effect.{replay}
@@ -101,10 +102,17 @@ abbrev acts_from : List EventTree → ℕ → ℕ → List (Result StmtTree Refu
 acts_from log session k [] = []
 acts_from log session k (reading ∷ readings) = map {B = ℕ × ActTree} (λ act. (k, act)) (acts_over (tables_met log session k) reading) ++ acts_from log session (k + 1) readings
 
+-- nothing stands between
+with_none : (acts : List ActTree) → acts ≡ with_between [] acts
+with_none [] = refl
+with_none (act ∷ []) = refl
+with_none (first ∷ last ∷ []) = refl
+with_none (first ∷ second ∷ third ∷ acts) = refl
+
 are_statements : (log : List EventTree) (session k : ℕ) (readings : List (Result StmtTree Refusal)) → AreStatements log session k readings (acts_from log session k readings)
 are_statements log session k [] = refl
 are_statements log session k (reading ∷ readings) =
-    (acts_over (tables_met log session k) reading, acts_from log session (k + 1) readings, refl, refl, are_statements log session (k + 1) readings)
+    (acts_over (tables_met log session k) reading, acts_from log session (k + 1) readings, refl, ([], tt, with_none (acts_over (tables_met log session k) reading)), are_statements log session (k + 1) readings)
 
 acts : acts_from log 1 1 script ≡ logged_of 1 log
 unfolding keyword_of keywords is_unsupported_word unsupported_words
@@ -125,7 +133,7 @@ ordered = record {
   statements = statements;
 }
 
-output : printed (codes "a.sql" ∷ []) (script ∷ []) log ≡ codes "session 1 a.sql\n1 ok\n2 ok 3\n3 rows 2\n2\n3\nhistory 2\n1 1 1 CREATE TABLE t (a INT);\n2 1 2 INSERT INTO t VALUES (3), (1), (2);\n"
+output : printed true (codes "a.sql" ∷ []) (script ∷ []) log no_totals ≡ codes "session 1 a.sql\n1 ok\n2 ok 3\n3 rows 2\n2\n3\nhistory 2\n1 1 1 CREATE TABLE t (a INT);\n2 1 2 INSERT INTO t VALUES (3), (1), (2);\npool\nentries 0\nbytes 0\npeak 0\nlooks 0\nexact 0\nwithin 0\nacross 0\nmiss 0\ntaken 0\nthere 0\nstale 0\norphan 0\nnocredit 0\nnoroom 0\nevicted 0\ndropped 0\ncarried 0\nwork 0\nevents 0\nlog 4\n1 1 1 write 0 0\n2 1 2 write 0 3\n3 1 3 begin 0\n4 1 3 end 0\n"
 unfolding keyword_of keywords is_unsupported_word unsupported_words digits
 output = refl
 
@@ -148,7 +156,7 @@ second_acts : acts_from two_log 2 1 second_script ≡ logged_of 2 two_log
 unfolding keyword_of keywords is_unsupported_word unsupported_words
 second_acts = refl
 
-two_output : printed (codes "a.sql" ∷ codes "b.sql" ∷ []) ((Ok create_t ∷ []) ∷ second_script ∷ []) two_log ≡ codes "session 1 a.sql\n1 ok\nsession 2 b.sql\n1 refused 3 no such table t\n2 refused 1 syntax\n3 ok 3\nhistory 2\n1 1 1 CREATE TABLE t (a INT);\n2 2 3 INSERT INTO t VALUES (3), (1), (2);\n"
+two_output : printed false (codes "a.sql" ∷ codes "b.sql" ∷ []) ((Ok create_t ∷ []) ∷ second_script ∷ []) two_log no_totals ≡ codes "session 1 a.sql\n1 ok\nsession 2 b.sql\n1 refused 3 no such table t\n2 refused 1 syntax\n3 ok 3\nhistory 2\n1 1 1 CREATE TABLE t (a INT);\n2 2 3 INSERT INTO t VALUES (3), (1), (2);\npool\nentries 0\nbytes 0\npeak 0\nlooks 0\nexact 0\nwithin 0\nacross 0\nmiss 0\ntaken 0\nthere 0\nstale 0\norphan 0\nnocredit 0\nnoroom 0\nevicted 0\ndropped 0\ncarried 0\nwork 0\nevents 0\n"
 unfolding keyword_of keywords is_unsupported_word unsupported_words digits
 two_output = refl
 
@@ -167,6 +175,6 @@ explain_acts : acts_from explain_log 1 1 explain_script ≡ logged_of 1 explain_
 unfolding keyword_of keywords is_unsupported_word unsupported_words constant_value optimised_plan
 explain_acts = refl
 
-explain_output : printed (codes "a.sql" ∷ []) (explain_script ∷ []) explain_log ≡ codes "session 1 a.sql\n1 refused 3 no such table t\n2 ok\n3 plan 9\nfunction user.main():void;\n    X_1 := sql.bind(\"t\", \"a\", \"int\");\n    X_2 := algebra.select(X_1, 2, 3, true, true);\n    X_3 := algebra.mirror(X_2);\n    X_4 := algebra.markT(X_3, 0@0);\n    X_5 := algebra.reverse(X_4);\n    X_6 := algebra.join(X_5, X_1);\n    sql.output(X_6);\nend user.main;\n4 ok\nhistory 2\n1 1 2 CREATE TABLE t (a INT);\n2 1 4 DROP TABLE t;\n"
+explain_output : printed false (codes "a.sql" ∷ []) (explain_script ∷ []) explain_log no_totals ≡ codes "session 1 a.sql\n1 refused 3 no such table t\n2 ok\n3 plan 9\nfunction user.main():void;\n    X_1 := sql.bind(\"t\", \"a\", \"int\");\n    X_2 := algebra.select(X_1, 2, 3, true, true);\n    X_3 := algebra.mirror(X_2);\n    X_4 := algebra.markT(X_3, 0@0);\n    X_5 := algebra.reverse(X_4);\n    X_6 := algebra.join(X_5, X_1);\n    sql.output(X_6);\nend user.main;\n4 ok\nhistory 2\n1 1 2 CREATE TABLE t (a INT);\n2 1 4 DROP TABLE t;\npool\nentries 0\nbytes 0\npeak 0\nlooks 0\nexact 0\nwithin 0\nacross 0\nmiss 0\ntaken 0\nthere 0\nstale 0\norphan 0\nnocredit 0\nnoroom 0\nevicted 0\ndropped 0\ncarried 0\nwork 0\nevents 0\n"
 unfolding keyword_of keywords is_unsupported_word unsupported_words digits constant_value optimised_plan
 explain_output = refl

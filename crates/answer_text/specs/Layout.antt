@@ -147,7 +147,11 @@ replies_text log session readings = flat_map (λ (k, reading). reply_text k (sho
 abbrev pub session_text : List EventTree → ℕ → List ℕ → List (Result StmtTree Refusal) → List ℕ
 session_text log session name readings = session_line session name ++ replies_text log session readings
 
--- each session under the name of its file, and the history
-abbrev pub printed : List (List ℕ) → List (List (Result StmtTree Refusal)) → List EventTree → List ℕ
-printed names scripts log =
-    flat_map (λ (s, script). session_text log s script.0 script.1) (enumerate_from 1 (zip names scripts)) ++ history_text log
+-- each session under the name of its file
+abbrev pub sessions_text : List (List ℕ) → List (List (Result StmtTree Refusal)) → List EventTree → List ℕ
+sessions_text names scripts log = flat_map (λ (s, script). session_text log s script.0 script.1) (enumerate_from 1 (zip names scripts))
+
+-- the sessions, the history, the pool's totals, and the log where it is asked for
+abbrev pub printed : Bool → List (List ℕ) → List (List (Result StmtTree Refusal)) → List EventTree → Totals → List ℕ
+printed with_events names scripts log totals =
+    sessions_text names scripts log ++ history_text log ++ totals_text totals ++ (if with_events then log_text log else [])

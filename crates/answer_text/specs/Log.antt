@@ -15,7 +15,7 @@ use Rattle.sql_semantics.specs.declared.refusal.Reply.TheVariants as reply
 use Rattle.mal_print.specs.Canon.{plan_text}
 use Rattle.mal_meaning.specs.declared.plan.Plan.{Plan}
 use Rattle.plan_queries.specs.Plans.{plan_over, refusal_over}
-use Rattle.run_log.specs.Events.{ActTree, Begins, Writes, Ends, EventTree, tables_at}
+use Rattle.run_log.specs.Events.{ActTree, Begins, Looks, Admits, Writes, Ends, EventTree, tables_at}
 use Rattle.answer_text.specs.declared.shown.Shown.{Shown}
 use Rattle.answer_text.specs.declared.shown.Shown.TheVariants as shown
 
@@ -93,9 +93,20 @@ acts_over db (Ok statement) = Writes (Some statement) (code_of (shown_over db (O
 abbrev pub tables_met : List EventTree → ℕ → ℕ → Db
 tables_met log session statement = tables_at log (statement_place session statement log)
 
--- acts of a statement that meets these tables
+-- a look or an admission
+abbrev pub is_of_pool : ActTree → Bool
+is_of_pool (Looks instr key found) = true
+is_of_pool (Admits instr key result) = true
+is_of_pool _ = false
+
+-- acts between the first and the last of two
+abbrev pub with_between : List ActTree → List ActTree → List ActTree
+with_between between (first ∷ last ∷ []) = first ∷ (between ++ last ∷ [])
+with_between between acts = acts
+
+-- acts of a statement that meets these tables: those that it has by itself, with looks and admissions between the Begin and the End of a query
 abbrev pub AreActs : Db → Result StmtTree Refusal → List ActTree → Type 0
-AreActs db reading acts = acts ≡ acts_over db reading
+AreActs db reading acts = (between : List ActTree) × AllByRecursion (λ act. is_of_pool act ≡ true) between × (acts ≡ with_between between (acts_over db reading))
 
 -- acts with their statements' numbers are those of a session's statements from k on: of each statement once, in their order, and no others
 abbrev pub AreStatements : List EventTree → ℕ → ℕ → List (Result StmtTree Refusal) → List (ℕ × ActTree) → Type 0

@@ -12,7 +12,7 @@ use Rattle.cell_core.specs.Calc.{all_or_none}
 use Rattle.bat_core.specs.Objects.{values_of}
 use Rattle.lineage_key.specs.declared.key.Key.{Key}
 use Rattle.mal_meaning.specs.declared.plan.Plan.{Plan}
-use Rattle.mal_meaning.specs.Meaning.{instr_value, plan_rows, values_from}
+use Rattle.mal_meaning.specs.Meaning.{instr_load, instr_value, plan_rows, values_from}
 use Rattle.mal_meaning.specs.Output.{output_rows}
 use Rattle.cell_core.specs.declared.table.Db.{Db}
 use Rattle.recycle_mark.specs.Marks.{marks_from, marks_of, is_bat_result, is_marked}
@@ -26,9 +26,10 @@ use Rattle.query_run.specs.declared.step.Query.{Query}
 use Rattle.query_run.specs.Next.{padded}
 use Rattle.query_run.specs.declared.step.Step.{Step}
 use Rattle.query_run.specs.declared.step.Step.TheVariants as step
-use Rattle.query_run.specs.Queries.{AsksFor, ComesTo, EndsWith, GoesOn, IsUnderWay, all_values, next_behind, next_value, values_over, versions_in}
+use Rattle.query_run.specs.Queries.{AsksFor, ComesTo, EndsWith, GoesOn, IsUnderWay, all_values, next_behind, next_value, unmarked_load, unmarked_work, values_over, versions_in}
 use Rattle.query_run.specs.Queries.EndsWith.{HasRows, Overflows}
 use Rattle.query_run.proofs.WalkLemmas.{all_some, faults_here, finishes_here, no_rows, walk_on, walk_starts}
+use Rattle.query_run.proofs.WorkLemmas.{all_done, unmarked_done}
 
 -- ## There are as many marks and values as instructions
 
@@ -57,6 +58,14 @@ instr_at [] n inside = absurd (grind arith)
 instr_at (i ∷ is) zero inside = (i, refl)
 instr_at (i ∷ is) (suc n) inside = instr_at is n (omega (arith, inside))
 
+-- the work with the next instruction, where it is unmarked
+pub unmarked_added : (q : Query) (total work : ℕ) → IsUnderWay q → length q.values < length q.plan.instrs → slice_get (marks_of q.plan) (length q.values) ≡ Some false → total ≡ q.work + work
+    → ((instr : Instr) → slice_get q.plan.instrs (length q.values) ≡ Some instr → work ≡ instr_load q.snap.db (all_values q) instr)
+    → total ≡ unmarked_load q.snap.db (all_values q) (take (length q.values + 1) q.plan.instrs) (take (length q.values + 1) (marks_of q.plan))
+unmarked_added q total work under more unmarked sum works =
+    let found = instr_at q.plan.instrs (length q.values) more in
+    unmarked_done q found.0 total under found.1 unmarked (sum ∙ ap (λ n. q.work + n) (works found.0 found.1))
+
 pub asks_next : (q : Query) (key : Key) → IsUnderWay q → slice_get (marks_of q.plan) (length q.values) ≡ Some true
     → ((instr : Instr) → slice_get q.plan.instrs (length q.values) ≡ Some instr → key ≡ instr_key instr (versions_in q.snap) q.ids.items) → AsksFor q.snap q.plan q.ids.items q key
 asks_next q key under marked keyed =
@@ -70,12 +79,12 @@ asks_next q key under marked keyed =
 
 -- ## It ends
 
-pub rows_at_end : (q : Query) (rows : List (List Cell)) → IsUnderWay q → length q.plan.instrs ≤ length q.values → rows ≡ output_rows q.plan.out (values_of q.values) → EndsWith q.snap q.plan q.ids.items (shown.Rows rows)
+pub rows_at_end : (q : Query) (rows : List (List Cell)) → IsUnderWay q → length q.plan.instrs ≤ length q.values → rows ≡ output_rows q.plan.out (values_of q.values) → EndsWith q.snap q.plan q.ids.items (shown.Rows rows) q.work
 rows_at_end q rows under all is =
     let whole : take (length q.values) (all_values q) ≡ all_values q = take_all (length q.values) (all_values q) (let many = as_many_values q in omega (arith, many, all)) in
     let found : all_or_none (all_values q) ≡ Some (values_of q.values) = ap all_or_none (sym (under.values ∙ whole)) ∙ all_some (values_of q.values) in
     HasRows rows (finishes_here q.snap q.plan q.ids.items q (walk_starts q.snap q.plan q.ids.items q refl refl refl under) (subst (λ n. length q.plan.instrs ≤ n) (sym under.ids) all))
-    (ap (option_map (output_rows q.plan.out)) found ∙ ap Some (sym is)) refl
+    (ap (option_map (output_rows q.plan.out)) found ∙ ap Some (sym is)) refl (all_done q under all (subst (λ n. n ≤ length q.values) (sym (as_many_marks q.plan)) all))
 
 -- ## The walk goes on
 
@@ -108,9 +117,10 @@ module _ (snap : Content) (plan : Plan) (ids : List ℕ) (q : Query) (goes : Goe
         next_is = goes.next_is ∙ (λ i. next_behind (sym goes.snap_is i) (sym goes.plan_is i) q.ids.items) ∙ more.next_is ∙ (λ i. next_behind (goes.snap_is i) (goes.plan_is i) to.ids.items);
       }
 
-  ends_further : (reply : Shown) → EndsWith q.snap q.plan q.ids.items reply → EndsWith snap plan ids reply
-  ends_further reply (Overflows faults none is) = Overflows (goes.next_is ∙ (λ i. next_behind (sym goes.snap_is i) (sym goes.plan_is i) q.ids.items) ∙ faults) (as_begun (λ s p n. plan_rows p s.db ≡ None) none) is
-  ends_further reply (HasRows rows ends found is) = HasRows rows (goes.next_is ∙ (λ i. next_behind (sym goes.snap_is i) (sym goes.plan_is i) q.ids.items) ∙ ends) (as_begun (λ s p n. plan_rows p s.db ≡ Some rows) found) is
+  ends_further : (reply : Shown) (work : ℕ) → EndsWith q.snap q.plan q.ids.items reply work → EndsWith snap plan ids reply work
+  ends_further reply work (Overflows faults none is zero_is) = Overflows (goes.next_is ∙ (λ i. next_behind (sym goes.snap_is i) (sym goes.plan_is i) q.ids.items) ∙ faults) (as_begun (λ s p n. plan_rows p s.db ≡ None) none) is zero_is
+  ends_further reply work (HasRows rows ends found is done) = HasRows rows (goes.next_is ∙ (λ i. next_behind (sym goes.snap_is i) (sym goes.plan_is i) q.ids.items) ∙ ends) (as_begun (λ s p n. plan_rows p s.db ≡ Some rows) found) is
+      (as_begun (λ s p n. work ≡ unmarked_work p s.db) done)
 
   comes_further : (to : Step) → ComesTo q.snap q.plan q.ids.items to → ComesTo snap plan ids to
   comes_further (step.Asking to key) asks = record {
@@ -119,7 +129,7 @@ module _ (snap : Content) (plan : Plan) (ids : List ℕ) (q : Query) (goes : Goe
     at = asks.at;
     key_is = asks.key_is ∙ ap (λ (s : Content). instr_key asks.instr (versions_in s) to.ids.items) goes.snap_is;
   }
-  comes_further (step.Ending reply work) ends = ends_further reply ends
+  comes_further (step.Ending reply work) ends = ends_further reply work ends
   comes_further (step.Begun to) none = none
   comes_further (step.Found to found parts) none = none
   comes_further (step.Offering to offer) none = none
@@ -129,14 +139,21 @@ module _ (snap : Content) (plan : Plan) (ids : List ℕ) (q : Query) (goes : Goe
   comes_so (Ok to) comes = comes_further to comes
   comes_so (Err e) comes = tt
 
-  -- the flag that is read is the mark
-  pub mark_read : (flag : Bool) → length q.values < length q.marks.items → flag ≡ slice_index_or q.marks.items (length q.values) flag → slice_get (marks_of q.plan) (length q.values) ≡ Some flag
-  mark_read flag inside is = ap (λ (bs : List Bool). slice_get bs (length q.values)) (sym goes.under.marks) ∙ slice_get_read q.marks.items (length q.marks.items) (length q.values) flag refl inside is
+  -- where there is a next instruction there is a flag for it
+  pub flag_there : (count total at : ℕ) → count ≡ length q.values → total ≡ length q.plan.instrs → count < total → at ≡ length q.values → at < length q.marks.items
+  flag_there count total at many all more place =
+      subst (λ (bs : List Bool). at < length bs) (sym goes.under.marks) (let marks = as_many_marks q.plan in omega (arith, marks, many, all, more, place))
 
-  pub marks_enough : length q.values < length q.plan.instrs → length q.values < length q.marks.items
-  marks_enough more = subst (λ (bs : List Bool). length q.values < length bs) (sym goes.under.marks) (subst (λ n. length q.values < n) (sym (as_many_marks q.plan)) more)
+  -- and the flag that is read is the mark
+  pub mark_read : (count total at : ℕ) (flag b : Bool) → count ≡ length q.values → total ≡ length q.plan.instrs → count < total → at ≡ length q.values → flag ≡ slice_index_or q.marks.items at flag → flag ≡ b
+      → slice_get (marks_of q.plan) (length q.values) ≡ Some b
+  mark_read count total at flag b many all more place is read =
+      (λ i. slice_get (sym goes.under.marks i) (sym place i)) ∙ slice_get_read q.marks.items (length q.marks.items) at flag refl (flag_there count total at many all more place) is ∙ ap Some read
 
-  module _ (more : length q.values < length q.plan.instrs) (marked : slice_get (marks_of q.plan) (length q.values) ≡ Some false) where
+  module _ (marked : slice_get (marks_of q.plan) (length q.values) ≡ Some false) where
+    more : length q.values < length q.plan.instrs
+    more = subst (λ n. length q.values < n) (as_many_marks q.plan) (slice_get_within (marks_of q.plan) (length q.values) false marked)
+
     abbrev instr : Instr
     instr = (instr_at q.plan.instrs (length q.values) more).0
 
@@ -152,4 +169,4 @@ module _ (snap : Content) (plan : Plan) (ids : List ℕ) (q : Query) (goes : Goe
     pub overflow_ends : (to : Step) → next_value q ≡ Some None → to ≡ step.Ending (shown.Refused Overflow) 0 → ComesTo snap plan ids to
     overflow_ends to none is = subst (ComesTo snap plan ids) (sym is) (Overflows
         (faults_here snap plan ids q goes instr here unmarked (as_begun (λ s p n. slice_get (values_over s p) n ≡ Some None) none))
-        (as_begun (λ s p n. plan_rows p s.db ≡ None) (no_rows q none)) refl)
+        (as_begun (λ s p n. plan_rows p s.db ≡ None) (no_rows q none)) refl refl)

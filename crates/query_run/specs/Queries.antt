@@ -1,10 +1,11 @@
 -- A query under way, by itself: what it has computed, and what it does next.
-use Rattle.std.specs.Prelude.{◌≡◌, ℕ, ◌<◌, ◌^◌, List, map, take, drop, length, true, Option, Some, None, slice_get}
+use Rattle.std.specs.Prelude.{◌≡◌, ℕ, ◌+◌, ◌<◌, ◌^◌, List, ◌∷◌, map, take, drop, length, sum_by, Bool, true, false, Option, Some, None, slice_get}
 use Rattle.std.specs.List.{AllByRecursion}
 use Rattle.cell_core.specs.declared.cell.Cell.{Cell}
 use Rattle.cell_core.specs.declared.operator.Instr.{Instr}
 use Rattle.cell_core.specs.declared.operator.Value.{Value}
 use Rattle.cell_core.specs.declared.operator.Value.TheVariants.{Bat}
+use Rattle.cell_core.specs.declared.table.Db.{Db}
 use Rattle.cell_core.specs.Pairs.{heads_of, is_true}
 use Rattle.cell_core.specs.Relations.{selected}
 use Rattle.chunk_core.specs.Facts.{rises}
@@ -50,13 +51,24 @@ values_over snap plan = plan_values snap.db plan.instrs
 abbrev pub all_values : Query → List (Option Value)
 all_values q = values_over q.snap q.plan
 
--- its plan has no fault and fits its tables; its results are the values of its first instructions, each with an id
+-- the load of those of some instructions that aren't marked, by the values of all
+abbrev pub unmarked_load : Db → List (Option Value) → List Instr → List Bool → ℕ
+unmarked_load db values (instr ∷ instrs) (true ∷ marks) = unmarked_load db values instrs marks
+unmarked_load db values (instr ∷ instrs) (false ∷ marks) = instr_load db values instr + unmarked_load db values instrs marks
+unmarked_load db values _ _ = 0
+
+-- the work of a plan's instructions that aren't marked
+abbrev pub unmarked_work : Plan → Db → ℕ
+unmarked_work plan db = unmarked_load db (plan_values db plan.instrs) plan.instrs (marks_of plan)
+
+-- its plan has no fault and fits its tables; its results are the values of its first instructions, each with an id; and its work is that of those that aren't marked
 pub record IsUnderWay (q : Query) : Type 0 where
   pub checked : plan_fault q.plan ≡ None
   pub fits : FitsDb q.plan q.snap.db
   pub marks : q.marks.items ≡ marks_of q.plan
   pub ids : length q.ids.items ≡ length q.values
   pub values : map Some (values_of q.values) ≡ take (length q.values) (all_values q)
+  pub work : q.work ≡ unmarked_load q.snap.db (all_values q) (take (length q.values) q.plan.instrs) (take (length q.values) (marks_of q.plan))
 
 -- the next instruction is marked, and this is it
 pub record IsAt (q : Query) (instr : Instr) : Type 0 where
@@ -88,15 +100,15 @@ pub record AsksFor (snap : Content) (plan : Plan) (ids : List ℕ) (to : Query) 
   pub at : IsAt to instr
   pub key_is : key ≡ instr_key instr (versions_in snap) to.ids.items
 
--- it ends: with its rows, or with an overflow
-pub data EndsWith (snap : Content) (plan : Plan) (ids : List ℕ) (reply : Shown) : Type 0 where
-  Overflows : next_behind snap plan ids ≡ Faults → plan_rows plan snap.db ≡ None → reply ≡ shown.Refused Overflow → EndsWith snap plan ids reply
-  HasRows : (rows : List (List Cell)) → next_behind snap plan ids ≡ Finishes → plan_rows plan snap.db ≡ Some rows → reply ≡ shown.Rows rows → EndsWith snap plan ids reply
+-- it ends: with its rows and the work of its unmarked instructions, or with an overflow, of which no work counts
+pub data EndsWith (snap : Content) (plan : Plan) (ids : List ℕ) (reply : Shown) (work : ℕ) : Type 0 where
+  Overflows : next_behind snap plan ids ≡ Faults → plan_rows plan snap.db ≡ None → reply ≡ shown.Refused Overflow → work ≡ 0 → EndsWith snap plan ids reply work
+  HasRows : (rows : List (List Cell)) → next_behind snap plan ids ≡ Finishes → plan_rows plan snap.db ≡ Some rows → reply ≡ shown.Rows rows → work ≡ unmarked_work plan snap.db → EndsWith snap plan ids reply work
 
 -- where it comes to from results with these ids
 abbrev pub ComesTo : Content → Plan → List ℕ → Step → Type 0
 ComesTo snap plan ids (step.Asking to key) = AsksFor snap plan ids to key
-ComesTo snap plan ids (step.Ending reply work) = EndsWith snap plan ids reply
+ComesTo snap plan ids (step.Ending reply work) = EndsWith snap plan ids reply work
 ComesTo snap plan ids _ = ⊥
 
 -- ## What is found
@@ -116,11 +128,20 @@ pub record IsOffered (q : Query) (instr : Instr) (offer : Offer) : Type 0 where
   pub work : offer.work ≡ instr_load q.snap.db (all_values q) instr
   pub small : offer.work < 2 ^ 62
 
+-- the work by which a result of so many pairs is computed from what was found: that of its instruction; or what is read and what is selected, of a containing selection or of each piece of a cover, and what is merged
+abbrev pub part_work : Part → ℕ
+part_work part = length part.value + length (selected_in part.span part.value)
+
+abbrev pub work_from : Found → List Part → ℕ → ℕ → ℕ
+work_from (found.Within id value) parts load pairs = length value + pairs
+work_from (found.Across count) parts load pairs = sum_by part_work parts + pairs
+work_from _ parts load pairs = load
+
 -- what comes of what was found: the result is offered, or there is none
-abbrev pub BecomesOf : Query → Instr → Step → Type 0
-BecomesOf q instr (step.Offering to offer) = (to ≡ q) × IsOffered q instr offer
-BecomesOf q instr (step.Ending reply work) = (next_value q ≡ Some None) × (plan_rows q.plan q.snap.db ≡ None) × (reply ≡ shown.Refused Overflow)
-BecomesOf q instr _ = ⊥
+abbrev pub BecomesOf : Query → Instr → Found → List Part → Step → Type 0
+BecomesOf q instr what parts (step.Offering to offer) = (to ≡ q) × IsOffered q instr offer × (offer.done ≡ work_from what parts offer.work (length offer.value))
+BecomesOf q instr what parts (step.Ending reply work) = (next_value q ≡ Some None) × (plan_rows q.plan q.snap.db ≡ None) × (reply ≡ shown.Refused Overflow) × (work ≡ 0)
+BecomesOf q instr what parts _ = ⊥
 
 -- ## What the pool says
 

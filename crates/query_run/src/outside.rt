@@ -1,6 +1,6 @@
 //! What a query computes before its next event.
 ghost use Rattle.std.specs.Prelude.{IfOk};
-ghost use Rattle.query_run.specs.Steps.{Computes, IsSoundStep};
+ghost use Rattle.query_run.specs.Steps.{Computes, Counted, IsSoundStep};
 
 use crate::step::Step;
 use bat_core::Operate;
@@ -9,7 +9,8 @@ use std::alloc::Global;
 use std::sync::ledger::Ledger;
 
 impl Step {
-    /// Computes what the next event needs.
+    /// Computes what the next event needs. The counter rises by the work that is done; where the plan
+    /// overflows, by at most its load more.
     pub fn outside<E: Operate, L: Ledger>(
         self,
         alloc: Global,
@@ -17,7 +18,8 @@ impl Step {
         steps: &mut Steps<L>,
     ) -> Result<Step, Memory>
         requires { IsSoundStep self }
-        ensures { IfOk result (Computes self) }
+        ensures step { IfOk result (Computes self) }
+        ensures counted { IfOk result (λ next. Counted self next steps.old steps.new) }
     {
         match self {
             Step::Begun(query) => query.walk(alloc, kernel, steps),

@@ -1,5 +1,5 @@
 //! A query, instruction by instruction.
-ghost use Rattle.std.specs.Prelude.{◌≡◌, ℕ, List, ◌+◌, ◌≤◌, ◌<◌, [], ◌∷◌, ◌++◌, length, slice_get, true, Some, None, Err, IfOk, OnOk, OnErr};
+ghost use Rattle.std.specs.Prelude.{◌≡◌, ℕ, List, ◌+◌, ◌≤◌, ◌<◌, [], ◌∷◌, ◌++◌, length, take, slice_get, true, false, Some, None, Err, IfOk, OnOk, OnErr};
 ghost use Rattle.cell_core.specs.declared.memory.RunError.TheVariants as RunError;
 ghost use Rattle.cell_core.specs.declared.operator.Instr.{Instr as InstrSeen};
 ghost use Rattle.cell_core.specs.declared.operator.Value.{Value as ValueSeen};
@@ -11,11 +11,14 @@ ghost use Rattle.lineage_key.specs.declared.key.KeyArg.TheVariants.{Const};
 ghost use Rattle.recycle_mark.specs.Marks.{marks_of};
 ghost use Rattle.query_keys.specs.Keys.{instr_key, with_version};
 ghost use Rattle.query_keys.specs.Laws.{id_given as given_by};
-ghost use Rattle.query_run.specs.Queries.{AsksFor, ComesTo, EndsWith, IsUnderWay, next_value, versions_in};
+ghost use Rattle.mal_meaning.specs.Meaning.{instr_load, plan_load};
+ghost use Rattle.query_run.specs.Queries.{AsksFor, ComesTo, EndsWith, IsUnderWay, all_values, next_value, unmarked_load, versions_in};
+ghost use Rattle.query_run.specs.Steps.{Counted, held};
 ghost use Rattle.query_run.specs.declared.step.Step.TheVariants as step;
 ghost use Rattle.answer_text.specs.declared.shown.Shown.TheVariants as shown;
 ghost use Rattle.sql_semantics.specs.declared.refusal.Refusal.TheVariants as refusal;
 
+use crate::reuse::sum;
 use crate::step::{Query, Step};
 use answer_text::Shown;
 use bat_core::{Obj, Operate, Shared};
@@ -38,6 +41,7 @@ impl Query {
         ensures marks { result.marks.items ≡ marks.items }
         ensures ids { result.ids.items ≡ [] }
         ensures values { result.values ≡ [] }
+        ensures work { result.work ≡ 0 }
     {
         Query {
             snap,
@@ -58,7 +62,8 @@ impl Query {
         steps: &mut Steps<L>,
     ) -> Result<Step, Memory>
         requires { IsUnderWay self }
-        ensures { IfOk result (ComesTo self.snap self.plan self.ids.items) }
+        ensures step { IfOk result (ComesTo self.snap self.plan self.ids.items) }
+        ensures counted { IfOk result (λ next. Counted (step.Begun self) next steps.old steps.new) }
     {
         'instrs: while self.values.len() < self.plan.instrs.len() {
             if self.marks[self.values.len()] {
@@ -77,7 +82,8 @@ impl Query {
     fn to_ask(self, alloc: Global) -> Result<Step, Memory>
         requires under { IsUnderWay self }
         requires marked { slice_get (marks_of self.plan) (length self.values) ≡ Some true }
-        ensures { IfOk result (ComesTo self.snap self.plan self.ids.items) }
+        ensures step { IfOk result (ComesTo self.snap self.plan self.ids.items) }
+        ensures held { IfOk result (λ next. held next ≡ self.work) }
     {
         let key = self.next_key(alloc)?;
         Ok(Step::Asking(self, key))
@@ -87,7 +93,8 @@ impl Query {
     fn finish(self, alloc: Global) -> Result<Step, Memory>
         requires under { IsUnderWay self }
         requires all { length self.plan.instrs ≤ length self.values }
-        ensures { IfOk result (ComesTo self.snap self.plan self.ids.items) }
+        ensures step { IfOk result (ComesTo self.snap self.plan self.ids.items) }
+        ensures held { IfOk result (λ next. held next ≡ self.work) }
     {
         let rows = output(alloc, &self.plan.out, self.values.as_slice())?;
         Ok(Step::Ending(Shown::Rows(rows), self.work))
@@ -102,16 +109,20 @@ impl Query {
     ) -> Result<(), RunError>
         requires under { IsUnderWay self.old }
         requires more { length self.old.values < length self.old.plan.instrs }
+        requires unmarked { slice_get (marks_of self.old.plan) (length self.old.values) ≡ Some false }
         ensures snap { self.new.snap ≡ self.old.snap }
         ensures plan { self.new.plan ≡ self.old.plan }
         ensures under { OnOk result (IsUnderWay self.new) }
         ensures ids { OnOk result (self.new.ids.items ≡ self.old.ids.items ++ 0 ∷ []) }
         ensures value { OnOk result ((value : ValueSeen) × (next_value self.old ≡ Some (Some value))) }
         ensures overflow { result ≡ Err RunError.Overflow → next_value self.old ≡ Some None }
+        ensures counted { OnOk result (steps.new + self.old.work ≡ steps.old + self.new.work) }
+        ensures later { result ≡ Err RunError.Overflow → steps.old ≤ steps.new }
+        ensures within { result ≡ Err RunError.Overflow → steps.new + self.old.work ≤ steps.old + plan_load self.old.plan self.old.snap.db }
     {
-        let Done { value, work } = self.run_next(alloc, kernel, steps)?;
-        self.work = self.work.checked_add(work).ok_or(Memory)?;
-        self.add(value, 0)?;
+        let done = self.run_next(alloc, kernel, steps)?;
+        let total = sum(self.work, done.work)?;
+        self.add(done.value, 0, total)?;
         Ok(())
     }
 
@@ -125,7 +136,11 @@ impl Query {
         requires under { IsUnderWay self.now }
         requires more { length self.now.values < length self.now.plan.instrs }
         ensures value { IfOk result (λ done. next_value self.now ≡ Some (Some (value_of done.value))) }
+        ensures work { IfOk result (λ done. (instr : InstrSeen) → slice_get self.now.plan.instrs (length self.now.values) ≡ Some instr → done.work ≡ instr_load self.now.snap.db (all_values self.now) instr) }
+        ensures counted { IfOk result (λ done. steps.new ≡ steps.old + done.work) }
         ensures overflow { result ≡ Err RunError.Overflow → next_value self.now ≡ Some None }
+        ensures later { result ≡ Err RunError.Overflow → steps.old ≤ steps.new }
+        ensures within { result ≡ Err RunError.Overflow → steps.new + self.now.work ≤ steps.old + plan_load self.now.plan self.now.snap.db }
     {
         instrs_run();
         let values = self.values.as_slice();
@@ -140,17 +155,20 @@ impl Query {
         &self.plan.instrs.as_slice()[self.values.len()]
     }
 
-    /// Adds the next result, with its id.
-    fn add(&mut self, value: Obj, id: u64) -> Result<(), Memory>
+    /// Adds the next result, with its id; then the results so far have taken this work.
+    fn add(&mut self, value: Obj, id: u64, work: u128) -> Result<(), Memory>
         requires under { IsUnderWay self.old }
         requires value { next_value self.old ≡ Some (Some (value_of value)) }
+        requires work { work ≡ unmarked_load self.old.snap.db (all_values self.old) (take (length self.old.values + 1) self.old.plan.instrs) (take (length self.old.values + 1) (marks_of self.old.plan)) }
         ensures snap { self.new.snap ≡ self.old.snap }
         ensures plan { self.new.plan ≡ self.old.plan }
         ensures under { OnOk result (IsUnderWay self.new) }
         ensures ids { OnOk result (self.new.ids.items ≡ self.old.ids.items ++ id ∷ []) }
+        ensures work { OnOk result (self.new.work ≡ work) }
     {
         self.values.push(value)?;
         self.ids.push(id)?;
+        self.work = work;
         Ok(())
     }
 
@@ -181,9 +199,12 @@ impl Query {
     ) -> Result<Step, Memory>
         requires under { IsUnderWay self }
         requires value { next_value self ≡ Some (Some (Bat value)) }
-        ensures { IfOk result (ComesTo self.snap self.plan (self.ids.items ++ id ∷ [])) }
+        requires marked { slice_get (marks_of self.plan) (length self.values) ≡ Some true }
+        ensures step { IfOk result (ComesTo self.snap self.plan (self.ids.items ++ id ∷ [])) }
+        ensures counted { IfOk result (λ next. Counted (step.Gained self value id) next steps.old steps.new) }
     {
-        self.add(Obj::Bat(value), id)?;
+        let work = self.work;
+        self.add(Obj::Bat(value), id, work)?;
         self.walk(alloc, kernel, steps)
     }
 }

@@ -1,5 +1,5 @@
 //! The result of an instruction, from what a look found.
-ghost use Rattle.std.specs.Prelude.{◌≡◌, ◌+◌, ◌<◌, ◌^◌, ◌++◌, List, [], ◌∷◌, map, length, slice_get, true, Some, None, Err, IfOk, IfSome};
+ghost use Rattle.std.specs.Prelude.{◌≡◌, ◌+◌, ◌<◌, ◌≤◌, sum_by, ◌^◌, ◌++◌, List, [], ◌∷◌, map, length, slice_get, true, Some, None, Err, IfOk, IfSome};
 ghost use Rattle.std.specs.List.{AllByRecursion};
 ghost use Rattle.std.specs.Option.{option_copied};
 ghost use Rattle.cell_core.specs.declared.cell.Cell.{Cell as CellSeen};
@@ -16,7 +16,11 @@ ghost use Rattle.bat_core.specs.Objects.{values_of};
 ghost use Rattle.reuse_laws.specs.Reuse.{high_bound as high_bound_of, low_bound as low_bound_of, merged, selected_in};
 ghost use Rattle.query_keys.specs.Laws.{HasBounds};
 ghost use Rattle.recycle_pool.specs.declared.found.Part.{Part as PartSeen};
-ghost use Rattle.query_run.specs.Queries.{BecomesOf, IsAt, IsUnderWay, Serves, all_values, next_value};
+ghost use Rattle.mal_meaning.specs.Meaning.{plan_load};
+ghost use Rattle.query_run.specs.declared.step.Offer.{Offer as OfferSeen};
+ghost use Rattle.query_run.specs.declared.step.Step.TheVariants as step;
+ghost use Rattle.query_run.specs.Queries.{BecomesOf, IsAt, IsOffered, IsUnderWay, Serves, all_values, next_value, part_work, work_from};
+ghost use Rattle.query_run.specs.Steps.{Counted};
 
 use crate::query::overflow;
 use crate::step::{Offer, Query, Step};
@@ -48,7 +52,8 @@ impl Query {
     ) -> Result<Step, Memory>
         requires under { IsUnderWay self }
         requires found { (instr : InstrSeen) × IsAt self instr × Serves self instr found parts.items }
-        ensures { IfOk result (λ next. (instr : InstrSeen) → IsAt self instr → BecomesOf self instr next) }
+        ensures step { IfOk result (λ next. (instr : InstrSeen) → IsAt self instr → BecomesOf self instr found parts.items next) }
+        ensures counted { IfOk result (λ next. Counted (step.Found self found parts) next steps.old steps.new) }
     {
         match self.make(alloc, found, parts, kernel, steps) {
             Ok(made) => self.to_offer(alloc, made),
@@ -69,7 +74,11 @@ impl Query {
         requires under { IsUnderWay self.now }
         requires found { (instr : InstrSeen) × IsAt self.now instr × Serves self.now instr found parts.items }
         ensures value { IfOk result (λ made. next_value self.now ≡ Some (Some (BatValue made.value))) }
+        ensures done { IfOk result (λ made. (instr : InstrSeen) → IsAt self.now instr → made.done ≡ work_from found parts.items (instr_load self.now.snap.db (all_values self.now) instr) (length made.value)) }
+        ensures counted { IfOk result (λ made. steps.new ≡ steps.old + made.done) }
         ensures overflow { result ≡ Err RunError.Overflow → next_value self.now ≡ Some None }
+        ensures later { result ≡ Err RunError.Overflow → steps.old ≤ steps.new }
+        ensures within { result ≡ Err RunError.Overflow → steps.new + self.now.work ≤ steps.old + plan_load self.now.plan self.now.snap.db }
     {
         match found {
             Found::Within(_, pooled) => {
@@ -94,7 +103,11 @@ impl Query {
         requires under { IsUnderWay self.now }
         requires at { (instr : InstrSeen) × IsAt self.now instr }
         ensures value { IfOk result (λ made. next_value self.now ≡ Some (Some (BatValue made.value))) }
+        ensures done { IfOk result (λ made. (instr : InstrSeen) → IsAt self.now instr → made.done ≡ instr_load self.now.snap.db (all_values self.now) instr) }
+        ensures counted { IfOk result (λ made. steps.new ≡ steps.old + made.done) }
         ensures overflow { result ≡ Err RunError.Overflow → next_value self.now ≡ Some None }
+        ensures later { result ≡ Err RunError.Overflow → steps.old ≤ steps.new }
+        ensures within { result ≡ Err RunError.Overflow → steps.new + self.now.work ≤ steps.old + plan_load self.now.plan self.now.snap.db }
     {
         marked_are_bats();
         let done = self.run_next(alloc, kernel, steps)?;
@@ -110,7 +123,7 @@ impl Query {
         requires under { IsUnderWay self }
         requires at { (instr : InstrSeen) × IsAt self instr }
         requires value { next_value self ≡ Some (Some (BatValue made.value)) }
-        ensures { IfOk result (λ next. (instr : InstrSeen) → IsAt self instr → BecomesOf self instr next) }
+        ensures { IfOk result (λ next. (offer : OfferSeen) × (next ≡ step.Offering self offer) × (offer.value ≡ made.value) × (offer.done ≡ made.done) × ((instr : InstrSeen) → IsAt self instr → IsOffered self instr offer)) }
     {
         let key = self.next_key(alloc)?;
         let work = self.stated_work(&made.value)?;
@@ -143,7 +156,7 @@ impl Query {
 }
 
 /// The sum of two numbers. One past 128 bits counts as want of memory.
-fn sum(one: u128, other: u128) -> Result<u128, Memory>
+pub(crate) fn sum(one: u128, other: u128) -> Result<u128, Memory>
     ensures { IfOk result (λ sum. sum ≡ one + other) }
 {
     one.checked_add(other).ok_or(Memory)
@@ -184,7 +197,8 @@ fn value_at<'a>(values: &'a [Obj], place: u32) -> Option<&'a Obj>
 
 /// A result that was computed from so many pairs.
 fn made_of(alloc: Global, read: u64, out: Bat) -> Result<Made, Memory>
-    ensures { IfOk result (λ made. made.value ≡ out) }
+    ensures value { IfOk result (λ made. made.value ≡ out) }
+    ensures done { IfOk result (λ made. made.done ≡ read + length out) }
 {
     let done = u128::from(read) + u128::from(out.len());
     let value = Shared::new(alloc, out)?;
@@ -199,7 +213,9 @@ fn select_again<L: Ledger>(
     steps: &mut Steps<L>,
 ) -> Result<Made, Memory>
     requires { (low : CellSeen) × (high : CellSeen) × (li : CellSeen) × (hi : CellSeen) × HasBounds instr.now low high li hi }
-    ensures { IfOk result (λ made. (low high li hi : CellSeen) → HasBounds instr.now low high li hi → made.value ≡ selected low high (is_true_cell li) (is_true_cell hi) pooled.now) }
+    ensures value { IfOk result (λ made. (low high li hi : CellSeen) → HasBounds instr.now low high li hi → made.value ≡ selected low high (is_true_cell li) (is_true_cell hi) pooled.now) }
+    ensures done { IfOk result (λ made. made.done ≡ length pooled.now + length made.value) }
+    ensures counted { IfOk result (λ made. steps.new ≡ steps.old + made.done) }
 {
     match instr.args.as_slice() {
         [
@@ -241,7 +257,9 @@ fn select_parts<L: Ledger>(
     steps: &mut Steps<L>,
 ) -> Result<Made, Memory>
     requires { AllByRecursion (λ (part : PartSeen). rises (heads_of (selected_in part.span part.value)) ≡ true) parts.now }
-    ensures { IfOk result (λ made. made.value ≡ merged (map (λ (part : PartSeen). selected_in part.span part.value) parts.now)) }
+    ensures value { IfOk result (λ made. made.value ≡ merged (map (λ (part : PartSeen). selected_in part.span part.value) parts.now)) }
+    ensures done { IfOk result (λ made. made.done ≡ sum_by part_work parts.now + length made.value) }
+    ensures counted { IfOk result (λ made. steps.new ≡ steps.old + made.done) }
 {
     let pieces = select_each(alloc, parts, steps)?;
     let out = merge_by_heads(alloc, pieces.values.as_slice(), steps)?;
@@ -256,7 +274,9 @@ fn select_each<L: Ledger>(
     parts: &[Part],
     steps: &mut Steps<L>,
 ) -> Result<Pieces, Memory>
-    ensures { IfOk result (λ pieces. pieces.values ≡ map (λ (part : PartSeen). selected_in part.span part.value) parts.now) }
+    ensures values { IfOk result (λ pieces. pieces.values ≡ map (λ (part : PartSeen). selected_in part.span part.value) parts.now) }
+    ensures done { IfOk result (λ pieces. pieces.done ≡ sum_by part_work parts.now) }
+    ensures counted { IfOk result (λ pieces. steps.new ≡ steps.old + pieces.done) }
 {
     let mut values = Sequence::new(alloc);
     let mut done = 0_u128;
@@ -272,7 +292,9 @@ fn select_each<L: Ledger>(
 
 /// What a part's piece selects from its value.
 fn select_part<L: Ledger>(alloc: Global, part: &Part, steps: &mut Steps<L>) -> Result<Made, Memory>
-    ensures { IfOk result (λ made. made.value ≡ selected_in part.now.span part.now.value) }
+    ensures value { IfOk result (λ made. made.value ≡ selected_in part.now.span part.now.value) }
+    ensures done { IfOk result (λ made. made.done ≡ part_work part.now) }
+    ensures counted { IfOk result (λ made. steps.new ≡ steps.old + made.done) }
 {
     let nil = Cell::Nil;
     let (low, li) = low_bound(&part.span.low, &nil);

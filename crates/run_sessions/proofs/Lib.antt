@@ -1,3 +1,9 @@
 pub mod PlaceLemmas
+pub mod ListedLemmas
+pub mod ActLemmas
+pub mod OrderLemmas
+pub mod CountLemmas
+pub mod SumLemmas
 pub mod TurnLemmas
 pub mod RunLemmas
+pub mod TotalLemmas

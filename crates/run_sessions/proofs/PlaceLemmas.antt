@@ -1,7 +1,8 @@
 -- One element of a list is set, or one more stands at its end.
-use Rattle.std.proofs.Common.{◌≡◌, ◌≢◌, ℕ, zero, suc, ◌<◌, List, [], ◌∷◌, ◌++◌, length, map, Some, Option, refl, ap, sym, ◌∙◌, subst, arith, get_or, slice_set}
-use Rattle.std.specs.Prelude.{slice_get, unwrap_or}
+use Rattle.std.proofs.Common.{◌≡◌, ◌≢◌, ℕ, zero, suc, ◌+◌, ◌<◌, List, [], ◌∷◌, ◌++◌, length, map, Some, Option, refl, ap, sym, ◌∙◌, subst, arith, get_or, slice_set}
+use Rattle.std.specs.Prelude.{slice_get, sum_by, unwrap_or}
 use Rattle.std.specs.List.{AllByRecursion}
+use Rattle.std.proofs.lemmas.List.Sums.{sum_by-cons}
 use Rattle.std.proofs.lemmas.Option.{slice_get_within}
 
 -- two numbers are the same, or not
@@ -42,6 +43,21 @@ module _ {X : Type 0} where
   map_set f [] (suc i) x y there same = refl
   map_set f (w ∷ xs) zero x y there same = ap (λ v. v ∷ map f xs) (same ∙ ap f (sym (same_there w x there)))
   map_set f (w ∷ xs) (suc i) x y there same = ap (λ vs. f w ∷ vs) (map_set f xs i x y there same)
+
+  -- a sum of what each counts
+  pub sum_set : (f : X → ℕ) (xs : List X) (i : ℕ) (x y : X) → slice_get xs i ≡ Some x → sum_by f (slice_set xs i y) + f x ≡ sum_by f xs + f y
+  sum_set f [] zero x y there = none_there 0 x there
+  sum_set f [] (suc i) x y there = none_there (suc i) x there
+  sum_set f (w ∷ xs) zero x y there =
+      let same = ap f (same_there w x there) in
+      let old = sum_by-cons f w xs in
+      let new = sum_by-cons f y xs in
+      omega (arith, same, old, new)
+  sum_set f (w ∷ xs) (suc i) x y there =
+      let more = sum_set f xs i x y there in
+      let old = sum_by-cons f w xs in
+      let new = sum_by-cons f w (slice_set xs i y) in
+      omega (arith, more, old, new)
 
   -- what holds of the last element and of each before it
   pub append_all : (P : ℕ → X → Type 0) (xs : List X) (y : X) → P (length xs) y → ((j : ℕ) (z : X) → slice_get xs j ≡ Some z → P j z) → (j : ℕ) (z : X) → slice_get (xs ++ y ∷ []) j ≡ Some z → P j z

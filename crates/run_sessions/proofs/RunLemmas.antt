@@ -3,18 +3,23 @@ use Rattle.std.proofs.Common.{◌≡◌, ◌≢◌, ℕ, suc, ◌+◌, ◌-◌, 
 use Rattle.std.specs.Prelude.{slice_get}
 use Rattle.std.specs.declared.vec.Vec.{Vec}
 use Rattle.std.specs.declared.alloc.Global.{Global}
-use Rattle.std.proofs.lemmas.List.{append-nil, length-map}
+use Rattle.std.proofs.lemmas.List.{append-nil, length-map, take_all}
 use Rattle.std.proofs.lemmas.Option.{slice_get_within}
-use Rattle.answer_text.specs.Layout.{replies_text}
+use Rattle.answer_text.specs.Log.{AreStatements, logged_of}
 use Rattle.pool_policy.specs.declared.options.PoolOptions.{PoolOptions}
+use Rattle.sql_parse.specs.Answered.{EachReadsAsOne}
 use Rattle.run_log.specs.Events.{EventTree, log_tree}
 use Rattle.book_core.specs.BookView.{BookView}
 use Rattle.session_run.specs.declared.session.Session.{Session}
-use Rattle.session_run.specs.Kept.{Stands}
+use Rattle.session_run.specs.Kept.{IsStage, Stands}
+use Rattle.session_run.specs.Progress.{progress_of}
+use Rattle.session_run.specs.Readings.{AreReadings}
 use Rattle.session_run.specs.Turns.{IsDone}
 use Rattle.session_run.proofs.RunLemmas.{done_is, done_text}
 use Rattle.run_sessions.specs.Played.{IsPlayed, IsScheduled, RiseFrom, Starts}
-use Rattle.run_sessions.specs.Tables.{AreOver, AreStanding, AreTexts, HasRun, HaveEnded, HavePlayed, IsOver, scripts_of}
+use Rattle.run_sessions.specs.Tables.{AreOver, AreStanding, AreTexts, HasRun, HaveEnded, HavePlayed, IsOver, IsText, scripts_of}
+use Rattle.run_sessions.specs.Ordered.{IsInOrder, IsOpenedAs}
+use Rattle.run_sessions.proofs.ListedLemmas.{readings_one}
 use Rattle.run_sessions.proofs.PlaceLemmas.{map_there, same_or}
 
 -- ## Turns behind turns
@@ -129,19 +134,35 @@ scheduled a b c x y z options scripts turns new of p e =
     within : (xs : List Session) (i : ℕ) (s : Session) → slice_get xs i ≡ Some s → i < length xs
     within xs i s at = slice_get_within xs i s at
 
--- the texts of sessions that are over
-texts_from : (options : PoolOptions) (log : List EventTree) (n : ℕ) (sessions : List Session) → ((place : ℕ) (x : Session) → slice_get sessions place ≡ Some x → (x.number ≡ n + place) × Stands options log x × IsOver x)
-    → AreTexts log n (scripts_of sessions) (map (λ (text : Vec ℕ Global). text.items) (map (λ (x : Session). x.text) sessions))
-texts_from options log n [] all = tt
-texts_from options log n (x ∷ sessions) all =
-    let one = all 0 x refl in
-    let number : x.number ≡ n = omega (arith, one.0) in
-    let told = done_text options log x one.1 one.2.between one.2.all in (
-      (told.0, told.1, told.2 ∙ ap (λ m. replies_text log m told.0) number),
-      texts_from options log (n + 1) sessions (λ place y there. let more = all (suc place) y there in (let same = more.0 in omega (arith, same), more.1, more.2)),
+-- the text of a session that is over, of which each statement stands once in the log
+over_text : EachReadsAsOne → (options : PoolOptions) (log : List EventTree) (x : Session) → Stands options log x → IsOver x → IsInOrder log x → IsText log x.number x.pieces x.text.items
+over_text each options log x s over o =
+    let told = done_text options log x s over.between over.all in
+    let read = subst (λ pieces. AreReadings pieces o.readings) (take_all x.ended x.pieces over.all) o.read in
+    let same = readings_one each x.pieces o.readings told.0 read told.1 in
+    let none = subst (IsStage options log x (progress_of x.number log)) over.between s.stage in
+    let nothing = subst (λ begun. IsOpenedAs log x begun o.opened) none o.open_ in
+    let logged : o.finished ≡ logged_of x.number log = sym (o.logged ∙ ap (λ more. o.finished ++ more) nothing ∙ append-nil o.finished) in (
+      told.0,
+      told.1,
+      told.2,
+      subst (λ readings. AreStatements log x.number 1 readings (logged_of x.number log)) same (subst (AreStatements log x.number 1 o.readings) logged o.statements),
     )
 
-pub texts_are : (options : PoolOptions) (log : List EventTree) (sessions : List Session) → AreStanding options log sessions → AreOver (length sessions) sessions
+-- the texts of sessions that are over
+texts_from : EachReadsAsOne → (options : PoolOptions) (log : List EventTree) (n : ℕ) (sessions : List Session)
+    → ((place : ℕ) (x : Session) → slice_get sessions place ≡ Some x → (x.number ≡ n + place) × Stands options log x × IsOver x × IsInOrder log x)
+    → AreTexts log n (scripts_of sessions) (map (λ (text : Vec ℕ Global). text.items) (map (λ (x : Session). x.text) sessions))
+texts_from each options log n [] all = tt
+texts_from each options log n (x ∷ sessions) all =
+    let one = all 0 x refl in
+    let number : x.number ≡ n = omega (arith, one.0) in (
+      subst (λ m. IsText log m x.pieces x.text.items) number (over_text each options log x one.1 one.2 one.3),
+      texts_from each options log (n + 1) sessions (λ place y there. let more = all (suc place) y there in (let same = more.0 in omega (arith, same), more.1, more.2, more.3)),
+    )
+
+pub texts_are : EachReadsAsOne → (options : PoolOptions) (log : List EventTree) (sessions : List Session) → AreStanding options log sessions → AreOver (length sessions) sessions
     → AreTexts log 1 (scripts_of sessions) (map (λ (text : Vec ℕ Global). text.items) (map (λ (x : Session). x.text) sessions))
-texts_are options log sessions standing over =
-    texts_from options log 1 sessions (λ place x there. let stood = standing place x there in (let same = stood.0 in omega (arith, same), stood.1, over place x (slice_get_within sessions place x there) there))
+texts_are each options log sessions standing over =
+    texts_from each options log 1 sessions
+    (λ place x there. let stood = standing place x there in (let same = stood.0 in omega (arith, same), stood.1, over place x (slice_get_within sessions place x there) there, stood.3))

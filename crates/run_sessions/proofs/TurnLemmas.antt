@@ -3,6 +3,7 @@ use Rattle.std.proofs.Common.{◌≡◌, ◌≢◌, ℕ, ◌+◌, ◌-◌, ◌�
 use Rattle.std.specs.Prelude.{slice_get, option_map}
 use Rattle.std.proofs.lemmas.Option.{slice_get-map, slice_get_within}
 use Rattle.pool_policy.specs.declared.options.PoolOptions.{PoolOptions}
+use Rattle.sql_parse.specs.Answered.{EachReadsAsOne}
 use Rattle.run_log.specs.Events.{EventTree, log_tree}
 use Rattle.book_core.specs.BookView.{BookView}
 use Rattle.book_core.specs.Lawful.{IsLawful}
@@ -12,6 +13,8 @@ use Rattle.query_run.specs.declared.step.Query.{Query}
 use Rattle.query_run.specs.declared.step.Step.{Step}
 use Rattle.query_run.specs.declared.step.Step.TheVariants as step
 use Rattle.query_run.specs.Queries.{ComesTo as QueryComesTo, BecomesOf}
+use Rattle.recycle_pool.specs.declared.found.Found.{Found}
+use Rattle.recycle_pool.specs.declared.found.Part.{Part}
 use Rattle.cell_core.specs.declared.operator.Instr.{Instr}
 use Rattle.query_run.specs.Steps.{Computes, IsSoundStep}
 use Rattle.session_run.specs.declared.session.Session.{Session}
@@ -20,14 +23,18 @@ use Rattle.session_run.specs.declared.stage.Stage.TheVariants as stage
 use Rattle.session_run.specs.Kept.{IsStage, Stands}
 use Rattle.session_run.specs.Progress.{progress_of}
 use Rattle.session_run.specs.Stages.{ComesTo, HasComputed, HasDone, IsReady, IsSoundStage}
-use Rattle.session_run.specs.Turns.{IsDone, IsNext}
+use Rattle.session_run.specs.Works.{IsWorked, done_by}
+use Rattle.session_run.specs.Turns.{IsDone, IsNext, next_event}
 use Rattle.session_run.proofs.DoesLemmas.{lawful_then}
 use Rattle.session_run.proofs.OtherLemmas.{others_stay}
 use Rattle.session_run.proofs.RunLemmas.{done_is, next_other}
-use Rattle.session_run.proofs.StageLemmas.{stage_sound}
+use Rattle.session_run.proofs.StageLemmas.{computed_stands, stage_sound}
+use Rattle.session_run.proofs.WorkLemmas.{others_worked}
 use Rattle.run_sessions.specs.Played.{IsPlayed, Does, Passes}
-use Rattle.run_sessions.specs.Tables.{AreStanding, HasTurned, HavePlayed, IsOver, scripts_of}
-use Rattle.run_sessions.proofs.PlaceLemmas.{map_set, set_all}
+use Rattle.run_sessions.specs.Ordered.{IsInOrder}
+use Rattle.run_sessions.specs.Tables.{AreStanding, CountsTurns, HasTurned, HavePlayed, IsOver, scripts_of}
+use Rattle.run_sessions.proofs.OrderLemmas.{ordered_as, others_ordered, own_ordered}
+use Rattle.run_sessions.proofs.PlaceLemmas.{map_set, set_all, sum_set}
 
 -- ## A stage that was computed
 
@@ -39,18 +46,18 @@ query_ready snap plan ids (step.Found q found parts) comes = absurd comes
 query_ready snap plan ids (step.Offering q offer) comes = absurd comes
 query_ready snap plan ids (step.Gained q value id) comes = absurd comes
 
-result_ready : (q : Query) (instr : Instr) (to : Step) → BecomesOf q instr to → IsReady (stage.Querying to)
-result_ready q instr (step.Offering to offer) becomes = tt
-result_ready q instr (step.Ending reply work) becomes = tt
-result_ready q instr (step.Begun to) becomes = absurd becomes
-result_ready q instr (step.Asking to key) becomes = absurd becomes
-result_ready q instr (step.Found to found parts) becomes = absurd becomes
-result_ready q instr (step.Gained to value id) becomes = absurd becomes
+result_ready : (q : Query) (instr : Instr) (what : Found) (parts : List Part) (to : Step) → BecomesOf q instr what parts to → IsReady (stage.Querying to)
+result_ready q instr what parts (step.Offering to offer) becomes = tt
+result_ready q instr what parts (step.Ending reply work) becomes = tt
+result_ready q instr what parts (step.Begun to) becomes = absurd becomes
+result_ready q instr what parts (step.Asking to key) becomes = absurd becomes
+result_ready q instr what parts (step.Found to found pieces) becomes = absurd becomes
+result_ready q instr what parts (step.Gained to value id) becomes = absurd becomes
 
 step_ready : (from to : Step) → IsSoundStep from → Computes from to → IsReady (stage.Querying to)
 step_ready (step.Begun q) to sound comes = query_ready q.snap q.plan q.ids.items to comes
 step_ready (step.Gained q value id) to sound comes = query_ready q.snap q.plan (q.ids.items ++ id ∷ []) to comes
-step_ready (step.Found q found parts) to sound comes = result_ready q sound.1.0 to (comes sound.1.0 sound.1.1)
+step_ready (step.Found q found parts) to sound comes = result_ready q sound.1.0 found parts.items to (comes sound.1.0 sound.1.1)
 step_ready (step.Asking q key) to sound comes = subst (λ at. IsReady (stage.Querying at)) (sym comes) tt
 step_ready (step.Offering q offer) to sound comes = subst (λ at. IsReady (stage.Querying at)) (sym comes) tt
 step_ready (step.Ending reply work) to sound comes = subst (λ at. IsReady (stage.Querying at)) (sym comes) tt
@@ -66,7 +73,7 @@ pub computed_ready : (options : PoolOptions) (log : List EventTree) (x new : Ses
 computed_ready options log x new s c = stage_ready x.stage x.ended x.text.items new.stage new.text.items (stage_sound options log x s) c.stage
 
 -- a session whose statements have all ended is at none
-pub over_is : (options : PoolOptions) (log : List EventTree) (x : Session) → Stands options log x → IsReady x.stage → length x.pieces ≤ x.ended → IsOver x
+over_is : (options : PoolOptions) (log : List EventTree) (x : Session) → Stands options log x → IsReady x.stage → length x.pieces ≤ x.ended → IsOver x
 over_is options log x s ready all = record { between = go x.stage refl ready s.stage; all = all }
   where
     go : (at : Stage) → x.stage ≡ at → IsReady at → IsStage options log x (progress_of x.number log) at → x.stage ≡ stage.Between
@@ -75,13 +82,25 @@ over_is options log x s ready all = record { between = go x.stage refl ready s.s
     go (stage.Explaining plan) is is_ready has = absurd is_ready
     go (stage.Telling reply) is is_ready has = absurd is_ready
 
+-- so where it has computed
+pub computed_over : (options : PoolOptions) (log : List EventTree) (x new : Session) → Stands options log x → HasComputed x new → length new.pieces ≤ new.ended → IsOver new
+computed_over options log x new s c all = over_is options log new (computed_stands options log x s new c) (computed_ready options log x new s c) all
+
 -- an event of the session as it stood before it computed
 pub done_before : (old new : BookView) (x mid y : Session) → mid.number ≡ x.number → mid.pieces ≡ x.pieces → HasDone old new mid y → HasDone old new x y
 done_before old new x mid y number pieces d = record {
   event = d.event;
   log = d.log;
-  next = subst (λ n. IsNext old.options x.pieces n (log_tree old.log) d.event) number (subst (λ ps. IsNext old.options ps mid.number (log_tree old.log) d.event) pieces d.next);
+  next = record {
+    piece = d.next.piece;
+    here = (λ i. slice_get (sym pieces i) (progress_of (sym number i) (log_tree old.log)).ended) ∙ d.next.here;
+    reading = d.next.reading;
+    read = d.next.read;
+    is = d.next.is ∙ ap (λ n. next_event old.options (log_tree old.log) n d.next.reading) number;
+  };
   stands = d.stands;
+  worked = d.worked;
+  ends = d.ends;
 }
 
 -- ## A turn of one of the sessions
@@ -91,8 +110,15 @@ module _ (old new : BookView) (sessions : List Session) (place : ℕ) (x y : Ses
   abbrev after : List Session
   after = slice_set sessions place y
 
+  -- how a session at a place stands
+  abbrev StandsAt : BookView → ℕ → Session → Type 0
+  StandsAt book at z = (z.number ≡ at + 1) × Stands book.options (log_tree book.log) z × IsWorked book.options (log_tree book.log) z × IsInOrder (log_tree book.log) z
+
+  stood : StandsAt old place x
+  stood = standing place x here
+
   numbered : x.number ≡ place + 1
-  numbered = (standing place x here).0
+  numbered = stood.0
 
   script : slice_get (scripts_of sessions) ((place + 1) - 1) ≡ Some x.pieces
   script =
@@ -103,35 +129,66 @@ module _ (old new : BookView) (sessions : List Session) (place : ℕ) (x y : Ses
   scripts_stay = map_set (λ (z : Session). z.pieces) sessions place x y here pieces
 
   -- another session stands as it did behind the event
-  other_stands : HasDone old new x y → (other : ℕ) (z : Session) → other ≢ place → slice_get sessions other ≡ Some z → (z.number ≡ other + 1) × Stands new.options (log_tree new.log) z
+  other_stands : HasDone old new x y → (other : ℕ) (z : Session) → other ≢ place → slice_get sessions other ≡ Some z → StandsAt new other z
   other_stands d other z apart there =
-      let stood = standing other z there in
-      let far : x.number ≡ z.number → ⊥ = λ same. apart (let a = stood.0 in let b = numbered in omega (arith, a, b, same)) in (
-        stood.0,
+      let log = log_tree old.log in
+      let was = standing other z there in
+      let far : x.number ≡ z.number → ⊥ = λ same. apart (let a = was.0 in let b = numbered in omega (arith, a, b, same)) in
+      let none = next_other old.options x.pieces x.number z.number log d.event d.next far in (
+        was.0,
         subst (λ (o : PoolOptions). Stands o (log_tree new.log) z) (sym options)
-            (subst (λ (l : List EventTree). Stands old.options l z) (sym d.log)
-            (others_stay old.options (log_tree old.log) z d.event (lawful_then old new d.event options d.log lawful) stood.1 (next_other old.options x.pieces x.number z.number (log_tree old.log) d.event d.next far))),
+            (subst (λ (l : List EventTree). Stands old.options l z) (sym d.log) (others_stay old.options log z d.event (lawful_then old new d.event options d.log lawful) was.1 none)),
+        subst (λ (o : PoolOptions). IsWorked o (log_tree new.log) z) (sym options)
+            (subst (λ (l : List EventTree). IsWorked old.options l z) (sym d.log) (others_worked old.options log z d.event none was.2)),
+        subst (λ (l : List EventTree). IsInOrder l z) (sym d.log) (others_ordered old.options log z was.1 d.event none was.3),
       )
 
-  pub turn_played : (more : Bool) → HasTurned old new x y more → HavePlayed old new sessions after ((place + 1) ∷ [])
-  turn_played true d = record {
+  -- and the session by its own event
+  own_stands : EachReadsAsOne → HasDone old new x y → StandsAt new place y
+  own_stands each d =
+      let log = log_tree old.log in
+      let ended = sym d.stands.ended ∙ (λ i. (progress_of (number i) (d.log i)).ended) in (
+        number ∙ numbered,
+        d.stands,
+        d.worked,
+        subst (λ (l : List EventTree). IsInOrder l y) (sym d.log) (own_ordered old.options log x stood.1 d.event each d.next d.ends stood.3 y number pieces ended),
+      )
+
+  -- where it does none
+  same_stands : Stands old.options (log_tree old.log) y → IsWorked old.options (log_tree old.log) y → StandsAt old place y
+  same_stands s w =
+      let log = log_tree old.log in
+      let ended = sym stood.1.ended ∙ ap (λ n. (progress_of n log).ended) (sym number) ∙ s.ended in
+      (number ∙ numbered, s, w, ordered_as log x y (sym number) (sym pieces) ended stood.3)
+
+  -- the sessions take this turn
+  pub turn_played : EachReadsAsOne → (more : Bool) → HasTurned old new x y more → HavePlayed old new sessions after ((place + 1) ∷ [])
+  turn_played each true d = record {
     options = options;
     scripts = scripts_stay;
-    standing = set_all (λ at z. (z.number ≡ at + 1) × Stands new.options (log_tree new.log) z) sessions place y (number ∙ numbered, d.stands) (other_stands d);
+    standing = set_all (StandsAt new) sessions place y (own_stands each d) (other_stands d);
     played = λ earlier before. subst (IsPlayed old.options (scripts_of sessions) (earlier ++ (place + 1) ∷ [])) (sym d.log)
         (Does earlier (log_tree old.log) (place + 1) x.pieces d.event before (omega arith) script (subst (λ n. IsNext old.options x.pieces n (log_tree old.log) d.event) numbered d.next));
   }
-  turn_played false d = record {
+  turn_played each false d = record {
     options = options;
     scripts = scripts_stay;
     standing = subst (λ (book : BookView). AreStanding book.options (log_tree book.log) after) (sym d.0)
-        (set_all (λ at z. (z.number ≡ at + 1) × Stands old.options (log_tree old.log) z) sessions place y (number ∙ numbered, d.1) (λ other z apart there. standing other z there));
+        (set_all (StandsAt old) sessions place y (same_stands d.1 d.2) (λ other z apart there. standing other z there));
     played = λ earlier before. subst (λ (book : BookView). IsPlayed old.options (scripts_of sessions) (earlier ++ (place + 1) ∷ []) (log_tree book.log)) (sym d.0)
         (Passes earlier (log_tree old.log) (place + 1) x.pieces before (omega arith) script
-        (subst (λ n. IsDone x.pieces n (log_tree old.log)) (number ∙ numbered) (subst (λ ps. IsDone ps y.number (log_tree old.log)) pieces (done_is old.options (log_tree old.log) y d.1 d.2.all))));
+        (subst (λ n. IsDone x.pieces n (log_tree old.log)) (number ∙ numbered) (subst (λ ps. IsDone ps y.number (log_tree old.log)) pieces (done_is old.options (log_tree old.log) y d.1 d.3.all))));
   }
 
   -- a session that did no event is over
   pub turn_over : (more : Bool) → HasTurned old new x y more → more ≡ false → (z : Session) → slice_get after place ≡ Some z → IsOver z
   turn_over more turned none z there =
-      set_all (λ at w. at ≡ place → IsOver w) sessions place y (λ _. (subst (HasTurned old new x y) none turned).2) (λ other w apart at is. absurd (apart is)) place z there refl
+      set_all (λ at w. at ≡ place → IsOver w) sessions place y (λ _. (subst (HasTurned old new x y) none turned).3) (λ other w apart at is. absurd (apart is)) place z there refl
+
+  -- the counter of the session's turn is that of all
+  pub turn_counts : (from to : ℕ) → CountsTurns old new (x ∷ []) (y ∷ []) from to → CountsTurns old new sessions after from to
+  turn_counts from to c =
+      let least = c.least in
+      let most = c.most in
+      let sums = sum_set done_by sessions place x y here in
+      record { least = omega (arith, least, sums); most = omega (arith, most, sums) }

@@ -1,25 +1,28 @@
 -- The sessions of a run, behind its log.
-use Rattle.std.specs.Prelude.{◌≡◌, ℕ, ◌+◌, ◌≤◌, ◌<◌, List, [], ◌∷◌, ◌++◌, length, map, Bool, true, false, Result, slice_get, Some}
+use Rattle.std.specs.Prelude.{◌≡◌, ℕ, ◌+◌, ◌≤◌, ◌<◌, List, [], ◌∷◌, ◌++◌, length, map, sum_by, Bool, true, false, Result, slice_get, Some}
 use Rattle.sql_semantics.specs.declared.refusal.Refusal.{Refusal}
 use Rattle.sql_tree.specs.Tree.{StmtTree}
 use Rattle.pool_policy.specs.declared.options.PoolOptions.{PoolOptions}
 use Rattle.run_log.specs.Events.{EventTree, log_tree}
 use Rattle.answer_text.specs.Layout.{replies_text}
-use Rattle.book_core.specs.BookView.{BookView}
+use Rattle.answer_text.specs.Log.{AreStatements, logged_of}
+use Rattle.book_core.specs.BookView.{BookView, state_of}
 use Rattle.session_run.specs.declared.session.Session.{Session}
 use Rattle.session_run.specs.declared.stage.Stage.TheVariants.{Between}
 use Rattle.session_run.specs.Kept.{Stands}
 use Rattle.session_run.specs.Readings.{AreReadings}
 use Rattle.session_run.specs.Stages.{HasDone}
+use Rattle.session_run.specs.Works.{IsWorked, done_by, lost_of}
+use Rattle.run_sessions.specs.Ordered.{IsInOrder}
 use Rattle.run_sessions.specs.Played.{IsPlayed, RiseFrom}
 
 -- the texts of each session
 abbrev pub scripts_of : List Session → List (List (List ℕ))
 scripts_of sessions = map (λ (x : Session). x.pieces) sessions
 
--- they are numbered from 1, and each stands where the log says
+-- they are numbered from 1, and each stands where the log says, with its work and with its events in order
 abbrev pub AreStanding : PoolOptions → List EventTree → List Session → Type 0
-AreStanding options log sessions = (place : ℕ) (x : Session) → slice_get sessions place ≡ Some x → (x.number ≡ place + 1) × Stands options log x
+AreStanding options log sessions = (place : ℕ) (x : Session) → slice_get sessions place ≡ Some x → (x.number ≡ place + 1) × Stands options log x × IsWorked options log x × IsInOrder log x
 
 -- all statements of the session have ended, and their replies are written
 pub record IsOver (x : Session) : Type 0 where
@@ -35,7 +38,16 @@ AreOver n sessions = (place : ℕ) (x : Session) → place < n → slice_get ses
 -- a session's turn: it does its next event, or is over
 abbrev pub HasTurned : BookView → BookView → Session → Session → Bool → Type 0
 HasTurned old new before after true = HasDone old new before after
-HasTurned old new before after false = (new ≡ old) × Stands old.options (log_tree old.log) after × IsOver after
+HasTurned old new before after false = (new ≡ old) × Stands old.options (log_tree old.log) after × IsWorked old.options (log_tree old.log) after × IsOver after
+
+-- the work that is done: by the sessions, and by the writes
+abbrev pub done_of : BookView → List Session → ℕ
+done_of book sessions = (state_of book).totals.work + sum_by done_by sessions
+
+-- a counter goes from here to there as sessions take turns: by the work that is done, and by no more than what is lost beyond it
+pub record CountsTurns (old new : BookView) (before after : List Session) (from to : ℕ) : Type 0 where
+  pub least : from + done_of new after ≤ to + done_of old before
+  pub most : (to + done_of old before) + lost_of old ≤ (from + done_of new after) + lost_of new
 
 -- sessions that stand behind a book take these turns, and stand behind the book as it is then
 pub record HavePlayed (old new : BookView) (before after : List Session) (turns : List ℕ) : Type 0 where
@@ -59,9 +71,9 @@ pub record HaveEnded (old new : BookView) (before after : List Session) : Type 0
 
 -- ## Texts
 
--- the text of a session that did all its statements
+-- the text of a session that did all its statements: the replies to them, of which each stands once and in its order in the log
 abbrev pub IsText : List EventTree → ℕ → List (List ℕ) → List ℕ → Type 0
-IsText log session pieces text = (readings : List (Result StmtTree Refusal)) × AreReadings pieces readings × (text ≡ replies_text log session readings)
+IsText log session pieces text = (readings : List (Result StmtTree Refusal)) × AreReadings pieces readings × (text ≡ replies_text log session readings) × AreStatements log session 1 readings (logged_of session log)
 
 -- the texts of the sessions from a number on, each over the readings of its script
 abbrev pub AreTexts : List EventTree → ℕ → List (List (List ℕ)) → List (List ℕ) → Type 0

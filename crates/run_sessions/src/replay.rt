@@ -1,13 +1,16 @@
 //! Sessions that run one event after another.
-ghost use Rattle.std.specs.Prelude.{◌≡◌, ◌≢◌, ℕ, ◌+◌, ◌<◌, ◌≤◌, ◌^◌, List, [], ◌∷◌, length, map, slice_get, Some, IfOk, OnOk};
+ghost use Rattle.std.specs.Prelude.{◌≡◌, ◌≢◌, ℕ, ◌+◌, ◌<◌, ◌≤◌, ◌^◌, List, [], ◌∷◌, length, map, sum_by, slice_get, Some, IfOk, OnOk};
 ghost use Rattle.std.specs.List.{AllByRecursion};
 ghost use Rattle.std.specs.declared.vec.Vec.{Vec as VecSeen};
 ghost use Rattle.std.specs.declared.alloc.Global.{Global as GlobalSeen};
 ghost use Rattle.pool_policy.specs.declared.options.PoolOptions.{PoolOptions as OptionsSeen};
 ghost use Rattle.run_log.specs.Events.{EventTree, log_tree};
 ghost use Rattle.session_run.specs.declared.session.Session.{Session as SessionSeen};
+ghost use Rattle.session_run.specs.Work.{run_lost, run_totals};
+ghost use Rattle.session_run.specs.Works.{done_by};
+ghost use Rattle.store_changes.specs.Work.{Counts};
 ghost use Rattle.run_sessions.specs.Played.{IsScheduled};
-ghost use Rattle.run_sessions.specs.Tables.{AreOver, AreStanding, AreTexts, HasRun, HaveEnded, HavePlayed, IsOver, scripts_of};
+ghost use Rattle.run_sessions.specs.Tables.{AreOver, AreStanding, AreTexts, CountsTurns, HasRun, HaveEnded, HavePlayed, IsOver, scripts_of};
 
 use crate::turn::take_turn;
 use bat_core::Operate;
@@ -17,6 +20,7 @@ use pool_policy::PoolOptions;
 use run_log::{Event, Totals};
 use score_hook::Scorer;
 use session_run::Session;
+use sql_parse::one_reading;
 use std::alloc::Global;
 use std::sync::ledger::Ledger;
 
@@ -30,12 +34,13 @@ pub struct Run {
     pub texts: Vec<Vec<u8>>,
     /// The log.
     pub log: Vec<Event>,
-    /// The totals, of whose work the part of writes alone is told.
+    /// The totals.
     pub totals: Totals,
 }
 
 /// Runs sessions, one for each script, by turns: each turn lets a session do its next event, if it has one,
-/// and behind the last turn session 1 runs to its end, then session 2, and so on.
+/// and behind the last turn session 1 runs to its end, then session 2, and so on. The counter rises by the
+/// work of the totals; where plans overflow, by at most their loads more.
 pub fn play_sessions<E: Operate, L: Ledger>(
     alloc: Global,
     scripts: Vec<Sequence<Word>>,
@@ -53,8 +58,12 @@ pub fn play_sessions<E: Operate, L: Ledger>(
     requires places { options.places ≤ 1024 }
     requires budget { options.budget ≤ 2 ^ 40 }
     ensures scheduled { IfOk result (λ run. IsScheduled options scripts.items turns.now (log_tree run.log.items)) }
+    ensures sessions { IfOk result (λ run. AllByRecursion (λ (event : EventTree). (1 ≤ event.session) × (event.session ≤ length scripts.items)) (log_tree run.log.items)) }
     ensures texts { IfOk result (λ run. AreTexts (log_tree run.log.items) 1 scripts.items (map (λ (text : VecSeen ℕ GlobalSeen). text.items) run.texts.items)) }
+    ensures totals { IfOk result (λ run. run.totals ≡ run_totals options (log_tree run.log.items)) }
+    ensures counted { IfOk result (λ run. Counts steps.old steps.new run.totals.work (run_lost options (log_tree run.log.items))) }
 {
+    one_reading();
     let mut book = Book::new(alloc, options)?;
     let mut sessions = all_sessions(alloc, scripts)?;
     take_turns(
@@ -67,8 +76,10 @@ pub fn play_sessions<E: Operate, L: Ledger>(
         steps,
     )?;
     run_all(alloc, &mut sessions, &mut book, scorer, kernel, steps)?;
+    let work = work_of(sessions.as_slice())?;
     let texts = texts_of(alloc, sessions)?;
     let (log, totals) = book.finish();
+    let totals = with_work(totals, work)?;
     Ok(Run { texts, log, totals })
 }
 
@@ -78,6 +89,7 @@ fn all_sessions(alloc: Global, scripts: Vec<Sequence<Word>>) -> Result<Vec<Sessi
     requires short { AllByRecursion (λ (pieces : List (List ℕ)). length pieces ≤ 256) scripts.items }
     ensures scripts { IfOk result (λ sessions. scripts_of sessions.items ≡ scripts.items) }
     ensures standing { IfOk result (λ sessions. (options : OptionsSeen) → AreStanding options [] sessions.items) }
+    ensures done { IfOk result (λ sessions. sum_by done_by sessions.items ≡ 0) }
 {
     let mut sessions = Vec::new(alloc);
     'scripts: for pieces in scripts {
@@ -101,7 +113,8 @@ fn take_turns<E: Operate, L: Ledger>(
     requires weights { scorer.now.weights.items ≡ book.old.options.weights }
     requires turns { AllByRecursion (λ turn. (1 ≤ turn) × (turn ≤ length sessions.old.items)) turns.now }
     requires standing { AreStanding book.old.options (log_tree book.old.log) sessions.old.items }
-    ensures { OnOk result (HavePlayed book.old book.new sessions.old.items sessions.new.items turns.now) }
+    ensures played { OnOk result (HavePlayed book.old book.new sessions.old.items sessions.new.items turns.now) }
+    ensures counts { OnOk result (CountsTurns book.old book.new sessions.old.items sessions.new.items steps.old steps.new) }
 {
     'turns: for i in 0..turns.len() {
         let place = turns[i] as usize - 1;
@@ -125,6 +138,7 @@ fn run_on<E: Operate, L: Ledger>(
     requires inside { place < length sessions.old.items }
     requires standing { AreStanding book.old.options (log_tree book.old.log) sessions.old.items }
     ensures run { OnOk result (HasRun book.old book.new sessions.old.items sessions.new.items place) }
+    ensures counts { OnOk result (CountsTurns book.old book.new sessions.old.items sessions.new.items steps.old steps.new) }
     ensures others { OnOk result ((other : ℕ) → other ≢ place → slice_get sessions.new.items other ≡ slice_get sessions.old.items other) }
     ensures over { OnOk result ((x : SessionSeen) → slice_get sessions.new.items place ≡ Some x → IsOver x) }
 {
@@ -148,12 +162,32 @@ fn run_all<E: Operate, L: Ledger>(
     requires kind { scorer.now.kind ≡ book.old.options.evict }
     requires weights { scorer.now.weights.items ≡ book.old.options.weights }
     requires standing { AreStanding book.old.options (log_tree book.old.log) sessions.old.items }
-    ensures { OnOk result (HaveEnded book.old book.new sessions.old.items sessions.new.items) }
+    ensures ended { OnOk result (HaveEnded book.old book.new sessions.old.items sessions.new.items) }
+    ensures counts { OnOk result (CountsTurns book.old book.new sessions.old.items sessions.new.items steps.old steps.new) }
 {
     'sessions: for place in 0..sessions.len() {
         run_on(alloc, sessions, place, book, scorer, kernel, steps)?;
     }
     Ok(())
+}
+
+/// The work of the sessions. A sum past 128 bits is want of memory.
+fn work_of(sessions: &[Session]) -> Result<u128, Memory>
+    ensures { IfOk result (λ work. work ≡ sum_by (λ (x : SessionSeen). x.work) sessions.now) }
+{
+    let mut work = 0_u128;
+    'sessions: for session in sessions {
+        work = work.checked_add(session.work).ok_or(Memory)?;
+    }
+    Ok(work)
+}
+
+/// Totals with more work. A sum past 128 bits is want of memory.
+fn with_work(totals: Totals, work: u128) -> Result<Totals, Memory>
+    ensures { IfOk result (λ more. more ≡ record totals { work = totals.work + work }) }
+{
+    let work = totals.work.checked_add(work).ok_or(Memory)?;
+    Ok(Totals { work, ..totals })
 }
 
 /// The text of a session.

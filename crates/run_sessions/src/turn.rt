@@ -2,14 +2,16 @@
 ghost use Rattle.std.specs.Prelude.{◌≡◌, ◌≢◌, ℕ, ◌+◌, ◌<◌, [], ◌∷◌, length, false, slice_get, Some, IfOk, OnOk};
 ghost use Rattle.run_log.specs.Events.{log_tree};
 ghost use Rattle.session_run.specs.Kept.{Stands};
+ghost use Rattle.session_run.specs.Works.{IsWorked};
 ghost use Rattle.session_run.specs.declared.session.Session.{Session as SessionSeen};
-ghost use Rattle.run_sessions.specs.Tables.{AreStanding, HasTurned, HavePlayed, IsOver};
+ghost use Rattle.run_sessions.specs.Tables.{AreStanding, CountsTurns, HasTurned, HavePlayed, IsOver};
 
 use bat_core::Operate;
 use book_core::Book;
 use cell_core::{Memory, Steps};
 use score_hook::Scorer;
 use session_run::Session;
+use sql_parse::one_reading;
 use std::alloc::Global;
 use std::sync::ledger::Ledger;
 
@@ -25,10 +27,12 @@ fn step<E: Operate, L: Ledger>(
     requires kind { scorer.now.kind ≡ book.old.options.evict }
     requires weights { scorer.now.weights.items ≡ book.old.options.weights }
     requires stands { Stands book.old.options (log_tree book.old.log) session.old }
+    requires worked { IsWorked book.old.options (log_tree book.old.log) session.old }
     ensures options { OnOk result (book.new.options ≡ book.old.options) }
     ensures number { OnOk result (session.new.number ≡ session.old.number) }
     ensures pieces { OnOk result (session.new.pieces ≡ session.old.pieces) }
     ensures turned { IfOk result (λ more. HasTurned book.old book.new session.old session.new more) }
+    ensures counts { OnOk result (CountsTurns book.old book.new (session.old ∷ []) (session.new ∷ []) steps.old steps.new) }
 {
     session.outside(alloc, kernel, steps)?;
     if session.done() {
@@ -54,10 +58,13 @@ pub(crate) fn take_turn<E: Operate, L: Ledger>(
     requires inside { place < length sessions.old.items }
     requires standing { AreStanding book.old.options (log_tree book.old.log) sessions.old.items }
     ensures played { OnOk result (HavePlayed book.old book.new sessions.old.items sessions.new.items ((place + 1) ∷ [])) }
+    ensures counts { OnOk result (CountsTurns book.old book.new sessions.old.items sessions.new.items steps.old steps.new) }
     ensures others { OnOk result ((other : ℕ) → other ≢ place → slice_get sessions.new.items other ≡ slice_get sessions.old.items other) }
     ensures over { IfOk result (λ more. more ≡ false → (x : SessionSeen) → slice_get sessions.new.items place ≡ Some x → IsOver x) }
 {
+    one_reading();
     let more = step(alloc, &mut sessions[place], book, scorer, kernel, steps)?;
+    // The others stand as they did, as the log is lawful.
     let _ = book.log();
     Ok(more)
 }

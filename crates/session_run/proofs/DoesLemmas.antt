@@ -1,5 +1,5 @@
 -- What an event of a book is to the session that did it.
-use Rattle.std.proofs.Common.{◌≡◌, ℕ, ◌+◌, List, [], ◌∷◌, ◌++◌, length, Some, None, refl, ap, sym, ◌∙◌, subst}
+use Rattle.std.proofs.Common.{◌≡◌, ℕ, ◌+◌, List, [], ◌∷◌, ◌++◌, length, Option, Some, None, refl, ap, sym, ◌∙◌, subst}
 use Rattle.std.specs.Prelude.{Bool, true, Result, Ok, Err, IfOk, slice_get}
 use Rattle.mal_meaning.specs.declared.plan.Plan.{Plan}
 use Rattle.mal_meaning.specs.Meaning.{plan_rows}
@@ -14,6 +14,7 @@ use Rattle.sql_semantics.specs.declared.refusal.Refusal.{Refusal}
 use Rattle.sql_semantics.specs.declared.refusal.Reply.{Reply}
 use Rattle.plan_queries.specs.Plans.{plan_over, refusal_over}
 use Rattle.store_changes.specs.Outcomes.{is_change}
+use Rattle.store_changes.specs.Work.{Counts, write_lost}
 use Rattle.table_store.specs.Content.{Content}
 use Rattle.sql_tree.specs.declared.tree.Query.{Query as Parsed}
 use Rattle.sql_tree.specs.declared.tree.Stmt.{Stmt}
@@ -26,22 +27,24 @@ use Rattle.pool_policy.specs.Looks.{look_of}
 use Rattle.run_log.specs.declared.event.Act.TheVariants as act
 use Rattle.run_log.specs.Fold.{LogState, key_offer}
 use Rattle.answer_text.specs.declared.shown.Shown.TheVariants as shown
-use Rattle.answer_text.specs.Log.{code_of, shown_reply}
-use Rattle.book_core.specs.Begins.{begin_act, marks_in, unless_refused}
+use Rattle.answer_text.specs.Log.{code_of, shown_over, shown_reply, tables_met}
+use Rattle.book_core.specs.Begins.{begin_act, code_in, logged_plan, marks_in, unless_refused}
 use Rattle.book_core.specs.Offers.{CanOffer}
 use Rattle.book_core.specs.Versions.{HasVersions}
-use Rattle.book_core.specs.Writes.{reply_code, reply_count, written_by}
+use Rattle.book_core.specs.Writes.{reply_code, reply_count, write_work, written_by}
 use Rattle.query_keys.specs.Laws.{id_given}
 use Rattle.query_run.specs.declared.step.Query.{Query}
 use Rattle.query_run.specs.declared.step.Offer.{Offer}
 use Rattle.query_run.specs.declared.step.Step.{Step}
 use Rattle.query_run.specs.declared.step.Step.TheVariants as step
 use Rattle.query_run.specs.Queries.{IsLooked}
+use Rattle.query_run.specs.Steps.{held}
 use Rattle.pool_policy.specs.declared.entry.Who.{Who}
 use Rattle.pool_policy.specs.declared.options.PoolOptions.{PoolOptions}
 use Rattle.run_log.specs.declared.event.Act.{Act}
 use Rattle.run_log.specs.declared.event.Event.{Event}
-use Rattle.run_log.specs.Events.{ActTree, Writes, Ends, EventTree, act_tree, event_tree, log_tree, looked_of}
+use Rattle.run_log.specs.declared.event.Looked.{Looked}
+use Rattle.run_log.specs.Events.{ActTree, Begins, Looks, Admits, Writes, Ends, EventTree, act_tree, event_tree, log_tree, looked_of}
 use Rattle.answer_text.specs.declared.shown.Shown.{Shown}
 use Rattle.book_core.specs.BookView.{BookView, event_of, is_open, now_of, state_of}
 use Rattle.book_core.specs.Lawful.{IsLawful}
@@ -51,9 +54,12 @@ use Rattle.session_run.specs.declared.stage.Stage.TheVariants as stage
 use Rattle.session_run.specs.Kept.{Stands}
 use Rattle.session_run.specs.Stages.{BeginsWith, HasDone, at_stage, explained, with_reply}
 use Rattle.session_run.specs.Turns.{IsNext}
+use Rattle.session_run.specs.Works.{CountsInside, IsWorked, held_in}
 use Rattle.session_run.proofs.OutsideLemmas.{restaged}
 use Rattle.session_run.proofs.OwnLemmas.{event_by, now_is, replied, tree_more}
-use Rattle.session_run.proofs.InsideLemmas.{change_done, ends_open, statement_ends, text_refused}
+use Rattle.session_run.proofs.OwnWorkLemmas.{end_worked, explain_worked, look_worked, offer_worked, query_worked, write_worked}
+use Rattle.session_run.proofs.CountLemmas.{begin_counts, begun_holds, end_counts, explained_holds, look_counts, offer_counts, refuse_counts, write_counts}
+use Rattle.session_run.proofs.InsideLemmas.{change_done, end_shows, ends_open, statement_ends, text_refused}
 use Rattle.session_run.proofs.StageLemmas.{explain_starts, query_starts}
 use Rattle.session_run.proofs.TurnLemmas.{query_can_offer, query_looks, query_offers}
 
@@ -65,15 +71,41 @@ IsWho x who = ◌≡◌ {A = Who} who (record { session = x.number; statement = 
 pub logged : (old new : List Event) (who : Who) (act : Act) (x : Session) → new ≡ old ++ event_of who act ∷ [] → IsWho x who → log_tree new ≡ log_tree old ++ event_by x (act_tree act) ∷ []
 logged old new who act x more is = ap log_tree more ∙ tree_more old (event_of who act) ∙ ap (λ (w : Who). log_tree old ++ event_tree (event_of w act) ∷ []) is
 
+-- an End tells the code of the reply to its statement
+abbrev pub EndsSo : List EventTree → Session → ActTree → Result StmtTree Refusal → Type 0
+EndsSo log x act reading = (code : ℕ) → act ≡ Ends code → code ≡ code_of (shown_over (tables_met log x.number (x.ended + 1)) reading)
+
 -- the session has done it
 pub has_done : (old new : BookView) (before made after : Session) (act : ActTree) → after ≡ made → new.options ≡ old.options → log_tree new.log ≡ log_tree old.log ++ event_by before act ∷ []
-    → IsNext old.options before.pieces before.number (log_tree old.log) (event_by before act) × Stands old.options (log_tree old.log ++ event_by before act ∷ []) made → HasDone old new before after
-has_done old new before made after act same options log does = record {
+    → (does : IsNext old.options before.pieces before.number (log_tree old.log) (event_by before act) × Stands old.options (log_tree old.log ++ event_by before act ∷ []) made)
+    → IsWorked old.options (log_tree old.log ++ event_by before act ∷ []) made → EndsSo (log_tree old.log) before act does.0.reading → HasDone old new before after
+has_done old new before made after act same options log does worked ends = record {
   event = event_by before act;
   log = log;
   next = does.0;
   stands = subst (λ (o : PoolOptions). Stands o (log_tree new.log) after) (sym options) (subst (λ (l : List EventTree). Stands old.options l after) (sym log) (subst (λ (y : Session). Stands old.options (log_tree old.log ++ event_by before act ∷ []) y) (sym same) does.1));
+  worked = subst (λ (o : PoolOptions). IsWorked o (log_tree new.log) after) (sym options) (subst (λ (l : List EventTree). IsWorked old.options l after) (sym log) (subst (λ (y : Session). IsWorked old.options (log_tree old.log ++ event_by before act ∷ []) y) (sym same) worked));
+  ends = ends;
 }
+
+-- and its counter tells so
+abbrev pub DoneSo : BookView → BookView → Session → Session → Type 0
+DoneSo old new x after = HasDone old new x after × ((steps : ℕ) → CountsInside old new x after steps steps)
+
+begins_apart : (code : ℕ) (plan : Option Plan) (last : ℕ) → Begins code plan ≡ Ends last → ⊥
+begins_apart code plan last is = cc
+
+looks_apart : (instr : ℕ) (key : Key) (found : Looked) (last : ℕ) → Looks instr key found ≡ Ends last → ⊥
+looks_apart instr key found last is = cc
+
+admits_apart : (instr : ℕ) (key : Key) (said : Admitted) (last : ℕ) → Admits instr key said ≡ Ends last → ⊥
+admits_apart instr key said last is = cc
+
+writes_apart : (statement : Option StmtTree) (code count last : ℕ) → Writes statement code count ≡ Ends last → ⊥
+writes_apart statement code count last is = cc
+
+same_code : (code last : ℕ) → Ends code ≡ Ends last → last ≡ code
+same_code code last is = cc
 
 -- a log that is lawful behind the event
 pub lawful_then : (old new : BookView) (event : EventTree) → new.options ≡ old.options → log_tree new.log ≡ log_tree old.log ++ event ∷ [] → IsLawful new.options (log_tree new.log) → IsLawful old.options (log_tree old.log ++ event ∷ [])
@@ -92,22 +124,38 @@ change_of (stmt.Explain query) no_query no_explain = absurd (no_explain query re
 
 -- ## A statement begins
 
-module _ (old new : BookView) (who : Who) (x after : Session) (s : Stands old.options (log_tree old.log) x) (is : x.stage ≡ stage.Between) (named : IsWho x who) (options : new.options ≡ old.options)
-    (piece : List ℕ) (here : slice_get x.pieces x.ended ≡ Some piece) where
+module _ (old new : BookView) (who : Who) (x after : Session) (s : Stands old.options (log_tree old.log) x) (w : IsWorked old.options (log_tree old.log) x) (is : x.stage ≡ stage.Between) (named : IsWho x who)
+    (options : new.options ≡ old.options) (piece : List ℕ) (here : slice_get x.pieces x.ended ≡ Some piece) where
   abbrev now : LogState
   now = state_of old
 
-  pub refused_does : (refusal : Refusal) → Reads piece (Err refusal) → new.log ≡ old.log ++ event_of who (act.Write None (refusal_number refusal) 0) ∷ [] → after ≡ with_reply x (shown.Refused refusal) → HasDone old new x after
+  pub refused_does : (refusal : Refusal) → Reads piece (Err refusal) → new.log ≡ old.log ++ event_of who (act.Write None (refusal_number refusal) 0) ∷ [] → after ≡ with_reply x (shown.Refused refusal) → DoneSo old new x after
   refused_does refusal read log same =
-      has_done old new x (with_reply x (shown.Refused refusal)) after (Writes None (refusal_number refusal) 0) same options (logged old.log new.log who (act.Write None (refusal_number refusal) 0) x log named)
-      (text_refused old.options (log_tree old.log) x s is piece here refusal x.work read)
+      let more = logged old.log new.log who (act.Write None (refusal_number refusal) 0) x log named in (
+        has_done old new x (with_reply x (shown.Refused refusal)) after (Writes None (refusal_number refusal) 0) same options more
+            (text_refused old.options (log_tree old.log) x s is piece here refusal x.work read)
+            (write_worked old.options (log_tree old.log) x w None (refusal_number refusal) 0 (shown.Refused refusal))
+            (λ code ends. absurd (writes_apart None (refusal_number refusal) 0 code ends)),
+        refuse_counts old new x after options (refusal_number refusal) 0 is (ap (λ (y : Session). y.work) same) (ap (λ (y : Session). held_in y.stage) same) more,
+      )
 
-  pub change_does : (statement : StmtTree) (reply : Reply) → Reads piece (Ok statement) → is_change statement ≡ true → reply ≡ (effect statement now.db).1 → log_tree new.log ≡ log_tree old.log ++ written_by who statement reply ∷ []
-      → after ≡ with_reply x (shown_reply reply) → HasDone old new x after
-  change_does statement reply read change effects log same =
-      has_done old new x (with_reply x (shown_reply reply)) after (Writes (Some statement) (reply_code reply) (reply_count reply)) same options
-      (log ∙ ap (λ (w : Who). log_tree old.log ++ written_by w statement reply ∷ []) named)
-      (change_done old.options (log_tree old.log) x s is piece here statement reply x.work read change effects)
+  module _ (statement : StmtTree) (reply : Reply) (log : log_tree new.log ≡ log_tree old.log ++ written_by who statement reply ∷ []) (same : after ≡ with_reply x (shown_reply reply)) where
+    abbrev change : ActTree
+    change = Writes (Some statement) (reply_code reply) (reply_count reply)
+
+    change_log : log_tree new.log ≡ log_tree old.log ++ event_by x change ∷ []
+    change_log = log ∙ ap (λ (w : Who). log_tree old.log ++ written_by w statement reply ∷ []) named
+
+    pub change_does : Reads piece (Ok statement) → is_change statement ≡ true → reply ≡ (effect statement now.db).1 → HasDone old new x after
+    change_does read is_one effects =
+        has_done old new x (with_reply x (shown_reply reply)) after change same options change_log
+        (change_done old.options (log_tree old.log) x s is piece here statement reply x.work read is_one effects)
+        (write_worked old.options (log_tree old.log) x w (Some statement) (reply_code reply) (reply_count reply) (shown_reply reply))
+        (λ code ends. absurd (writes_apart (Some statement) (reply_code reply) (reply_count reply) code ends))
+
+    pub change_counts : (steps later : ℕ) → (state_of new).totals.work ≡ now.totals.work + write_work statement now → Counts steps later (write_work statement now) (write_lost statement now.db) → CountsInside old new x after steps later
+    change_counts steps later more counts =
+        write_counts old new x after options statement (reply_code reply) (reply_count reply) (write_work statement now) steps later is (ap (λ (y : Session). y.work) same) (ap (λ (y : Session). held_in y.stage) same) change_log more counts
 
   module _ (query : QueryTree) (outcome : Result Plan Refusal) (next : Stage) (same : after ≡ at_stage x next) where
     -- what a begin tells of its statement
@@ -122,21 +170,34 @@ module _ (old new : BookView) (who : Who) (x after : Session) (s : Stands old.op
       pub fits : IfOk outcome (λ plan. FitsDb plan now.db)
       pub meaning : IfOk outcome (λ plan. plan_rows plan now.db ≡ answer_of_stmt statement now.db)
 
-    pub query_does : (statement : StmtTree) (snap : Content) (marks : List Bool) → statement ≡ Select query → Tells statement snap marks → BeginsWith snap marks outcome next → HasDone old new x after
+    begin_done : (statement : StmtTree) → new.log ≡ old.log ++ event_of who (begin_act statement outcome) ∷ [] → held_in next ≡ 0
+        → IsNext old.options x.pieces x.number (log_tree old.log) (event_by x (act_tree (begin_act statement outcome))) × Stands old.options (log_tree old.log ++ event_by x (act_tree (begin_act statement outcome)) ∷ []) (at_stage x next)
+        → IsWorked old.options (log_tree old.log ++ event_by x (act_tree (begin_act statement outcome)) ∷ []) (at_stage x next) → DoneSo old new x after
+    begin_done statement log none does worked =
+        let code = code_in outcome in
+        let plan = logged_plan statement outcome in
+        let more = logged old.log new.log who (begin_act statement outcome) x log named in (
+          has_done old new x (at_stage x next) after (Begins code plan) same options more does worked (λ last ends. absurd (begins_apart code plan last ends)),
+          begin_counts old new x after options code plan is (ap (λ (y : Session). y.work) same) (ap (λ (y : Session). held_in y.stage) same ∙ none) more,
+        )
+
+    pub query_does : (statement : StmtTree) (snap : Content) (marks : List Bool) → statement ≡ Select query → Tells statement snap marks → BeginsWith snap marks outcome next → DoneSo old new x after
     query_does statement snap marks select tells begins = go (subst (λ (t : StmtTree). Tells t snap marks) select tells)
       where
-        go : Tells (Select query) snap marks → HasDone old new x after
+        go : Tells (Select query) snap marks → DoneSo old new x after
         go told =
-            has_done old new x (at_stage x next) after (act_tree (begin_act (Select query) outcome)) same options (logged old.log new.log who (begin_act (Select query) outcome) x told.log named)
+            begin_done (Select query) told.log (begun_holds outcome snap marks next begins)
             (query_starts old.options (log_tree old.log) x s is piece here query outcome snap marks next x.work told.read told.outcome_is told.db told.versions told.marks_are told.checked told.fits told.meaning begins)
+            (query_worked old.options (log_tree old.log) x query w outcome snap marks next told.db begins)
 
-    pub explain_does : (statement : StmtTree) (snap : Content) (marks : List Bool) → statement ≡ ExplainSelect query → Tells statement snap marks → next ≡ explained outcome → HasDone old new x after
+    pub explain_does : (statement : StmtTree) (snap : Content) (marks : List Bool) → statement ≡ ExplainSelect query → Tells statement snap marks → next ≡ explained outcome → DoneSo old new x after
     explain_does statement snap marks explain tells begins = go (subst (λ (t : StmtTree). Tells t snap marks) explain tells)
       where
-        go : Tells (ExplainSelect query) snap marks → HasDone old new x after
+        go : Tells (ExplainSelect query) snap marks → DoneSo old new x after
         go told =
-            has_done old new x (at_stage x next) after (act_tree (begin_act (ExplainSelect query) outcome)) same options (logged old.log new.log who (begin_act (ExplainSelect query) outcome) x told.log named)
+            begin_done (ExplainSelect query) told.log (explained_holds outcome next begins)
             (explain_starts old.options (log_tree old.log) x s is piece here query outcome next x.work told.read told.outcome_is told.checked begins)
+            (explain_worked old.options (log_tree old.log) x query w outcome next begins)
 
 -- ## A query goes on
 
@@ -144,34 +205,52 @@ module _ (old new : BookView) (who : Who) (x after : Session) (s : Stands old.op
   abbrev state : LogState
   state = state_of old
 
-  pub look_does : (q : Query) (key : Key) (to : Step) → x.stage ≡ stage.Querying (step.Asking q key) → IsLawful old.options (log_tree old.log) → IsLawful new.options (log_tree new.log)
-      → new.log ≡ old.log ++ event_of who (act.Look (length q.values + 1) key (looked_of (look_of state.pool key))) ∷ [] → IsLooked q state.pool key to → after ≡ at_stage x (stage.Querying to) → HasDone old new x after
-  look_does q key to is lawful later log looked same =
-      let look : Act = act.Look (length q.values + 1) key (looked_of (look_of state.pool key)) in
-      let more = logged old.log new.log who look x log named in
-      has_done old new x (at_stage x (stage.Querying to)) after (act_tree look) same options more
-      (query_looks old.options (log_tree old.log) lawful x s q key is to x.work (lawful_then old new (event_by x (act_tree look)) options more later) looked)
+  abbrev Worked : Type 0
+  Worked = IsWorked old.options (log_tree old.log) x
+
+  pub look_does : Worked → (q : Query) (key : Key) (to : Step) → x.stage ≡ stage.Querying (step.Asking q key) → IsLawful old.options (log_tree old.log) → IsLawful new.options (log_tree new.log)
+      → new.log ≡ old.log ++ event_of who (act.Look (length q.values + 1) key (looked_of (look_of state.pool key))) ∷ [] → IsLooked q state.pool key to → after ≡ at_stage x (stage.Querying to) → DoneSo old new x after
+  look_does w q key to is lawful later log looked same =
+      let found = looked_of (look_of state.pool key) in
+      let look : Act = act.Look (length q.values + 1) key found in
+      let more = logged old.log new.log who look x log named in (
+        has_done old new x (at_stage x (stage.Querying to)) after (act_tree look) same options more
+            (query_looks old.options (log_tree old.log) lawful x s q key is to x.work (lawful_then old new (event_by x (act_tree look)) options more later) looked)
+            (look_worked old.options (log_tree old.log) x s w q key found to is looked)
+            (λ code ends. absurd (looks_apart (length q.values + 1) key found code ends)),
+        look_counts old new x after options q state.pool key to (length q.values + 1) found is looked (ap (λ (y : Session). y.work) same) (ap (λ (y : Session). y.stage) same) more,
+      )
 
   pub can_offer : (q : Query) (offer : Offer) → x.stage ≡ stage.Querying (step.Offering q offer) → IsLawful old.options (log_tree old.log) → CanOffer offer.key offer.value offer.work state
   can_offer q offer is lawful = query_can_offer old.options (log_tree old.log) lawful x s q offer is
 
-  pub offer_does : (q : Query) (offer : Offer) (to : Step) (work : ℕ) → x.stage ≡ stage.Querying (step.Offering q offer) → IsLawful old.options (log_tree old.log) → IsLawful new.options (log_tree new.log)
+  pub offer_does : Worked → (q : Query) (offer : Offer) (to : Step) → x.stage ≡ stage.Querying (step.Offering q offer) → IsLawful old.options (log_tree old.log) → IsLawful new.options (log_tree new.log)
       → new.log ≡ old.log ++ event_of who (act.Admit (length q.values + 1) offer.key (admit_of who (now_of old) (key_offer offer.key state) state.pool).0) ∷ []
-      → to ≡ step.Gained q offer.value (id_given (admit_of who (now_of old) (key_offer offer.key state) state.pool).0) → after ≡ restaged x work (stage.Querying to) → HasDone old new x after
-  offer_does q offer to work is lawful later log gained same =
+      → to ≡ step.Gained q offer.value (id_given (admit_of who (now_of old) (key_offer offer.key state) state.pool).0) → after ≡ restaged x (x.work + offer.done) (stage.Querying to) → DoneSo old new x after
+  offer_does w q offer to is lawful later log gained same =
       let me : Who = record { session = x.number; statement = x.ended + 1 } in
       let said : (admit_of who (now_of old) (key_offer offer.key state) state.pool).0 ≡ (admit_of me (state.at + 1) (key_offer offer.key state) state.pool).0 = λ i. (admit_of (named i) (now_is old i) (key_offer offer.key state) state.pool).0 in
-      let admit : Act = act.Admit (length q.values + 1) offer.key (admit_of me (state.at + 1) (key_offer offer.key state) state.pool).0 in
+      let answer = (admit_of me (state.at + 1) (key_offer offer.key state) state.pool).0 in
+      let admit : Act = act.Admit (length q.values + 1) offer.key answer in
       let more = logged old.log new.log who admit x (log ∙ ap (λ (a : Admitted). old.log ++ event_of who (act.Admit (length q.values + 1) offer.key a) ∷ []) said) named in
-      has_done old new x (restaged x work (stage.Querying (step.Gained q offer.value (id_given (admit_of me (state.at + 1) (key_offer offer.key state) state.pool).0)))) after (act_tree admit)
-      (same ∙ ap (λ (t : Step). restaged x work (stage.Querying t)) (gained ∙ ap (λ (a : Admitted). step.Gained q offer.value (id_given a)) said)) options more
-      (query_offers old.options (log_tree old.log) lawful x s q offer is work (lawful_then old new (event_by x (act_tree admit)) options more later))
+      let to_is = gained ∙ ap (λ (a : Admitted). step.Gained q offer.value (id_given a)) said in (
+        has_done old new x (restaged x (x.work + offer.done) (stage.Querying (step.Gained q offer.value (id_given answer)))) after (act_tree admit)
+            (same ∙ ap (λ (t : Step). restaged x (x.work + offer.done) (stage.Querying t)) to_is) options more
+            (query_offers old.options (log_tree old.log) lawful x s q offer is (x.work + offer.done) (lawful_then old new (event_by x (act_tree admit)) options more later))
+            (offer_worked old.options (log_tree old.log) x w q offer answer offer.value (id_given answer) is)
+            (λ code ends. absurd (admits_apart (length q.values + 1) offer.key answer code ends)),
+        offer_counts old new x after options q offer to (length q.values + 1) offer.key answer is (ap held to_is) (ap (λ (y : Session). y.work) same) (ap (λ (y : Session). y.stage) same) more,
+      )
 
   pub end_open : (reply : Shown) (told : ℕ) → x.stage ≡ stage.Querying (step.Ending reply told) → is_open who.session old ≡ true
   end_open reply told is = ap (λ (w : Who). is_open w.session old) named ∙ ends_open old.options (log_tree old.log) x s reply told is old refl
 
-  pub end_does : (reply : Shown) (told code work : ℕ) → x.stage ≡ stage.Querying (step.Ending reply told) → code ≡ code_of reply → new.log ≡ old.log ++ event_of who (act.End code) ∷ [] → after ≡ replied x work reply → HasDone old new x after
-  end_does reply told code work is coded log same =
-      has_done old new x (replied x work reply) after (Ends (code_of reply)) same options
-      (logged old.log new.log who (act.End (code_of reply)) x (log ∙ ap (λ n. old.log ++ event_of who (act.End n) ∷ []) coded) named)
-      (statement_ends old.options (log_tree old.log) x s reply told is work)
+  pub end_does : Worked → (reply : Shown) (told code : ℕ) → x.stage ≡ stage.Querying (step.Ending reply told) → code ≡ code_of reply → new.log ≡ old.log ++ event_of who (act.End code) ∷ [] → after ≡ replied x (x.work + told) reply → DoneSo old new x after
+  end_does w reply told code is coded log same =
+      let more = logged old.log new.log who (act.End (code_of reply)) x (log ∙ ap (λ n. old.log ++ event_of who (act.End n) ∷ []) coded) named in (
+        has_done old new x (replied x (x.work + told) reply) after (Ends (code_of reply)) same options more
+            (statement_ends old.options (log_tree old.log) x s reply told is (x.work + told))
+            (end_worked old.options (log_tree old.log) x w reply told is)
+            (λ last ends. same_code (code_of reply) last ends ∙ ap code_of (end_shows old.options (log_tree old.log) x s reply told is (x.work + told))),
+        end_counts old new x after options reply told is (ap (λ (y : Session). y.work) same) (ap (λ (y : Session). held_in y.stage) same) more,
+      )

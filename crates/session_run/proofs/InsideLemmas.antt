@@ -26,7 +26,7 @@ use Rattle.run_log.specs.Fold.{LogState, run_of}
 use Rattle.store_changes.specs.Outcomes.{is_change}
 use Rattle.answer_text.specs.declared.shown.Shown.{Shown}
 use Rattle.answer_text.specs.declared.shown.Shown.TheVariants as shown
-use Rattle.answer_text.specs.Log.{code_of, shown_explain, shown_over, shown_query, shown_reply}
+use Rattle.answer_text.specs.Log.{code_of, shown_explain, shown_over, shown_query, shown_reply, tables_met}
 use Rattle.book_core.specs.Begins.{begin_act, code_in, unless_refused}
 use Rattle.book_core.specs.BookView.{BookView, is_open}
 use Rattle.book_core.specs.Versions.{HasVersions}
@@ -34,7 +34,7 @@ use Rattle.book_core.specs.Writes.{reply_code, reply_count}
 use Rattle.query_keys.specs.Keys.{AreIdsOf}
 use Rattle.query_run.specs.declared.step.Query.{Query}
 use Rattle.query_run.specs.declared.step.Step.TheVariants as step
-use Rattle.query_run.specs.Queries.{all_values}
+use Rattle.query_run.specs.Queries.{all_values, unmarked_load}
 use Rattle.session_run.specs.declared.session.Session.{Session}
 use Rattle.session_run.specs.declared.stage.Stage.TheVariants as stage
 use Rattle.session_run.specs.Progress.{Progress, progress_by, progress_of}
@@ -43,7 +43,7 @@ use Rattle.session_run.specs.Kept.{HasBegun, IsStage, IsUnder, Knows, Stands, un
 use Rattle.session_run.specs.Kept.{EndsWith as EndsSo}
 use Rattle.session_run.proofs.LogLemmas.{is_begun, open_is_begun}
 use Rattle.session_run.proofs.OutsideLemmas.{restaged}
-use Rattle.session_run.proofs.OwnLemmas.{begun_stands, end_stands, event_by, next_is, replied, whole_stands}
+use Rattle.session_run.proofs.OwnLemmas.{begun_met, begun_stands, end_stands, event_by, next_is, next_reads, replied, whole_stands}
 
 -- ## Statements by themselves
 
@@ -91,6 +91,7 @@ pub record IsFresh (seen : LogState) (plan : Plan) (q : Query) : Type 0 where
   pub marks : q.marks.items ≡ marks_of plan
   pub ids : q.ids.items ≡ []
   pub values : q.values ≡ []
+  pub work : q.work ≡ 0
   pub checked : plan_fault plan ≡ None
   pub fits : FitsDb plan seen.db
 
@@ -102,6 +103,7 @@ fresh_knows seen given plan over q same f = record {
     marks = f.marks ∙ ap marks_of (sym f.plan_is);
     ids = ap length f.ids ∙ sym (ap length f.values);
     values = subst (λ (objs : List Obj). map Some (values_of objs) ≡ take (length objs) (all_values q)) (sym f.values) refl;
+    work = f.work ∙ ap (λ (objs : List Obj). unmarked_load q.snap.db (all_values q) (take (length objs) q.plan.instrs) (take (length objs) (marks_of q.plan))) (sym f.values);
   };
   plan_is = f.plan_is ∙ same;
   db = f.db;
@@ -227,6 +229,16 @@ module _ (options : PoolOptions) (log : List EventTree) (x : Session) (s : Stand
             (sym (ap (λ b. next_act options log who p b (Ok ending.statement)) ending.begun ∙ ends_so.act (run_of options log) who)),
         end_stands options log x s (code_of reply) work reply (ap (untold x.ended) is) ending ends_so.shows,
       )
+
+  -- with the reply that its tables give
+  pub end_shows : (work : ℕ) → reply ≡ shown_over (tables_met log x.number (x.ended + 1)) (statement_ends work).0.reading
+  unfolding statement_ends
+  end_shows work =
+      let p = progress_of x.number log in
+      let who = who_at x.number p in
+      let reads = next_reads options log x s ending.piece ending.here (Ok ending.statement) ending.read (Ends (code_of reply))
+      (sym (ap (λ b. next_act options log who p b (Ok ending.statement)) ending.begun ∙ ends_so.act (run_of options log) who)) in
+      ends_so.shows ∙ ap (λ db. shown_over db (Ok ending.statement)) (sym (begun_met options log x s ending)) ∙ ap (shown_over (tables_met log x.number (x.ended + 1))) (sym reads)
 
   -- it is open until then
   pub ends_open : (book : BookView) → log_tree book.log ≡ log → is_open x.number book ≡ true

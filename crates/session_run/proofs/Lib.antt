@@ -3,7 +3,11 @@ pub mod OtherLemmas
 pub mod OutsideLemmas
 pub mod OwnLemmas
 pub mod InsideLemmas
+pub mod WorkLemmas
+pub mod OwnWorkLemmas
+pub mod CountLemmas
 pub mod TurnLemmas
-pub mod DoesLemmas
 pub mod StageLemmas
+pub mod DoesLemmas
+pub mod WorkedLemmas
 pub mod RunLemmas

@@ -62,7 +62,7 @@ module _ (seen : LogState) (given later : List Face) (stay : WorthsStay given la
   step_stays plan ids asked (step.Found q found parts) is = (knows_stays plan q is.0, is.1, is.2, is.3)
   step_stays plan ids asked (step.Offering q offer) is = (knows_stays plan q is.0, is.1, is.2, is.3)
   step_stays plan ids asked (step.Gained q value id) is =
-      (knows_stays plan q is.0, is.1, is.2, is.3, λ above. let one = is.4 above in stay id (subst (λ o. IsSome o) (sym one) refl) ∙ one)
+      (knows_stays plan q is.0, is.1, is.2, is.3, is.4, λ above. let one = is.5 above in stay id (subst (λ o. IsSome o) (sym one) refl) ∙ one)
   step_stays plan ids asked (step.Ending reply work) is = is
 
   run_stays : (p : Progress) (statement : StmtTree) (at : Step) → IsRun seen given p statement at → IsRun seen later p statement at

@@ -25,6 +25,8 @@ use Rattle.pool_policy.specs.declared.entry.Who.{Who}
 use Rattle.pool_policy.specs.declared.options.PoolOptions.{PoolOptions}
 use Rattle.pool_policy.specs.Keeps.{Face}
 use Rattle.pool_policy.specs.Worths.{worth}
+use Rattle.recycle_pool.specs.declared.found.Found.{Found}
+use Rattle.recycle_pool.specs.declared.found.Part.{Part}
 use Rattle.run_log.specs.Events.{Ends, EventTree}
 use Rattle.run_log.specs.Fold.{LogState, run_of}
 use Rattle.answer_text.specs.declared.shown.Shown.{Shown}
@@ -140,13 +142,13 @@ module _ (seen : LogState) (given : List Face) (p : Progress) (statement : StmtT
   shows_rows = ap (λ st. shown_over seen.db (Ok st)) select ∙ ap (λ why. shown_query why (answer query seen.db)) accepted ∙ ap (shown_query None) (sym meaning)
 
   -- it ends where it waits for no result
-  goes_ends : (q : Query) → Knows seen given plan q → (ids : List ℕ) → p.ids ≡ ids → p.asked ≡ false → (reply : Shown) → EndsWith q.snap q.plan ids reply → EndsSo seen p statement reply
-  goes_ends q k ids same not_asked reply (Overflows next none is) = record {
+  goes_ends : (q : Query) → Knows seen given plan q → (ids : List ℕ) → p.ids ≡ ids → p.asked ≡ false → (reply : Shown) (work : ℕ) → EndsWith q.snap q.plan ids reply work → EndsSo seen p statement reply
+  goes_ends q k ids same not_asked reply work (Overflows next none is no_work) = record {
     act = λ s who. later_is s who ∙ ap (query_act s who seen plan p.ids) not_asked
         ∙ ap (act_of_next s seen.versions p.ids) (ap (next_over seen.db plan) same ∙ next_known seen given plan q ids k ∙ next) ∙ ap (λ r. Ends (code_of r)) (sym is);
     shows = is ∙ sym (shows_rows ∙ ap (shown_query None) (rows_known seen given plan q k ∙ none));
   }
-  goes_ends q k ids same not_asked reply (HasRows rows next some is) = record {
+  goes_ends q k ids same not_asked reply work (HasRows rows next some is counted) = record {
     act = λ s who. later_is s who ∙ ap (query_act s who seen plan p.ids) not_asked
         ∙ ap (act_of_next s seen.versions p.ids) (ap (next_over seen.db plan) same ∙ next_known seen given plan q ids k ∙ next) ∙ ap (λ r. Ends (code_of r)) (sym is);
     shows = is ∙ sym (shows_rows ∙ ap (shown_query None) (rows_known seen given plan q k ∙ some));
@@ -156,7 +158,7 @@ module _ (seen : LogState) (given : List Face) (p : Progress) (statement : StmtT
       → IsUnder seen given p statement (stage.Querying to)
   comes_on q k ids are same not_asked (step.Asking to key) asks =
       run_at (step.Asking to key) (goes_known seen given plan q k ids are to asks.goes, subst (λ is. AsksFor to.snap to.plan is to key) (sym same) (asks_known q to ids key asks), not_asked)
-  comes_on q k ids are same not_asked (step.Ending reply work) ends = goes_ends q k ids same not_asked reply ends
+  comes_on q k ids are same not_asked (step.Ending reply work) ends = goes_ends q k ids same not_asked reply work ends
   comes_on q k ids are same not_asked (step.Begun to) none = absurd none
   comes_on q k ids are same not_asked (step.Found to found parts) none = absurd none
   comes_on q k ids are same not_asked (step.Offering to offer) none = absurd none
@@ -177,14 +179,14 @@ module _ (seen : LogState) (given : List Face) (p : Progress) (statement : StmtT
       here : slice_get plan.instrs (length q.ids.items) ≡ Some instr
       here = ap (λ (pl : Plan). slice_get pl.instrs (length q.ids.items)) (sym k.plan_is) ∙ ap (slice_get q.plan.instrs) k.under.ids ∙ at.here
 
-  becomes_on : (q : Query) → Knows seen given plan q → p.ids ≡ q.ids.items → p.asked ≡ true → (instr : Instr) → IsAt q instr → (to : Step) → BecomesOf q instr to → IsUnder seen given p statement (stage.Querying to)
-  becomes_on q k same asked instr at (step.Offering to offer) b =
+  becomes_on : (q : Query) → Knows seen given plan q → p.ids ≡ q.ids.items → p.asked ≡ true → (instr : Instr) → IsAt q instr → (what : Found) (parts : List Part) (to : Step) → BecomesOf q instr what parts to → IsUnder seen given p statement (stage.Querying to)
+  becomes_on q k same asked instr at what parts (step.Offering to offer) b =
       run_at (step.Offering to offer) (subst (λ r. IsStep seen given plan p.ids p.asked (step.Offering r offer)) (sym b.0) (k, sym same, asked, (instr, at, b.1)))
-  becomes_on q k same asked instr at (step.Ending reply work) b = offer_ends q k same asked instr at b.0 b.1 reply b.2
-  becomes_on q k same asked instr at (step.Begun to) none = absurd none
-  becomes_on q k same asked instr at (step.Asking to key) none = absurd none
-  becomes_on q k same asked instr at (step.Found to found parts) none = absurd none
-  becomes_on q k same asked instr at (step.Gained to value id) none = absurd none
+  becomes_on q k same asked instr at what parts (step.Ending reply work) b = offer_ends q k same asked instr at b.0 b.1 reply b.2
+  becomes_on q k same asked instr at what parts (step.Begun to) none = absurd none
+  becomes_on q k same asked instr at what parts (step.Asking to key) none = absurd none
+  becomes_on q k same asked instr at what parts (step.Found to other pieces) none = absurd none
+  becomes_on q k same asked instr at what parts (step.Gained to value id) none = absurd none
 
 module _ (seen : LogState) (given : List Face) (p : Progress) (statement : StmtTree) where
   abbrev At : Step → Type 0
@@ -201,11 +203,11 @@ module _ (seen : LogState) (given : List Face) (p : Progress) (statement : StmtT
       comes_on seen given p statement run.query run.select run.accepted run.meaning q run.step.0 q.ids.items run.step.0.ids (sym run.step.1) run.step.2 to c
   computes_on (step.Asking q key) to run c = subst At (sym c) run
   computes_on (step.Found q found parts) to run c =
-      becomes_on seen given p statement run.query run.select run.accepted run.meaning q run.step.0 (sym run.step.1) run.step.2 run.step.3.0 run.step.3.1 to (c run.step.3.0 run.step.3.1)
+      becomes_on seen given p statement run.query run.select run.accepted run.meaning q run.step.0 (sym run.step.1) run.step.2 run.step.3.0 run.step.3.1 found parts.items to (c run.step.3.0 run.step.3.1)
   computes_on (step.Offering q offer) to run c = subst At (sym c) run
   computes_on (step.Gained q value id) to run c =
       comes_on seen given p statement run.query run.select run.accepted run.meaning q run.step.0 (q.ids.items ++ id ∷ [])
-      (gained_ids run.query q run.step.0 id value run.step.1 run.step.4) run.step.2 run.step.3 to c
+      (gained_ids run.query q run.step.0 id value run.step.1 run.step.5) run.step.3 run.step.4 to c
   computes_on (step.Ending reply work) to ends c = subst At (sym c) ends
 
   -- and it may compute
@@ -214,7 +216,7 @@ module _ (seen : LogState) (given : List Face) (p : Progress) (statement : StmtT
   step_sound (step.Asking q key) run = tt
   step_sound (step.Found q found parts) run = (run.step.0.under, run.step.3)
   step_sound (step.Offering q offer) run = tt
-  step_sound (step.Gained q value id) run = (run.step.0.under, run.step.1)
+  step_sound (step.Gained q value id) run = (run.step.0.under, run.step.1, run.step.2)
   step_sound (step.Ending reply work) ends = tt
 
   -- an EXPLAIN ends with the text of its plan

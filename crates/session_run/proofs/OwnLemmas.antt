@@ -78,6 +78,12 @@ module _ (options : PoolOptions) (log : List EventTree) (x : Session) (s : Stand
     is = ap (λ a. event_by x a) is ∙ ap (λ n. let e : EventTree = record { session = x.number; statement = n + 1; act = next_act options log (who_at x.number before) before before.begun reading } in e) (sym s.ended);
   }
 
+  -- by this reading of its text
+  pub next_reads : (piece : List ℕ) (here : slice_get x.pieces x.ended ≡ Some piece) (reading : Result StmtTree Refusal) (read : Reads piece reading) (act : ActTree)
+      (is : act ≡ next_act options log (who_at x.number before) before before.begun reading) → (next_is piece here reading read act is).reading ≡ reading
+  unfolding next_is
+  next_reads piece here reading read act is = refl
+
   module _ (act : ActTree) where
     abbrev later : List EventTree
     later = log ++ event_by x act ∷ []
@@ -203,6 +209,10 @@ module _ (options : PoolOptions) (log : List EventTree) (x : Session) (s : Stand
         under = subst (λ (t : LogState). IsUnder t (run_of options (log ++ event ∷ [])).given (after act) has.statement now) (sym (state_stays options log event has.at (omega (arith, within)))) under;
       }))
 
+  -- its statement meets the tables before its Begin
+  pub begun_met : (has : HasBegun options log x before) → tables_met log x.number (x.ended + 1) ≡ (state_before options log has.at).db
+  begun_met has = ap (tables_at log) has.place ∙ sym (logs_tell_holds.tables options (take (has.at - 1) log))
+
   -- a query or an EXPLAIN has ended with this reply
   pub end_stands : (code work : ℕ) (reply : Shown) → untold x.ended x.stage ≡ [] → (has : HasBegun options log x before) → reply ≡ shown_over (state_before options log has.at).db (Ok has.statement)
       → Stands options (log ++ event_by x (Ends code) ∷ []) (replied x work reply)
@@ -212,7 +222,7 @@ module _ (options : PoolOptions) (log : List EventTree) (x : Session) (s : Stand
       let within = has.within in
       let place = has.place in
       let met : tables_met (log ++ event ∷ []) x.number (x.ended + 1) ≡ (state_before options log has.at).db =
-      tables_stay x.number (x.ended + 1) log event (omega (arith, place, within)) ∙ ap (tables_at log) place ∙ sym (logs_tell_holds.tables options (take (has.at - 1) log)) in
+      tables_stay x.number (x.ended + 1) log event (omega (arith, place, within)) ∙ begun_met has in
       at_end (Ends code) work reply told (ap (λ n. n + 1) s.ended) refl
       (placed_quiet x.number (x.ended + 1) log event refl placed)
       (replies_stay x.number (x.ended + 1) log event s.readings placed (let count = stands_count options log x s in omega (arith, count)))

@@ -169,6 +169,7 @@ module _ (options : PoolOptions) (log : List EventTree) (x : Session) (s : Stand
         marks = new.marks_are ∙ marked;
         ids = new.ids;
         values = new.values;
+        work = new.work;
         checked = checked;
         fits = fits;
       }) meaning)

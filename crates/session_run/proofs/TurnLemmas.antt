@@ -51,7 +51,7 @@ use Rattle.query_run.specs.Next.{Asks, next_from, padded}
 use Rattle.query_run.specs.Queries.{IsAt, IsLooked, IsOffered, Serves, all_values, versions_in}
 use Rattle.session_run.specs.declared.session.Session.{Session}
 use Rattle.session_run.specs.declared.stage.Stage.TheVariants as stage
-use Rattle.session_run.specs.Progress.{Progress, looked_up, progress_of}
+use Rattle.session_run.specs.Progress.{Progress, looked_up, progress_by, progress_of}
 use Rattle.session_run.specs.Turns.{IsNext, act_of_next, act_of_offer, next_act, query_act, state_before, who_at}
 use Rattle.session_run.specs.Kept.{HasBegun, IsRun, IsStage, IsStep, IsUnder, Knows, Stands, untold}
 use Rattle.session_run.proofs.LogLemmas.{lawful_sound, looked_begun, looked_ended, state_remembers, worths_next}
@@ -182,7 +182,7 @@ module _ (options : PoolOptions) (log : List EventTree) (lawful : IsLawful optio
     later = log ++ event_by x look ∷ []
 
     abbrev behind : Finding → Progress
-    behind finding = looked_up (length q.values + 1) (looked_of finding) p
+    behind finding = progress_by (length log + 1) (Looks (length q.values + 1) key (looked_of finding)) p
 
     key_is : key ≡ instr_key run.step.1.instr seen.versions q.ids.items
     key_is = run.step.1.key_is ∙ key_known seen now.given (plan_over seen.db run.query) q run.step.0 run.step.1.instr q.ids.items
@@ -210,6 +210,7 @@ module _ (options : PoolOptions) (log : List EventTree) (lawful : IsLawful optio
         (run_behind given (behind (Exact id)) (step.Gained q value id) (
           knows_behind given stay,
           sym (value_known seen now.given (plan_over seen.db run.query) q run.step.0) ∙ serves.0,
+          run.step.1.at.marked,
           ap (λ ids. ids ++ id ∷ []) padded_is,
           run.step.2,
           λ above. stay id (subst (λ o. IsSome o) (sym serves.1) refl) ∙ serves.1,
@@ -219,8 +220,8 @@ module _ (options : PoolOptions) (log : List EventTree) (lawful : IsLawful optio
         → ((id : ℕ) → look_of now.pool key ≡ Exact id → ⊥) → IsUnder seen given (behind (look_of now.pool key)) asking.statement (stage.Querying (step.Found q what parts))
     found_behind given stay what parts same out not_exact =
         let keyed = ap (look_of now.pool) key_is in
-        subst (λ (r : Progress). IsRun seen given r asking.statement (step.Found q what parts)) (sym (in_vain (length q.values + 1) what parts.items (look_of now.pool key) p same not_exact))
-        (run_behind given (record p { ids = padded ((length q.values + 1) - 1) p.ids; asked = true }) (step.Found q what parts) (
+        subst (λ (r : Progress). IsRun seen given (record r { looked = length log + 1 }) asking.statement (step.Found q what parts)) (sym (in_vain (length q.values + 1) what parts.items (look_of now.pool key) p same not_exact))
+        (run_behind given (record p { ids = padded ((length q.values + 1) - 1) p.ids; asked = true; looked = length log + 1 }) (step.Found q what parts) (
           knows_behind given stay,
           sym padded_is,
           refl,
@@ -340,6 +341,7 @@ module _ (options : PoolOptions) (log : List EventTree) (lawful : IsLawful optio
             step = (
               knows_stays since now.given (run_of options admitted).given (worths_next options log (event_by x admission) lawful_later) plan q offers.step.0,
               offered.value,
+              offers.step.3.1.marked,
               ap (λ ids. ids ++ id_given (answer_of who offer.key) ∷ []) (sym offers.step.1),
               refl,
               given_worth,

@@ -5,6 +5,7 @@ use Rattle.cell_core.specs.declared.operator.Value.TheVariants.{Bat}
 use Rattle.mal_meaning.specs.declared.plan.Plan.{Plan}
 use Rattle.mal_meaning.specs.Meaning.{plan_rows, plan_values}
 use Rattle.mal_check.specs.Checked.{plan_fault}
+use Rattle.recycle_mark.specs.Marks.{marks_of}
 use Rattle.sql_tree.specs.Tree.{QueryTree, StmtTree}
 use Rattle.sql_tree.specs.Tree.StmtTree.{Select, ExplainSelect}
 use Rattle.sql_semantics.specs.Answer.{answer}
@@ -49,7 +50,7 @@ IsStep seen given plan ids asked (step.Begun q) = Knows seen given plan q × (q.
 IsStep seen given plan ids asked (step.Asking q key) = Knows seen given plan q × AsksFor q.snap q.plan ids q key × (asked ≡ false)
 IsStep seen given plan ids asked (step.Found q found parts) = Knows seen given plan q × (q.ids.items ≡ ids) × (asked ≡ true) × ((instr : Instr) × IsAt q instr × Serves q instr found parts.items)
 IsStep seen given plan ids asked (step.Offering q offer) = Knows seen given plan q × (q.ids.items ≡ ids) × (asked ≡ true) × ((instr : Instr) × IsAt q instr × IsOffered q instr offer)
-IsStep seen given plan ids asked (step.Gained q value id) = Knows seen given plan q × (next_value q ≡ Some (Some (Bat value))) × (ids ≡ q.ids.items ++ id ∷ []) × (asked ≡ false) × (0 < id → worth given id ≡ Some value)
+IsStep seen given plan ids asked (step.Gained q value id) = Knows seen given plan q × (next_value q ≡ Some (Some (Bat value))) × (slice_get (marks_of q.plan) (length q.values) ≡ Some true) × (ids ≡ q.ids.items ++ id ∷ []) × (asked ≡ false) × (0 < id → worth given id ≡ Some value)
 IsStep seen given plan ids asked (step.Ending reply work) = ⊥
 
 -- ## Statements that have begun

@@ -6,10 +6,11 @@ use Rattle.table_store.specs.Content.{Content}
 use Rattle.query_run.specs.declared.step.Query.{Query}
 use Rattle.mal_check.specs.Checked.{plan_fault}
 use Rattle.mal_print.specs.Canon.{plan_text}
-use Rattle.run_log.specs.Events.{EventTree, log_tree}
+use Rattle.run_log.specs.Events.{Ends, EventTree, log_tree}
 use Rattle.answer_text.specs.declared.shown.Shown.{Shown}
 use Rattle.answer_text.specs.declared.shown.Shown.TheVariants as shown
 use Rattle.answer_text.specs.Layout.{reply_text}
+use Rattle.answer_text.specs.Log.{code_of, shown_over, tables_met}
 use Rattle.book_core.specs.BookView.{BookView}
 use Rattle.query_run.specs.declared.step.Step.{Step}
 use Rattle.query_run.specs.declared.step.Step.TheVariants as step
@@ -19,6 +20,7 @@ use Rattle.session_run.specs.declared.stage.Stage.{Stage}
 use Rattle.session_run.specs.declared.stage.Stage.TheVariants as stage
 use Rattle.session_run.specs.Kept.{Stands}
 use Rattle.session_run.specs.Turns.{IsNext}
+use Rattle.session_run.specs.Works.{IsWorked}
 
 -- ## Outside
 
@@ -40,6 +42,7 @@ pub record HasComputed (old new : Session) : Type 0 where
   pub number : new.number ≡ old.number
   pub pieces : new.pieces ≡ old.pieces
   pub ended : new.ended ≡ old.ended
+  pub work : new.work ≡ old.work
   pub stage : ComesTo old.stage old.ended old.text.items new.stage new.text.items
 
 -- ## Inside
@@ -60,12 +63,14 @@ at_stage x next = record x { stage = next }
 abbrev pub with_reply : Session → Shown → Session
 with_reply x reply = record x { ended = x.ended + 1; stage = stage.Telling reply }
 
--- a session does its next event, and then stands where the log says
+-- a session does its next event, and then stands where the log says, with the work that its events count; an End tells the code of the reply
 pub record HasDone (old new : BookView) (before after : Session) : Type 0 where
   pub event : EventTree
   pub log : log_tree new.log ≡ log_tree old.log ++ event ∷ []
   pub next : IsNext old.options before.pieces before.number (log_tree old.log) event
   pub stands : Stands new.options (log_tree new.log) after
+  pub worked : IsWorked new.options (log_tree new.log) after
+  pub ends : (code : ℕ) → event.act ≡ Ends code → code ≡ code_of (shown_over (tables_met (log_tree old.log) event.session event.statement) next.reading)
 
 -- ## A query begins
 
@@ -76,6 +81,7 @@ pub record IsNew (q : Query) (snap : Content) (plan : Plan) (marks : List Bool) 
   pub marks_are : q.marks.items ≡ marks
   pub ids : q.ids.items ≡ []
   pub values : q.values ≡ []
+  pub work : q.work ≡ 0
 
 -- the stage of a query that has begun with a plan, or that is refused
 abbrev pub BeginsWith : Content → List Bool → Result Plan Refusal → Stage → Type 0

@@ -1,11 +1,12 @@
 //! The events of a query under way.
-ghost use Rattle.std.specs.Prelude.{◌≡◌, ◌<◌, length, OnOk, OnErr};
+ghost use Rattle.std.specs.Prelude.{◌≡◌, ℕ, ◌<◌, length, OnOk, OnErr};
 ghost use Rattle.run_log.specs.Events.{log_tree};
 ghost use Rattle.answer_text.specs.Log.{code_of as code_shown};
 ghost use Rattle.query_run.specs.declared.step.Step.TheVariants as step;
 ghost use Rattle.session_run.specs.declared.stage.Stage.TheVariants as stage;
 ghost use Rattle.session_run.specs.Kept.{Stands};
 ghost use Rattle.session_run.specs.Stages.{HasDone, IsReady, at_stage};
+ghost use Rattle.session_run.specs.Works.{CountsInside, IsWorked};
 
 use crate::session::Session;
 use crate::stage::Stage;
@@ -29,12 +30,14 @@ impl Session {
         requires kind { scorer.now.kind ≡ book.old.options.evict }
         requires weights { scorer.now.weights.items ≡ book.old.options.weights }
         requires stands { Stands book.old.options (log_tree book.old.log) (at_stage self.old (stage.Querying step)) }
+        requires worked { IsWorked book.old.options (log_tree book.old.log) (at_stage self.old (stage.Querying step)) }
         requires more { self.old.ended < length self.old.pieces }
         requires ready { IsReady (stage.Querying step) }
         ensures options { book.new.options ≡ book.old.options }
         ensures number { OnOk result (self.new.number ≡ self.old.number) }
         ensures pieces { OnOk result (self.new.pieces ≡ self.old.pieces) }
         ensures does { OnOk result (HasDone book.old book.new (at_stage self.old (stage.Querying step)) self.new) }
+        ensures counts { OnOk result ((steps : ℕ) → CountsInside book.old book.new (at_stage self.old (stage.Querying step)) self.new steps steps) }
         ensures same { OnErr result (book.new ≡ book.old) }
     {
         match step {
@@ -48,13 +51,16 @@ impl Session {
     /// Asks the pool for the next result.
     fn ask(&mut self, alloc: Global, book: &mut Book, query: Query, key: Key) -> Result<(), Memory>
         requires stands { Stands book.old.options (log_tree book.old.log) (at_stage self.old (stage.Querying (step.Asking query key))) }
+        requires worked { IsWorked book.old.options (log_tree book.old.log) (at_stage self.old (stage.Querying (step.Asking query key))) }
         requires more { self.old.ended < length self.old.pieces }
         ensures options { book.new.options ≡ book.old.options }
         ensures number { OnOk result (self.new.number ≡ self.old.number) }
         ensures pieces { OnOk result (self.new.pieces ≡ self.old.pieces) }
         ensures does { OnOk result (HasDone book.old book.new (at_stage self.old (stage.Querying (step.Asking query key))) self.new) }
+        ensures counts { OnOk result ((steps : ℕ) → CountsInside book.old book.new (at_stage self.old (stage.Querying (step.Asking query key))) self.new steps steps) }
         ensures same { OnErr result (book.new ≡ book.old) }
     {
+        // What the book keeps is read before and after the event: a log that is lawful.
         let _ = book.log();
         let who = self.who();
         let next = query.ask(alloc, book, who, key)?;
@@ -75,11 +81,13 @@ impl Session {
         requires kind { scorer.now.kind ≡ book.old.options.evict }
         requires weights { scorer.now.weights.items ≡ book.old.options.weights }
         requires stands { Stands book.old.options (log_tree book.old.log) (at_stage self.old (stage.Querying (step.Offering query offer))) }
+        requires worked { IsWorked book.old.options (log_tree book.old.log) (at_stage self.old (stage.Querying (step.Offering query offer))) }
         requires more { self.old.ended < length self.old.pieces }
         ensures options { book.new.options ≡ book.old.options }
         ensures number { OnOk result (self.new.number ≡ self.old.number) }
         ensures pieces { OnOk result (self.new.pieces ≡ self.old.pieces) }
         ensures does { OnOk result (HasDone book.old book.new (at_stage self.old (stage.Querying (step.Offering query offer))) self.new) }
+        ensures counts { OnOk result ((steps : ℕ) → CountsInside book.old book.new (at_stage self.old (stage.Querying (step.Offering query offer))) self.new steps steps) }
         ensures same { OnErr result (book.new ≡ book.old) }
     {
         let _ = book.log();
@@ -95,11 +103,13 @@ impl Session {
     /// Ends its query with this reply.
     fn end(&mut self, book: &mut Book, shown: Shown, work: u128) -> Result<(), Memory>
         requires stands { Stands book.old.options (log_tree book.old.log) (at_stage self.old (stage.Querying (step.Ending shown work))) }
+        requires worked { IsWorked book.old.options (log_tree book.old.log) (at_stage self.old (stage.Querying (step.Ending shown work))) }
         requires more { self.old.ended < length self.old.pieces }
         ensures options { book.new.options ≡ book.old.options }
         ensures number { OnOk result (self.new.number ≡ self.old.number) }
         ensures pieces { OnOk result (self.new.pieces ≡ self.old.pieces) }
         ensures does { OnOk result (HasDone book.old book.new (at_stage self.old (stage.Querying (step.Ending shown work))) self.new) }
+        ensures counts { OnOk result ((steps : ℕ) → CountsInside book.old book.new (at_stage self.old (stage.Querying (step.Ending shown work))) self.new steps steps) }
         ensures same { OnErr result (book.new ≡ book.old) }
     {
         let _ = book.log();

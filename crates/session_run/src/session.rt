@@ -8,6 +8,7 @@ ghost use Rattle.answer_text.specs.declared.shown.Shown.TheVariants as shown;
 ghost use Rattle.query_run.specs.declared.step.Step.TheVariants as step;
 ghost use Rattle.session_run.specs.declared.stage.Stage.TheVariants as stage;
 ghost use Rattle.session_run.specs.Kept.{Stands};
+ghost use Rattle.session_run.specs.Works.{CountsInside, CountsOutside, IsWorked, done_by, held_in, lost_in};
 ghost use Rattle.session_run.specs.Stages.{ComesTo, HasComputed, HasDone, IsReady, IsSoundStage, at_stage, with_reply};
 
 use crate::stage::Stage;
@@ -50,6 +51,8 @@ impl Session {
         ensures number { result.number ≡ number }
         ensures pieces { result.pieces ≡ pieces }
         ensures stands { (options : OptionsSeen) → Stands options [] result }
+        ensures worked { (options : OptionsSeen) → IsWorked options [] result }
+        ensures done { done_by result ≡ 0 }
     {
         Session {
             number,
@@ -79,7 +82,8 @@ impl Session {
         }
     }
 
-    /// Computes what the next event needs, and writes the reply of a statement that has ended.
+    /// Computes what the next event needs, and writes the reply of a statement that has ended. The counter
+    /// rises by the work that is done; where the query's plan overflows, by at most its load more.
     pub fn outside<E: Operate, L: Ledger>(
         &mut self,
         alloc: Global,
@@ -87,14 +91,17 @@ impl Session {
         steps: &mut Steps<L>,
     ) -> Result<(), Memory>
         requires { IsSoundStage self.old.stage }
-        ensures { OnOk result (HasComputed self.old self.new) }
+        ensures computed { OnOk result (HasComputed self.old self.new) }
+        ensures counts { OnOk result (CountsOutside self.old self.new steps.old steps.new) }
     {
         let stage = mem::replace(&mut self.stage, Stage::Between);
         self.stage = compute(alloc, stage, self.ended, &mut self.text, kernel, steps)?;
         Ok(())
     }
 
-    /// Does the next event. After Memory the book is as before, and nothing is said of the session.
+    /// Does the next event. After Memory the book is as before, and nothing is said of the session. The
+    /// counter rises by what a write adds to the work of the totals; where its plan overflows, by at most
+    /// its load more.
     pub fn inside<E: Operate, L: Ledger>(
         &mut self,
         alloc: Global,
@@ -106,12 +113,14 @@ impl Session {
         requires kind { scorer.now.kind ≡ book.old.options.evict }
         requires weights { scorer.now.weights.items ≡ book.old.options.weights }
         requires stands { Stands book.old.options (log_tree book.old.log) self.old }
+        requires worked { IsWorked book.old.options (log_tree book.old.log) self.old }
         requires more { self.old.ended < length self.old.pieces }
         requires ready { IsReady self.old.stage }
         ensures options { book.new.options ≡ book.old.options }
         ensures number { OnOk result (self.new.number ≡ self.old.number) }
         ensures pieces { OnOk result (self.new.pieces ≡ self.old.pieces) }
         ensures does { OnOk result (HasDone book.old book.new self.old self.new) }
+        ensures counts { OnOk result (CountsInside book.old book.new self.old self.new steps.old steps.new) }
         ensures same { OnErr result (book.new ≡ book.old) }
     {
         let stage = mem::replace(&mut self.stage, Stage::Between);
@@ -142,7 +151,9 @@ fn compute<E: Operate, L: Ledger>(
     steps: &mut Steps<L>,
 ) -> Result<Stage, Memory>
     requires { IsSoundStage stage }
-    ensures { IfOk result (λ next. ComesTo stage ended text.old.items next text.new.items) }
+    ensures stage { IfOk result (λ next. ComesTo stage ended text.old.items next text.new.items) }
+    ensures least { IfOk result (λ next. steps.old + held_in next ≤ steps.new + held_in stage) }
+    ensures most { IfOk result (λ next. steps.new + held_in stage ≤ (steps.old + held_in next) + lost_in stage next) }
 {
     match stage {
         Stage::Querying(step) => Ok(Stage::Querying(step.outside(alloc, kernel, steps)?)),

@@ -12,6 +12,7 @@ ghost use Rattle.store_changes.specs.Outcomes.{is_change};
 ghost use Rattle.session_run.specs.declared.stage.Stage.TheVariants as stage;
 ghost use Rattle.session_run.specs.Kept.{Stands};
 ghost use Rattle.session_run.specs.Stages.{BeginsWith, HasDone, explained};
+ghost use Rattle.session_run.specs.Works.{CountsInside, IsWorked};
 ghost use Rattle.query_run.specs.declared.step.Step.TheVariants as step;
 ghost use Rattle.answer_text.specs.declared.shown.Shown.TheVariants as shown;
 
@@ -43,11 +44,13 @@ impl Session {
         requires weights { scorer.now.weights.items ≡ book.old.options.weights }
         requires between { self.old.stage ≡ stage.Between }
         requires stands { Stands book.old.options (log_tree book.old.log) self.old }
+        requires worked { IsWorked book.old.options (log_tree book.old.log) self.old }
         requires more { self.old.ended < length self.old.pieces }
         ensures options { book.new.options ≡ book.old.options }
         ensures number { OnOk result (self.new.number ≡ self.old.number) }
         ensures pieces { OnOk result (self.new.pieces ≡ self.old.pieces) }
         ensures does { OnOk result (HasDone book.old book.new self.old self.new) }
+        ensures counts { OnOk result (CountsInside book.old book.new self.old self.new steps.old steps.new) }
         ensures same { OnErr result (book.new ≡ book.old) }
     {
         match self.read_next(alloc) {
@@ -79,11 +82,13 @@ impl Session {
     fn refuse(&mut self, book: &mut Book, refusal: Refusal) -> Result<(), Memory>
         requires between { self.old.stage ≡ stage.Between }
         requires stands { Stands book.old.options (log_tree book.old.log) self.old }
+        requires worked { IsWorked book.old.options (log_tree book.old.log) self.old }
         requires read { (piece : List ℕ) × (slice_get self.old.pieces self.old.ended ≡ Some piece) × Reads piece (Err refusal) }
         ensures options { book.new.options ≡ book.old.options }
         ensures number { OnOk result (self.new.number ≡ self.old.number) }
         ensures pieces { OnOk result (self.new.pieces ≡ self.old.pieces) }
         ensures does { OnOk result (HasDone book.old book.new self.old self.new) }
+        ensures counts { OnOk result ((steps : ℕ) → CountsInside book.old book.new self.old self.new steps steps) }
         ensures same { OnErr result (book.new ≡ book.old) }
     {
         let _ = book.log();
@@ -106,12 +111,14 @@ impl Session {
         requires weights { scorer.now.weights.items ≡ book.old.options.weights }
         requires between { self.old.stage ≡ stage.Between }
         requires stands { Stands book.old.options (log_tree book.old.log) self.old }
+        requires worked { IsWorked book.old.options (log_tree book.old.log) self.old }
         requires formed { IsFormed (stmt_tree stmt) }
         requires read { (piece : List ℕ) × (slice_get self.old.pieces self.old.ended ≡ Some piece) × Reads piece (Ok (stmt_tree stmt)) }
         ensures options { book.new.options ≡ book.old.options }
         ensures number { OnOk result (self.new.number ≡ self.old.number) }
         ensures pieces { OnOk result (self.new.pieces ≡ self.old.pieces) }
         ensures does { OnOk result (HasDone book.old book.new self.old self.new) }
+        ensures counts { OnOk result (CountsInside book.old book.new self.old self.new steps.old steps.new) }
         ensures same { OnErr result (book.new ≡ book.old) }
     {
         match &stmt {
@@ -135,6 +142,7 @@ impl Session {
         requires weights { scorer.now.weights.items ≡ book.old.options.weights }
         requires between { self.old.stage ≡ stage.Between }
         requires stands { Stands book.old.options (log_tree book.old.log) self.old }
+        requires worked { IsWorked book.old.options (log_tree book.old.log) self.old }
         requires change { is_change (stmt_tree stmt.now) ≡ true }
         requires formed { IsFormed (stmt_tree stmt.now) }
         requires read { (piece : List ℕ) × (slice_get self.old.pieces self.old.ended ≡ Some piece) × Reads piece (Ok (stmt_tree stmt.now)) }
@@ -142,6 +150,7 @@ impl Session {
         ensures number { OnOk result (self.new.number ≡ self.old.number) }
         ensures pieces { OnOk result (self.new.pieces ≡ self.old.pieces) }
         ensures does { OnOk result (HasDone book.old book.new self.old self.new) }
+        ensures counts { OnOk result (CountsInside book.old book.new self.old self.new steps.old steps.new) }
         ensures same { OnErr result (book.new ≡ book.old) }
     {
         let _ = book.log();
@@ -160,6 +169,7 @@ impl Session {
     ) -> Result<(), Memory>
         requires between { self.old.stage ≡ stage.Between }
         requires stands { Stands book.old.options (log_tree book.old.log) self.old }
+        requires worked { IsWorked book.old.options (log_tree book.old.log) self.old }
         requires select { stmt_tree stmt.now ≡ Select (query_tree query.now) }
         requires formed { IsFormed (stmt_tree stmt.now) }
         requires read { (piece : List ℕ) × (slice_get self.old.pieces self.old.ended ≡ Some piece) × Reads piece (Ok (stmt_tree stmt.now)) }
@@ -167,6 +177,7 @@ impl Session {
         ensures number { OnOk result (self.new.number ≡ self.old.number) }
         ensures pieces { OnOk result (self.new.pieces ≡ self.old.pieces) }
         ensures does { OnOk result (HasDone book.old book.new self.old self.new) }
+        ensures counts { OnOk result ((steps : ℕ) → CountsInside book.old book.new self.old self.new steps steps) }
         ensures same { OnErr result (book.new ≡ book.old) }
     {
         let _ = book.log();
@@ -185,6 +196,7 @@ impl Session {
     ) -> Result<(), Memory>
         requires between { self.old.stage ≡ stage.Between }
         requires stands { Stands book.old.options (log_tree book.old.log) self.old }
+        requires worked { IsWorked book.old.options (log_tree book.old.log) self.old }
         requires explain { stmt_tree stmt.now ≡ ExplainSelect (query_tree query.now) }
         requires formed { IsFormed (stmt_tree stmt.now) }
         requires read { (piece : List ℕ) × (slice_get self.old.pieces self.old.ended ≡ Some piece) × Reads piece (Ok (stmt_tree stmt.now)) }
@@ -192,6 +204,7 @@ impl Session {
         ensures number { OnOk result (self.new.number ≡ self.old.number) }
         ensures pieces { OnOk result (self.new.pieces ≡ self.old.pieces) }
         ensures does { OnOk result (HasDone book.old book.new self.old self.new) }
+        ensures counts { OnOk result ((steps : ℕ) → CountsInside book.old book.new self.old self.new steps steps) }
         ensures same { OnErr result (book.new ≡ book.old) }
     {
         let _ = book.log();

@@ -1,6 +1,4 @@
-pub mod CommitLemmas
-pub mod KindLemmas
-pub mod ScriptLemmas
-pub mod ServedLemmas
-pub mod SessionLemmas
 pub mod TextLemmas
+pub mod ScriptLemmas
+pub mod InputLemmas
+pub mod PrintLemmas

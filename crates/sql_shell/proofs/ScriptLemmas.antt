@@ -1,25 +1,15 @@
 -- Scripts that were read, beside what is told of their files.
-use Rattle.std.proofs.Common.{◌≡◌, ℕ, zero, suc, ◌+◌, ◌<◌, ◌≤◌, ◌⊎◌, inl, inr, List, [], ◌∷◌, ◌++◌, Bool, true, false, ◌&&◌, cond, length, map, take, drop, slice_index_or, Option, Some, None, Result, refl, ap, sym, ◌∙◌, subst, arith}
-use Rattle.std.specs.Prelude.{All, IfSome, bytes_eq, codes, nat_le, replicate}
-use Rattle.std.specs.Option.{option_and_then}
+use Rattle.std.proofs.Common.{◌≡◌, ℕ, suc, ◌+◌, ◌<◌, ◌≤◌, ◌⊎◌, inl, inr, List, [], ◌∷◌, ◌++◌, true, length, map, take, drop, slice_index_or, Option, Some, None, refl, ap, sym, ◌∙◌, subst, arith}
+use Rattle.std.specs.Prelude.{IfSome, replicate}
+use Rattle.std.specs.List.{AllByRecursion}
 use Rattle.std.proofs.lemmas.List.{take_more, take-append-drop, length-take-le, length-replicate}
 use Rattle.std.proofs.Math.Seq.{drop-cons}
-use Rattle.std.proofs.lemmas.Bool.Decides.{nat_tests}
-use Rattle.sql_semantics.specs.declared.refusal.Refusal.{Refusal}
 use Rattle.sql_tree.specs.Pieces.{pieces_of}
-use Rattle.sql_tree.specs.Tree.{StmtTree}
-use Rattle.run_log.specs.Events.{EventTree}
-use Rattle.answer_text.specs.Layout.{printed}
-use Rattle.sql_shell.specs.Readings.{AreAllRead}
-use Rattle.command_words.specs.Words.{few_files, files_in, run_files}
 use Rattle.causes.specs.Limits.{most_bytes}
 use Rattle.sql_shell.specs.Scripts.{IsRunnable, IsUnfit, TooLong, NotText, TooMany, IsFirstUnfit, AreRunnable, AreTexts, AreToldFirst, CanBeRun, names_of, pieces_in, IsCut, AreCut}
-use Rattle.sql_shell.specs.Served.{AreRead}
-use Rattle.sql_shell.specs.Session.{Produces}
-use Rattle.sql_shell.specs.Work.{IsRun}
 use Rattle.sql_shell.specs.Failures.{status_of, at_of, is_by_bytes}
 use Rattle.sql_shell.specs.declared.scripts.Failure.{Failure}
-use Rattle.sql_shell.specs.declared.scripts.Failure.TheVariants.{Words, Fault, Memory}
+use Rattle.sql_shell.specs.declared.scripts.Failure.TheVariants.{Words, Fault, BadLine, Memory}
 use Rattle.sql_shell.specs.declared.scripts.Failure.TheVariants as failure
 use Rattle.sql_shell.specs.declared.scripts.Script.{Script}
 use Rattle.sql_shell.proofs.TextLemmas.{no_utf8}
@@ -96,7 +86,7 @@ record UnfitText (o : Option (List ℕ)) (status : ℕ) : Type 0 where
   unfit : IsUnfit text status
 
 -- a text longer than a number of bytes
-long_text : (n : ℕ) → (text : List ℕ) × (n < length text)
+pub long_text : (n : ℕ) → (text : List ℕ) × (n < length text)
 long_text n =
     let b : ℕ = 0 in
     let long : length (replicate (n + 1) b) ≡ n + 1 = length-replicate (n + 1) b in
@@ -106,6 +96,7 @@ unfit_text : (o : Option (List ℕ)) (failure : Failure) → is_by_bytes (status
 unfit_text (Some text) failure by unfit = record { text = text; told = refl; unfit = unfit }
 unfit_text None Words by unfit = cc
 unfit_text None (Fault n) by unfit = cc
+unfit_text None (BadLine n) by unfit = cc
 unfit_text None Memory by unfit = cc
 unfit_text None (failure.TooLong n) by unfit =
     let long = long_text most_bytes in
@@ -119,6 +110,7 @@ place_by Words number by (inl memory) = cc
 place_by (Fault n) number by (inl memory) = cc
 place_by (failure.TooLong n) number by (inl memory) = let wrong : 4 ≡ 5 = memory.0 in cc
 place_by (failure.NotText n) number by (inl memory) = let wrong : 6 ≡ 5 = memory.0 in cc
+place_by (BadLine n) number by (inl memory) = cc
 place_by Memory number by (inl memory) = cc
 
 pub place_at_fault : (failure : Failure) (number : ℕ) → status_of failure ≡ 2 → (status_of failure ≡ 5) × (at_of failure ≡ 0) ⊎ (at_of failure ≡ number) → at_of failure ≡ number
@@ -169,7 +161,7 @@ module _ (bytes now : List ℕ → Option (List ℕ)) (same : (other : List ℕ)
       (cut_more bytes (take i names) scripts name script are (record { text = cut.text; told = subst Q (same name) cut.told; runnable = cut.runnable; named = cut.named; cut = cut.cut }))
 
 -- what can be run isn't unfit
-runs : (text : List ℕ) (status : ℕ) → IsRunnable text → IsUnfit text status → ⊥
+pub runs : (text : List ℕ) (status : ℕ) → IsRunnable text → IsUnfit text status → ⊥
 runs text status fit (TooLong long is) = absurd (omega (arith, fit.short, long))
 runs text status fit (NotText short bad is) = bad fit.text
 runs text status fit (TooMany short good many is) = absurd (omega (arith, fit.few, many))
@@ -187,11 +179,11 @@ one_way text a b (TooMany short good many is) (NotText short' bad' is') = absurd
 one_way text a b (TooMany short good many is) (TooMany short' good' many' is') = is ∙ sym is'
 
 -- the text of a file of which bytes are told
-told_text : (o : Option (List ℕ)) (text told : List ℕ) → o ≡ Some told → IfSome o (λ t. text ≡ t) → text ≡ told
+pub told_text : (o : Option (List ℕ)) (text told : List ℕ) → o ≡ Some told → IfSome o (λ t. text ≡ t) → text ≡ told
 told_text o text told e h = some_of o (λ t. text ≡ t) told e h
 
 -- told texts that can all be run have no first that can't
-all_fit : (bytes : List ℕ → Option (List ℕ)) (number : ℕ) (names texts told : List (List ℕ)) (status at : ℕ)
+pub all_fit : (bytes : List ℕ → Option (List ℕ)) (number : ℕ) (names texts told : List (List ℕ)) (status at : ℕ)
     → AreTexts bytes names texts → AreToldFirst bytes names told → length told ≡ length names → AreRunnable told → IsFirstUnfit number texts status at → ⊥
 all_fit bytes number [] [] told status at are first long fit unfit = unfit
 all_fit bytes number [] (t ∷ ts) told status at are first long fit unfit = absurd are
@@ -203,7 +195,7 @@ all_fit bytes number (n ∷ ns) (t ∷ ts) (u ∷ us) status at are first long f
     all_fit bytes (number + 1) ns ts us status at are.1 first.1 (omega (arith, long)) fit.1 unfit.1
 
 -- the first told text that can't be run is the first of all
-same_first : (bytes : List ℕ → Option (List ℕ)) (number : ℕ) (names texts told : List (List ℕ)) (status at s a : ℕ)
+pub same_first : (bytes : List ℕ → Option (List ℕ)) (number : ℕ) (names texts told : List (List ℕ)) (status at s a : ℕ)
     → AreTexts bytes names texts → AreToldFirst bytes names told → IsFirstUnfit number texts status at → IsFirstUnfit number told s a → (status ≡ s) × (at ≡ a)
 same_first bytes number [] [] told status at s a are first unfit found = absurd unfit
 same_first bytes number [] (t ∷ ts) told status at s a are first unfit found = absurd are
@@ -230,91 +222,24 @@ none_unfit bytes number (n ∷ ns) (u ∷ us) (p ∷ ps) s a are first (inl foun
 none_unfit bytes number (n ∷ ns) (u ∷ us) (p ∷ ps) s a are first (inr found) = none_unfit bytes (number + 1) ns us ps s a are.1 first.1 found.1
 
 -- no script has too many statements
-pub all_short : (bytes : List ℕ → Option (List ℕ)) (names : List (List ℕ)) (scripts : List Script) → AreCut bytes names scripts → All (λ (script : Script). length script.pieces ≤ 256) scripts
-all_short bytes [] [] are k d inside = absurd (omega (arith, inside))
-all_short bytes [] (s ∷ ss) are k d inside = absurd are
-all_short bytes (n ∷ ns) [] are k d inside = absurd are
-all_short bytes (n ∷ ns) (s ∷ ss) are zero d inside = omega (arith, ap length are.0.cut, are.0.runnable.few)
-all_short bytes (n ∷ ns) (s ∷ ss) are (suc k) d inside = all_short bytes ns ss are.1 k d (omega arith)
+pub all_short : (bytes : List ℕ → Option (List ℕ)) (names : List (List ℕ)) (scripts : List Script) → AreCut bytes names scripts → AllByRecursion (λ (pieces : List (List ℕ)). length pieces ≤ 256) (pieces_in scripts)
+all_short bytes [] [] are = tt
+all_short bytes [] (s ∷ ss) are = absurd are
+all_short bytes (n ∷ ns) [] are = absurd are
+all_short bytes (n ∷ ns) (s ∷ ss) are = (omega (arith, ap length are.0.cut, are.0.runnable.few), all_short bytes ns ss are.1)
 
-few_of : (b : Bool) (files names : List (List ℕ)) → (nat_le 1 (length files) && nat_le (length files) 16) ≡ b → cond b (Some files) None ≡ Some names → length names ≤ 16
-few_of true files names is e = let same : files ≡ names = cc in let short : length files ≤ 16 = grind (arith, nat_tests) in omega (arith, short, ap length same)
-few_of false files names is e = cc
+-- as many scripts as files
+pub as_many : (bytes : List ℕ → Option (List ℕ)) (names : List (List ℕ)) (scripts : List Script) → AreCut bytes names scripts → length scripts ≡ length names
+as_many bytes [] [] are = refl
+as_many bytes [] (s ∷ ss) are = absurd are
+as_many bytes (n ∷ ns) [] are = absurd are
+as_many bytes (n ∷ ns) (s ∷ ss) are = omega (arith, as_many bytes ns ss are.1)
 
-few_found : (found : Option (List (List ℕ))) (names : List (List ℕ)) → option_and_then few_files found ≡ Some names → length names ≤ 16
-few_found None names e = cc
-few_found (Some files) names e = few_of (nat_le 1 (length files) && nat_le (length files) 16) files names refl e
-
-few_for : (b : Bool) (words names : List (List ℕ)) → cond b (option_and_then few_files (files_in words)) None ≡ Some names → length names ≤ 16
-few_for true words names e = few_found (files_in words) names e
-few_for false words names e = cc
-
--- a run has at most 16 files
-pub few_named : (words names : List (List ℕ)) → run_files words ≡ Some names → length names ≤ 16
-few_named [] names e = cc
-few_named (command ∷ words) names e = few_for (bytes_eq command (codes "run")) words names e
-
-pub few_pieces : (bytes : List ℕ → Option (List ℕ)) (names : List (List ℕ)) (scripts : List Script) → AreCut bytes names scripts → length scripts ≡ length names
-few_pieces bytes [] [] are = refl
-few_pieces bytes [] (s ∷ ss) are = absurd are
-few_pieces bytes (n ∷ ns) [] are = absurd are
-few_pieces bytes (n ∷ ns) (s ∷ ss) are = omega (arith, few_pieces bytes ns ss are.1)
-
--- ## What a run of them serves
-
-read_of : (texts : List (List ℕ)) (readings : List (List (Result StmtTree Refusal))) → AreAllRead (map pieces_of texts) readings → AreRead texts readings
-read_of [] [] are = tt
-read_of [] (r ∷ rs) are = absurd are
-read_of (t ∷ ts) [] are = absurd are
-read_of (t ∷ ts) (r ∷ rs) are = (are.0, read_of ts rs are.1)
-
--- the run of scripts that were read is one over their files
-pub run_of : (bytes : List ℕ → Option (List ℕ)) (names : List (List ℕ)) (scripts : List Script) (log : List EventTree) (text : List ℕ) (work before after : ℕ)
-    → AreCut bytes names scripts → Produces (names_of scripts) (pieces_in scripts) log text work before after → IsRun bytes names text log work before after
-run_of bytes names scripts log text work before after are produced =
-    let of = are_of bytes names scripts are in
-    let P : List (List (List ℕ)) → Type 0 = λ ps. AreAllRead ps produced.readings in
-    let read : AreRead of.texts produced.readings = read_of of.texts produced.readings (subst P of.cut produced.read) in
-    record {
-      scripts = of.texts;
-      told = of.told;
-      runnable = of.runnable;
-      served = record {
-        readings = produced.readings;
-        read = read;
-        ordered = produced.ordered;
-        printed_is = produced.printed_is ∙ ap (λ ns. printed ns produced.readings log) of.named;
-      };
-      worked = record { readings = produced.readings; read = read; work_is = produced.work_is; counted = produced.counted };
-    }
-
--- ## What is said of the words and of what is told
-
--- what holds of the files' names holds where the words name files
-pub lifted : (words names : List (List ℕ)) (P : List (List ℕ) → Type 0) → run_files words ≡ Some names → P names → IfSome (run_files words) P
-lifted words names P found h =
-    let Q : Option (List (List ℕ)) → Type 0 = λ o. IfSome o P in
-    subst Q (sym found) h
-
--- what ends a run before its first statement, over files with these names: how the first that isn't run tells
-module _ (bytes : List ℕ → Option (List ℕ)) (names : List (List ℕ)) (Rises : Type 0) where
-  abbrev pub Unfit : Failure → Type 0
-  Unfit failure = is_by_bytes (status_of failure) ≡ true → FirstUnfit bytes names 1 (status_of failure) (at_of failure)
-
-  -- scripts that can all be run, from a source without a fault, leave want of memory alone
-  pub complete_of : (failure : Failure) (told : List (List ℕ)) → Unfit failure → (status_of failure ≡ 2 → Rises) → (status_of failure ≡ 1 → ⊥)
-      → AreToldFirst bytes names told → length told ≡ length names → AreRunnable told → (Rises → ⊥) → (status_of failure ≡ 0) ⊎ (status_of failure ≡ 5)
-  complete_of Words told unfit fault words first long fit calm = absurd (words refl)
-  complete_of (Fault n) told unfit fault words first long fit calm = absurd (calm (fault refl))
-  complete_of (failure.TooLong n) told unfit fault words first long fit calm = absurd (all_fit bytes 1 names ((unfit refl).texts) told 4 n ((unfit refl).told) first long fit ((unfit refl).first))
-  complete_of (failure.NotText n) told unfit fault words first long fit calm = absurd (all_fit bytes 1 names ((unfit refl).texts) told 6 n ((unfit refl).told) first long fit ((unfit refl).first))
-  complete_of Memory told unfit fault words first long fit calm = inr refl
-
-  -- the first told script that can't be run is told, from a source without a fault, unless memory runs out
-  pub found_of : (failure : Failure) (told : List (List ℕ)) (s a : ℕ) → Unfit failure → (status_of failure ≡ 2 → Rises) → (status_of failure ≡ 1 → ⊥)
-      → AreToldFirst bytes names told → IsFirstUnfit 1 told s a → (Rises → ⊥) → ((status_of failure ≡ s) × (at_of failure ≡ a)) ⊎ (status_of failure ≡ 5)
-  found_of Words told s a unfit fault words first found calm = absurd (words refl)
-  found_of (Fault n) told s a unfit fault words first found calm = absurd (calm (fault refl))
-  found_of (failure.TooLong n) told s a unfit fault words first found calm = inl (same_first bytes 1 names ((unfit refl).texts) told 4 n s a ((unfit refl).told) first ((unfit refl).first) found)
-  found_of (failure.NotText n) told s a unfit fault words first found calm = inl (same_first bytes 1 names ((unfit refl).texts) told 6 n s a ((unfit refl).told) first ((unfit refl).first) found)
-  found_of Memory told s a unfit fault words first found calm = inr refl
+-- texts that can be run, beside told ones of which one can't
+pub runnable_not : (bytes : List ℕ → Option (List ℕ)) (number : ℕ) (names texts told : List (List ℕ)) (s a : ℕ)
+    → AreTexts bytes names texts → AreRunnable texts → AreToldFirst bytes names told → IsFirstUnfit number told s a → ⊥
+runnable_not bytes number names texts [] s a are fit first found = found
+runnable_not bytes number [] texts (u ∷ us) s a are fit first found = first
+runnable_not bytes number (n ∷ ns) [] (u ∷ us) s a are fit first found = are
+runnable_not bytes number (n ∷ ns) (t ∷ ts) (u ∷ us) s a are fit first (inl found) = runs u s (subst IsRunnable (told_text (bytes n) t u first.0 are.0) fit.0) found.0
+runnable_not bytes number (n ∷ ns) (t ∷ ts) (u ∷ us) s a are fit first (inr found) = runnable_not bytes (number + 1) ns ts us s a are.1 fit.1 first.1 found.1

@@ -1,6 +1,4 @@
 pub mod Failures
-pub mod Readings
 pub mod Scripts
+pub mod Inputs
 pub mod Served
-pub mod Session
-pub mod Work

@@ -1,33 +1,64 @@
--- What the program answers: from words, told scripts and a sink to a status, a log and what is written.
-use Rattle.std.specs.Prelude.{◌≡◌, ℕ, ◌≤◌, List, [], ◌∷◌, Bool, nat_le, Result}
+-- What the program answers: from words, told files and a sink to a status, a log and what is written.
+use Rattle.std.specs.Prelude.{◌≡◌, ℕ, ◌+◌, List, [], ◌∷◌, ◌++◌, map, Bool, nat_le, Option, Result}
 use Rattle.sql_semantics.specs.declared.refusal.Refusal.{Refusal}
 use Rattle.sql_tree.specs.Pieces.{pieces_of}
 use Rattle.sql_tree.specs.Tree.{StmtTree}
-use Rattle.answer_text.specs.Log.{IsOrdered}
+use Rattle.pool_policy.specs.declared.options.PoolOptions.{PoolOptions}
 use Rattle.run_log.specs.Events.{EventTree}
-use Rattle.answer_text.specs.Layout.{printed}
-use Rattle.sql_shell.specs.Readings.{AreReadings}
+use Rattle.answer_text.specs.Log.{IsOrdered}
+use Rattle.answer_text.specs.Layout.{printed, session_line}
+use Rattle.command_line.specs.declared.command.Command.{Command}
+use Rattle.command_line.specs.declared.command.RunOptions.{RunOptions}
+use Rattle.store_changes.specs.Work.{Counts}
+use Rattle.session_run.specs.Readings.{AreReadings}
+use Rattle.session_run.specs.Work.{run_lost, run_totals, run_work}
+use Rattle.run_sessions.specs.Played.{IsScheduled}
+use Rattle.command_line.specs.Command.{files_of, options_of}
+use Rattle.sql_shell.specs.Inputs.{AreTurns}
+use Rattle.sql_shell.specs.Scripts.{AreRunnable, AreTexts}
 
 -- ## Runs
 
--- each script's pieces read so
-abbrev pub AreRead : List (List ℕ) → List (List (Result StmtTree Refusal)) → Type 0
-AreRead [] [] = Unit {0}
-AreRead (script ∷ scripts) (readings ∷ others) = AreReadings (pieces_of script) readings × AreRead scripts others
-AreRead _ _ = ⊥
+-- the most entries of a pool
+abbrev pub most_entries : ℕ
+most_entries = 1024
 
--- the log has each statement of the scripts once and in order, and the text is what is printed of it: each reply is the meaning of its statement over the tables after exactly the commits before its place in the log, and the history is the commits
-pub record IsServed (names scripts : List (List ℕ)) (text : List ℕ) (log : List EventTree) : Type 0 where
+-- the pool of a run with these options
+abbrev pub pool_of : RunOptions → PoolOptions
+pool_of options = record { places = most_entries; budget = options.budget; evict = options.evict; weights = options.weights; admit = options.admit; credits = options.credits }
+
+-- the statements of each script read so
+abbrev pub AreAllRead : List (List (List ℕ)) → List (List (Result StmtTree Refusal)) → Type 0
+AreAllRead [] [] = Unit {0}
+AreAllRead (pieces ∷ scripts) (readings ∷ others) = AreReadings pieces readings × AreAllRead scripts others
+AreAllRead _ _ = ⊥
+
+-- a run of scripts with these names and statements, by these turns, has this log, and this is what is printed of it: the log has each statement once and in its session's order, each reply is the meaning of its statement over the tables after exactly the commits before its place, the history is the commits, and the pool, its totals and each event are those of this schedule; while the counter goes from here to there
+pub record IsServed (options : RunOptions) (names : List (List ℕ)) (scripts : List (List (List ℕ))) (turns text : List ℕ) (log : List EventTree) (work before after : ℕ) : Type 0 where
   pub readings : List (List (Result StmtTree Refusal))
-  pub read : AreRead scripts readings
+  pub read : AreAllRead scripts readings
   pub ordered : IsOrdered readings log
-  pub printed_is : text ≡ printed names readings log
+  pub scheduled : IsScheduled (pool_of options) scripts turns log
+  pub printed_is : text ≡ printed options.events names readings log (run_totals (pool_of options) log)
+  pub work_is : work ≡ run_work (pool_of options) log
+  pub counted : Counts before after work (run_lost (pool_of options) log)
 
--- the sessions of the events never fall, and the first is no less than this; so it is as long as sessions run one after the other
-abbrev pub RiseFrom : ℕ → List EventTree → Type 0
-RiseFrom low [] = Unit {0}
-RiseFrom low (event ∷ log) = (low ≤ event.session) × RiseFrom event.session log
+-- a command's run: each of its files has a text, which is what is told of it where it is told; these texts can be run, and what is printed, logged and counted is theirs
+pub record IsRun (bytes : List ℕ → Option (List ℕ)) (command : Command) (text : List ℕ) (log : List EventTree) (work before after : ℕ) : Type 0 where
+  pub scripts : List (List ℕ)
+  pub told : AreTexts bytes (files_of command) scripts
+  pub runnable : AreRunnable scripts
+  pub turns : List ℕ
+  pub turns_are : AreTurns bytes command turns
+  pub served : IsServed (options_of command) (files_of command) (map pieces_of scripts) turns text log work before after
 
--- a status: served, words, read fault, write fault, too long, memory, not text
+-- a status: served, words, read fault, write fault, too long, memory, not text, bad line
 abbrev pub is_status : ℕ → Bool
-is_status s = nat_le s 6
+is_status s = nat_le s 7
+
+-- ## What the code keeps, which no public clause names
+
+-- the texts of sessions under these names, from a number on
+abbrev pub texts_under : ℕ → List (List ℕ) → List (List ℕ) → List ℕ
+texts_under session (name ∷ names) (text ∷ texts) = session_line session name ++ text ++ texts_under (session + 1) names texts
+texts_under session _ _ = []

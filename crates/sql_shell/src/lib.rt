@@ -1,27 +1,22 @@
-//! The program as one call, `top`: it reads scripts, runs them one after the other as sessions over one
-//! database, and writes the replies and the history of accepted changes.
+//! The program as one call, `top`: it reads scripts, runs them as sessions that share tables and a pool of
+//! results, and writes the replies, the history of accepted changes, the pool's totals, and the log where it
+//! is asked for.
 //!
-//! It stands on `command_words` for the words, on `causes` for reading and writing, on `sql_parse` for
-//! text, on `sql_semantics` for what SQL means, on `table_store` for the tables and their snapshots, on
-//! `store_changes` for changes and the schema, on `sql_check` for the refusals of queries by the tables, on
-//! `plan_queries` and `mal_exec` for queries as plans, on `sql_kinds` for what every statement keeps, and
-//! on `answer_text` for the layouts. Its clause `served` is the project's headline, and tells the stated
-//! work of the plans.
+//! It stands on `command_line` for the words, on `causes` for reading and writing, on `turn_lines` for the
+//! schedule, on `run_sessions` for the run of sessions on one thread, and on `answer_text` for the layouts.
+//! Its clause `served` is the project's headline: the log has each statement once and in its session's
+//! order, it is the log of the schedule, each reply is the meaning of its statement over the tables at its
+//! place, and the totals and the work are those that the log says.
 #![tactic(auto)]
 
-mod changes;
+mod inputs;
 mod produce;
 mod scripts;
 mod served;
-mod session;
-mod show;
 
 pub use run_log::{Act, Event};
 pub use scripts::{
-    STATUS_MEMORY, STATUS_NOT_TEXT, STATUS_SERVED, STATUS_TOO_LONG, STATUS_UNREAD,
+    STATUS_BAD_LINE, STATUS_MEMORY, STATUS_NOT_TEXT, STATUS_SERVED, STATUS_TOO_LONG, STATUS_UNREAD,
     STATUS_UNWRITTEN, STATUS_WORDS,
 };
 pub use served::{Served, top};
-
-#[cfg(test)]
-mod tests;

@@ -1,16 +1,31 @@
-ghost use Rattle.std.specs.Prelude.{◌≤◌, length, All, IfOk};
+//! A run of scripts, and what is printed of it.
+ghost use Rattle.std.specs.Prelude.{◌≡◌, ◌≢◌, ◌≤◌, ◌+◌, ◌++◌, ℕ, List, [], length, map, All, IfOk, if◌then◌else◌};
+ghost use Rattle.std.specs.List.{AllByRecursion};
+ghost use Rattle.std.specs.declared.vec.Vec.{Vec as VecSeen};
+ghost use Rattle.std.specs.declared.alloc.Global.{Global as GlobalSeen};
 ghost use Rattle.run_log.specs.Events.{log_tree};
+ghost use Rattle.answer_text.specs.Layout.{history_text, log_text, totals_text};
+ghost use Rattle.command_line.specs.Command.{AreFit};
+ghost use Rattle.score_hook.specs.declared.stats.Evict.TheVariants.{Weighted};
+ghost use Rattle.score_hook.specs.Scores.{AreWeights, IsInRange, score_of};
 ghost use Rattle.sql_shell.specs.Scripts.{names_of, pieces_in};
-ghost use Rattle.sql_shell.specs.Session.{Produces};
+ghost use Rattle.sql_shell.specs.Served.{IsServed, pool_of, texts_under};
 
+use crate::inputs::Inputs;
 use crate::scripts::Script;
-use crate::session::run_scripts;
-use answer_text::write_history;
+use answer_text::{write_history, write_log, write_session_line, write_totals};
 use bat_core::Operate;
-use cell_core::{Memory, Sequence, Steps};
+use cell_core::{Memory, Sequence, Steps, Word};
+use command_line::RunOptions;
+use pool_policy::PoolOptions;
 use run_log::Event;
+use run_sessions::{Run, play_sessions};
+use score_hook::{Evict, Score, ScoreCall, Scorer, Stats, formula, weighted_formula};
 use std::alloc::Global;
 use std::sync::ledger::Ledger;
+
+/// The most entries of a pool.
+const MOST_ENTRIES: u64 = 1_024;
 
 /// What a run gives.
 #[derive(Drop)]
@@ -19,28 +34,194 @@ pub struct Produced {
     pub log: Sequence<Event>,
     /// All that is printed of it.
     pub text: Vec<u8>,
-    /// The work of the plans that were run.
+    /// The work that was done.
     pub work: u128,
 }
 
-/// Runs scripts one after the other: their log, what is printed of it, and their work, by which the
-/// counter rises, and by no more than that of the plans that overflow beside it.
+/// Runs the scripts by turns as sessions that share a pool of these options: their log, what is printed of
+/// it, and their work, by which the counter rises, and by no more than that of the plans that overflow
+/// beside it.
 pub fn produce<E: Operate, L: Ledger>(
     alloc: Global,
-    scripts: &[Script],
+    options: RunOptions,
+    inputs: Inputs,
     kernel: &E,
     steps: &mut Steps<L>,
 ) -> Result<Produced, Memory>
-    requires few { length scripts.now ≤ 16 }
-    requires short { All (λ script. length script.pieces ≤ 256) scripts.now }
-    ensures produced { IfOk result (λ run. Produces (names_of scripts.now) (pieces_in scripts.now) (log_tree run.log) run.text.items run.work steps.old steps.new) }
+    requires fit { AreFit options }
+    requires few { length inputs.scripts.items ≤ 16 }
+    requires short { AllByRecursion (λ (pieces : List (List ℕ)). length pieces ≤ 256) (pieces_in inputs.scripts.items) }
+    requires turns { AllByRecursion (λ turn. (1 ≤ turn) × (turn ≤ length inputs.scripts.items)) inputs.turns.items }
+    ensures { IfOk result (λ run. IsServed options (names_of inputs.scripts.items) (pieces_in inputs.scripts.items) inputs.turns.items run.text.items (log_tree run.log) run.work steps.old steps.new) }
 {
-    let run = run_scripts(alloc, scripts, kernel, steps)?;
-    let mut text = run.text;
-    write_history(alloc, run.log.as_slice(), &mut text)?;
+    match options.evict {
+        Evict::Weighted => produce_weighted(alloc, options, inputs, kernel, steps),
+        _ => produce_plain(alloc, options, inputs, kernel, steps),
+    }
+}
+
+/// The same where entries are scored by a rule that knows no weights of operators.
+fn produce_plain<E: Operate, L: Ledger>(
+    alloc: Global,
+    options: RunOptions,
+    inputs: Inputs,
+    kernel: &E,
+    steps: &mut Steps<L>,
+) -> Result<Produced, Memory>
+    requires plain { options.evict ≢ Weighted }
+    requires fit { AreFit options }
+    requires few { length inputs.scripts.items ≤ 16 }
+    requires short { AllByRecursion (λ (pieces : List (List ℕ)). length pieces ≤ 256) (pieces_in inputs.scripts.items) }
+    requires turns { AllByRecursion (λ turn. (1 ≤ turn) × (turn ≤ length inputs.scripts.items)) inputs.turns.items }
+    ensures { IfOk result (λ run. IsServed options (names_of inputs.scripts.items) (pieces_in inputs.scripts.items) inputs.turns.items run.text.items (log_tree run.log) run.work steps.old steps.new) }
+{
+    let kind = options.evict;
+    let call: ScoreCall = Box::new(
+        alloc,
+        move |stats: &Stats, now: u64| -> Score
+            requires plain { kind ≢ Weighted }
+            requires range { IsInRange stats.now now }
+            ensures { result ≡ score_of kind [] stats.now now }
+        { formula(kind, stats, now) },
+    )?;
+    let scorer = Scorer::new(alloc, kind, call);
+    play(alloc, options, inputs, &scorer, kernel, steps)
+}
+
+/// The same where they are scored by weights of operators, of which the closure has a list of its own.
+fn produce_weighted<E: Operate, L: Ledger>(
+    alloc: Global,
+    options: RunOptions,
+    inputs: Inputs,
+    kernel: &E,
+    steps: &mut Steps<L>,
+) -> Result<Produced, Memory>
+    requires weighted { options.evict ≡ Weighted }
+    requires fit { AreFit options }
+    requires few { length inputs.scripts.items ≤ 16 }
+    requires short { AllByRecursion (λ (pieces : List (List ℕ)). length pieces ≤ 256) (pieces_in inputs.scripts.items) }
+    requires turns { AllByRecursion (λ turn. (1 ≤ turn) × (turn ≤ length inputs.scripts.items)) inputs.turns.items }
+    ensures { IfOk result (λ run. IsServed options (names_of inputs.scripts.items) (pieces_in inputs.scripts.items) inputs.turns.items run.text.items (log_tree run.log) run.work steps.old steps.new) }
+{
+    let held = Vec::from_slice(alloc, options.weights.as_slice())?;
+    let kept = Vec::from_slice(alloc, options.weights.as_slice())?;
+    let call: ScoreCall = Box::new(
+        alloc,
+        move |stats: &Stats, now: u64| -> Score
+            requires weights { AreWeights held.items }
+            requires range { IsInRange stats.now now }
+            ensures { result ≡ score_of Weighted held.items stats.now now }
+        { weighted_formula(held.as_slice(), stats, now) },
+    )?;
+    let scorer = Scorer::weighted(kept, call);
+    play(alloc, options, inputs, &scorer, kernel, steps)
+}
+
+/// The same with a scorer that is lent.
+fn play<E: Operate, L: Ledger>(
+    alloc: Global,
+    options: RunOptions,
+    inputs: Inputs,
+    scorer: &Scorer,
+    kernel: &E,
+    steps: &mut Steps<L>,
+) -> Result<Produced, Memory>
+    requires kind { scorer.now.kind ≡ options.evict }
+    requires weights { scorer.now.weights.items ≡ options.weights }
+    requires fit { AreFit options }
+    requires few { length inputs.scripts.items ≤ 16 }
+    requires short { AllByRecursion (λ (pieces : List (List ℕ)). length pieces ≤ 256) (pieces_in inputs.scripts.items) }
+    requires turns { AllByRecursion (λ turn. (1 ≤ turn) × (turn ≤ length inputs.scripts.items)) inputs.turns.items }
+    ensures { IfOk result (λ run. IsServed options (names_of inputs.scripts.items) (pieces_in inputs.scripts.items) inputs.turns.items run.text.items (log_tree run.log) run.work steps.old steps.new) }
+{
+    let events = options.events;
+    let Inputs { scripts, turns } = inputs;
+    let Parts { names, scripts } = split(alloc, scripts)?;
+    let pool = pool_for(options);
+    let run = play_sessions(
+        alloc,
+        scripts,
+        turns.as_slice(),
+        pool,
+        scorer,
+        kernel,
+        steps,
+    )?;
+    let text = print_run(alloc, events, names.as_slice(), &run)?;
+    let Run { log, totals, .. } = run;
     Ok(Produced {
-        log: Sequence::from_vec(run.log),
+        log: Sequence::from_vec(log),
         text,
-        work: run.work,
+        work: totals.work,
     })
+}
+
+/// The pool of a run with these options.
+fn pool_for(options: RunOptions) -> PoolOptions
+    ensures { result ≡ pool_of options }
+{
+    PoolOptions {
+        places: MOST_ENTRIES,
+        budget: options.budget,
+        evict: options.evict,
+        weights: options.weights,
+        admit: options.admit,
+        credits: options.credits,
+    }
+}
+
+/// Scripts as their names and the texts of their statements.
+#[derive(Drop)]
+struct Parts {
+    names: Vec<Word>,
+    scripts: Vec<Sequence<Word>>,
+}
+
+/// The names of scripts and the texts of their statements.
+fn split(alloc: Global, scripts: Vec<Script>) -> Result<Parts, Memory>
+    ensures names { IfOk result (λ parts. parts.names.items ≡ names_of scripts.items) }
+    ensures scripts { IfOk result (λ parts. parts.scripts.items ≡ pieces_in scripts.items) }
+{
+    let mut names = Vec::new(alloc);
+    let mut texts = Vec::new(alloc);
+    'scripts: for script in scripts {
+        let Script { name, pieces } = script;
+        names.push(name)?;
+        texts.push(pieces)?;
+    }
+    Ok(Parts {
+        names,
+        scripts: texts,
+    })
+}
+
+/// What is printed of a run: each session under its name, the history, the totals, and the log if it is
+/// asked for.
+fn print_run(alloc: Global, events: bool, names: &[Word], run: &Run) -> Result<Vec<u8>, Memory>
+    requires few { length names.now ≤ 16 }
+    requires each { length run.now.texts.items ≡ length names.now }
+    ensures { IfOk result (λ text. text.items ≡ ((texts_under 1 names.now (map (λ (t : VecSeen ℕ GlobalSeen). t.items) run.now.texts.items) ++ history_text (log_tree run.now.log.items)) ++ totals_text run.now.totals) ++ (if events then log_text (log_tree run.now.log.items) else [])) }
+{
+    let mut text = print_sessions(alloc, names, run.texts.as_slice())?;
+    write_history(alloc, run.log.as_slice(), &mut text)?;
+    write_totals(alloc, &run.totals, &mut text)?;
+    if events {
+        write_log(alloc, run.log.as_slice(), &mut text)?;
+    }
+    Ok(text)
+}
+
+/// The texts of sessions, each under its name.
+fn print_sessions(alloc: Global, names: &[Word], texts: &[Vec<u8>]) -> Result<Vec<u8>, Memory>
+    requires few { length names.now ≤ 16 }
+    requires each { length texts.now ≡ length names.now }
+    ensures { IfOk result (λ text. text.items ≡ texts_under 1 names.now (map (λ (t : VecSeen ℕ GlobalSeen). t.items) texts.now)) }
+{
+    let mut text = Vec::new(alloc);
+    'sessions: for i in 0..names.len() {
+        let number = i as u32 + 1;
+        write_session_line(alloc, number, names[i].text(), &mut text)?;
+        text.extend_from_slice(texts[i].as_slice())?;
+    }
+    Ok(text)
 }

@@ -24,6 +24,8 @@ pub const STATUS_TOO_LONG: u8 = 4;
 pub const STATUS_MEMORY: u8 = 5;
 /// The status of a file that isn't UTF-8.
 pub const STATUS_NOT_TEXT: u8 = 6;
+/// The status of a schedule with a bad line.
+pub const STATUS_BAD_LINE: u8 = 7;
 
 /// A script that was read, cut into its statements.
 #[derive(Debug, Drop)]
@@ -34,7 +36,7 @@ pub struct Script {
     pub pieces: Sequence<Word>,
 }
 
-/// Why a run ends before its first statement. Files are counted from 1.
+/// Why a run ends before its first statement. Files are counted from 1, and the schedule is file 0.
 #[derive(Clone, Copy, Debug, PartialEq, Eq, Drop)]
 pub enum Failure {
     /// The words are outside the grammar.
@@ -45,6 +47,8 @@ pub enum Failure {
     TooLong(u64),
     /// This file isn't UTF-8.
     NotText(u64),
+    /// This line of the schedule, counted from 1, is bad.
+    BadLine(u64),
     /// Memory ran out.
     Memory,
 }
@@ -59,16 +63,20 @@ impl Failure {
             Failure::Fault(_) => STATUS_UNREAD,
             Failure::TooLong(_) => STATUS_TOO_LONG,
             Failure::NotText(_) => STATUS_NOT_TEXT,
+            Failure::BadLine(_) => STATUS_BAD_LINE,
             Failure::Memory => STATUS_MEMORY,
         }
     }
 
-    /// The file that it is about, or 0.
+    /// The file that it is about, or the line of the schedule, or 0.
     pub fn at(self) -> u64
         ensures { result ≡ at_of self }
     {
         match self {
-            Failure::Fault(number) | Failure::TooLong(number) | Failure::NotText(number) => number,
+            Failure::Fault(number)
+            | Failure::TooLong(number)
+            | Failure::NotText(number)
+            | Failure::BadLine(number) => number,
             _ => 0,
         }
     }
@@ -107,7 +115,10 @@ pub fn read_scripts<S: Scripts>(
     ensures fault { IfErr result (λ e. status_of e ≡ 2 → Rose (S.faults source.old) (S.faults source.new)) }
     ensures reached { IfErr result (λ e. status_of e ≡ 2 → (1 ≤ at_of e) × CanBeRun (S.bytes_of source.old) (take (at_of e - 1) names.now)) }
     ensures words { IfErr result (λ e. status_of e ≢ 1) }
+    ensures script { IfErr result (λ e. status_of e ≢ 7) }
     ensures within { IfErr result (λ e. at_of e ≤ length names.now) }
+    ensures later { S.faults source.old ≤ S.faults source.new }
+    ensures same { (other : List ℕ) → S.bytes_of source.new other ≡ S.bytes_of source.old other }
 {
     let mut read = Vec::new(alloc);
     'files: for i in 0..names.len() {
@@ -131,6 +142,7 @@ fn read_script<S: Scripts>(
     ensures unfit { IfErr result (λ e. is_by_bytes (status_of e) ≡ true → IfSome (S.bytes_of source.old name.now) (λ text. IsUnfit text (status_of e))) }
     ensures fault { IfErr result (λ e. status_of e ≡ 2 → Rose (S.faults source.old) (S.faults source.new)) }
     ensures words { IfErr result (λ e. status_of e ≢ 1) }
+    ensures script { IfErr result (λ e. status_of e ≢ 7) }
     ensures place { IfErr result (λ e. (status_of e ≡ 5) × (at_of e ≡ 0) ⊎ (at_of e ≡ number)) }
     ensures later { S.faults source.old ≤ S.faults source.new }
     ensures same { (other : List ℕ) → S.bytes_of source.new other ≡ S.bytes_of source.old other }
@@ -151,6 +163,7 @@ fn cut(alloc: Global, name: &Word, text: &str, number: u64) -> Result<Script, Fa
     ensures unfit { IfErr result (λ e. is_by_bytes (status_of e) ≡ true → IsUnfit text.now (status_of e)) }
     ensures told { IfErr result (λ e. status_of e ≢ 2) }
     ensures words { IfErr result (λ e. status_of e ≢ 1) }
+    ensures script { IfErr result (λ e. status_of e ≢ 7) }
     ensures place { IfErr result (λ e. (status_of e ≡ 5) × (at_of e ≡ 0) ⊎ (at_of e ≡ number)) }
 {
     match split(alloc, text) {

@@ -1,21 +1,22 @@
-//! The run: files among the words, scripts, sessions, and what is written.
-ghost use Rattle.std.specs.Prelude.{◌≡◌, ◌≤◌, ◌⊎◌, ◌+◌, ◌-◌, ℕ, List, [], ◌∷◌, length, take, All, IfSome, None, true};
+//! The run: a command among the words, its scripts and schedule, sessions, and what is written.
+ghost use Rattle.std.specs.Prelude.{◌≡◌, ◌≢◌, ◌≤◌, ◌⊎◌, ℕ, List, [], true, length, IfSome, None};
+ghost use Rattle.std.specs.List.{AllByRecursion};
 ghost use Rattle.std.specs.Io.KnownBytes.{Appends};
 ghost use Rattle.causes.specs.Faults.{AppendsPrefix, Rose};
 ghost use Rattle.run_log.specs.Events.{log_tree};
+ghost use Rattle.command_line.specs.Command.{AreFit, command_named, files_of};
 ghost use Rattle.sql_shell.specs.Failures.{status_of, at_of};
-ghost use Rattle.sql_shell.specs.Scripts.{AreRunnable, AreTexts, AreToldFirst, CanBeRun, IsFirstUnfit, names_of, pieces_in};
-ghost use Rattle.sql_shell.specs.Served.{RiseFrom, is_status};
-ghost use Rattle.sql_shell.specs.Session.{Produces};
-ghost use Rattle.command_words.specs.Words.{run_files};
-ghost use Rattle.sql_shell.specs.Work.{IsRun};
+ghost use Rattle.sql_shell.specs.Inputs.{IsFirstWrong, IsReached, IsToldRight, IsToldWrong};
+ghost use Rattle.sql_shell.specs.Scripts.{names_of, pieces_in};
+ghost use Rattle.sql_shell.specs.Served.{IsRun, IsServed, is_status};
 
+use crate::inputs::{Inputs, options_of, read_inputs};
 use crate::produce::produce;
-use crate::scripts::{Failure, STATUS_SERVED, STATUS_UNWRITTEN, Script, read_scripts};
+use crate::scripts::{Failure, STATUS_SERVED, STATUS_UNWRITTEN};
 use bat_core::Operate;
 use causes::{Scripts, Sink, write_all};
 use cell_core::{Memory, Sequence, Steps, Word};
-use command_words::files_of;
+use command_line::{RunOptions, command_of};
 use run_log::Event;
 use std::alloc::Global;
 use std::sync::ledger::Ledger;
@@ -23,22 +24,24 @@ use std::sync::ledger::Ledger;
 /// What the program answers.
 #[derive(Debug, Drop)]
 pub struct Served {
-    /// 0: served; 1: the words are outside the grammar; 2: a script can't be read; 3: the answer
-    /// can't be written; 4: a script has too many bytes or statements; 5: memory ran out; 6: a script
-    /// isn't UTF-8.
+    /// 0: served; 1: the words are outside the grammar; 2: a file can't be read; 3: the answer can't be
+    /// written; 4: a file has too many bytes or statements; 5: memory ran out; 6: a file isn't UTF-8; 7: the
+    /// schedule has a bad line.
     pub status: u8,
-    /// The file that the status is about, from 1 in the order of the words, or 0.
+    /// The file that the status is about, from 1 in the order of the words, where the schedule is 0; with
+    /// status 7 the line of the schedule, from 1; or 0.
     pub at: u64,
     /// The log of the run, with status 0 and 3; else empty.
     pub log: Sequence<Event>,
-    /// The stated work of the run's plans, with status 0 and 3; else 0.
+    /// The stated work of the run, with status 0 and 3; else 0.
     pub work: u128,
 }
 
-/// Does all that the program does: reads the scripts that the words name, runs them one after the
-/// other as sessions over one store, with queries, DELETE and UPDATE as plans by the kernel, and writes
-/// the replies and the history of accepted changes. The counter rises by the work of the plans, and
-/// beyond it by no more than the loads of those that overflow.
+/// Does all that the program does: reads the scripts that the words name, and the schedule of a replay, runs
+/// the scripts as sessions that share tables and a pool of results, event by event in the order of the
+/// schedule, and writes the replies, the history of accepted changes, the pool's totals, and the log where
+/// it is asked for. The counter rises by the work, and beyond it by no more than the loads of the plans that
+/// overflow.
 pub fn top<S: Scripts, K: Sink, E: Operate, L: Ledger>(
     alloc: Global,
     words: &[Word],
@@ -48,44 +51,42 @@ pub fn top<S: Scripts, K: Sink, E: Operate, L: Ledger>(
     steps: &mut Steps<L>,
 ) -> Served
     // The headline: what is written is the meaning of the scripts, by the log of this run.
-    ensures served { result.status ≡ 0 → IfSome (run_files words.now) (λ names.
-        (text : List ℕ) × Appends (K.contents out.old) (K.contents out.new) text × IsRun (S.bytes_of scripts.old) names text (log_tree result.log) result.work steps.old steps.new) }
-    ensures prefix { result.status ≡ 3 → IfSome (run_files words.now) (λ names.
-        (text : List ℕ) × AppendsPrefix (K.contents out.old) (K.contents out.new) text × IsRun (S.bytes_of scripts.old) names text (log_tree result.log) result.work steps.old steps.new) }
-    ensures in_turn { (result.status ≡ 0) ⊎ (result.status ≡ 3) → RiseFrom 1 (log_tree result.log) }
+    ensures served { result.status ≡ 0 → IfSome (command_named words.now) (λ command.
+        (text : List ℕ) × Appends (K.contents out.old) (K.contents out.new) text × IsRun (S.bytes_of scripts.old) command text (log_tree result.log) result.work steps.old steps.new) }
+    ensures prefix { result.status ≡ 3 → IfSome (command_named words.now) (λ command.
+        (text : List ℕ) × AppendsPrefix (K.contents out.old) (K.contents out.new) text × IsRun (S.bytes_of scripts.old) command text (log_tree result.log) result.work steps.old steps.new) }
 
-    // When each other status comes, and which file it is about.
-    ensures words { run_files words.now ≡ None → (result.status ≡ 1) × (result.at ≡ 0) ⊎ (result.status ≡ 5) }
-    ensures other_words { result.status ≡ 1 → run_files words.now ≡ None }
-    ensures unfit { (result.status ≡ 4) ⊎ (result.status ≡ 6) → IfSome (run_files words.now) (λ names.
-        (texts : List (List ℕ)) × AreTexts (S.bytes_of scripts.old) names texts × IsFirstUnfit 1 texts result.status result.at) }
-    ensures found { IfSome (run_files words.now) (λ names. (texts : List (List ℕ)) (status at : ℕ)
-        → AreToldFirst (S.bytes_of scripts.old) names texts → IsFirstUnfit 1 texts status at → ¬ Rose (S.faults scripts.old) (S.faults scripts.new)
+    // When each other status comes, and what it is about.
+    ensures words { command_named words.now ≡ None → (result.status ≡ 1) × (result.at ≡ 0) ⊎ (result.status ≡ 5) }
+    ensures other_words { result.status ≡ 1 → command_named words.now ≡ None }
+    ensures wrong { (result.status ≡ 4) ⊎ (result.status ≡ 6) ⊎ (result.status ≡ 7) → IfSome (command_named words.now) (λ command.
+        IsFirstWrong (S.bytes_of scripts.old) command result.status result.at) }
+    ensures found { IfSome (command_named words.now) (λ command. (status at : ℕ)
+        → IsToldWrong (S.bytes_of scripts.old) command status at → ¬ Rose (S.faults scripts.old) (S.faults scripts.new)
         → ((result.status ≡ status) × (result.at ≡ at)) ⊎ (result.status ≡ 5)) }
     ensures read_fault { result.status ≡ 2 → Rose (S.faults scripts.old) (S.faults scripts.new) }
-    ensures reached { result.status ≡ 2 → IfSome (run_files words.now) (λ names. (1 ≤ result.at) × CanBeRun (S.bytes_of scripts.old) (take (result.at - 1) names)) }
+    ensures reached { result.status ≡ 2 → IfSome (command_named words.now) (λ command. IsReached (S.bytes_of scripts.old) command result.at) }
     ensures write_fault { result.status ≡ 3 → Rose (K.faults out.old) (K.faults out.new) }
-    ensures complete { IfSome (run_files words.now) (λ names. (texts : List (List ℕ))
-        → AreToldFirst (S.bytes_of scripts.old) names texts → length texts ≡ length names → AreRunnable texts
+    ensures complete { IfSome (command_named words.now) (λ command. IsToldRight (S.bytes_of scripts.old) command
         → ¬ Rose (S.faults scripts.old) (S.faults scripts.new) → ¬ Rose (K.faults out.old) (K.faults out.new)
         → (result.status ≡ 0) ⊎ (result.status ≡ 5)) }
     ensures known { is_status result.status ≡ true }
     ensures at { (result.status ≡ 0) ⊎ (result.status ≡ 1) ⊎ (result.status ≡ 3) ⊎ (result.status ≡ 5) → result.at ≡ 0 }
-    ensures file { IfSome (run_files words.now) (λ names. result.at ≤ length names) }
+    ensures file { IfSome (command_named words.now) (λ command. result.status ≢ 7 → result.at ≤ length (files_of command)) }
 
     // What each of them leaves.
-    ensures silent { (result.status ≡ 1) ⊎ (result.status ≡ 2) ⊎ (result.status ≡ 4) ⊎ (result.status ≡ 5) ⊎ (result.status ≡ 6) → (K.contents out.new ≡ K.contents out.old) × (result.log ≡ []) × (result.work ≡ 0) }
+    ensures silent { (result.status ≢ 0) → (result.status ≢ 3) → (K.contents out.new ≡ K.contents out.old) × (result.log ≡ []) × (result.work ≡ 0) }
 
-    // No plan is run then; what is counted otherwise stands in the run's record.
-    ensures idle { (result.status ≡ 1) ⊎ (result.status ≡ 2) ⊎ (result.status ≡ 4) ⊎ (result.status ≡ 6) → steps.new ≡ steps.old }
+    // No statement is run then; what is counted otherwise stands in the run's record.
+    ensures idle { (result.status ≢ 0) → (result.status ≢ 3) → (result.status ≢ 5) → steps.new ≡ steps.old }
 {
-    let files = match files_of(alloc, words) {
-        Ok(Some(files)) => files,
+    let command = match command_of(alloc, words) {
+        Ok(Some(command)) => command,
         Ok(None) => return failed(alloc, Failure::Words),
         Err(Memory) => return failed(alloc, Failure::Memory),
     };
-    match read_scripts(alloc, scripts, files.as_slice()) {
-        Ok(read) => serve(alloc, read.as_slice(), out, kernel, steps),
+    match read_inputs(alloc, scripts, &command) {
+        Ok(inputs) => serve(alloc, options_of(command), inputs, out, kernel, steps),
         Err(failure) => failed(alloc, failure),
     }
 }
@@ -105,24 +106,29 @@ fn failed(alloc: Global, failure: Failure) -> Served
     }
 }
 
-/// Runs scripts that were read, and writes what is printed of their log.
+/// Runs scripts that were read, and writes what is printed of their run.
 fn serve<K: Sink, E: Operate, L: Ledger>(
     alloc: Global,
-    scripts: &[Script],
+    options: RunOptions,
+    inputs: Inputs,
     out: &mut K,
     kernel: &E,
     steps: &mut Steps<L>,
 ) -> Served
-    requires few { length scripts.now ≤ 16 }
-    requires short { All (λ script. length script.pieces ≤ 256) scripts.now }
-    ensures served { result.status ≡ 0 → (text : List ℕ) × Appends (K.contents out.old) (K.contents out.new) text × Produces (names_of scripts.now) (pieces_in scripts.now) (log_tree result.log) text result.work steps.old steps.new }
-    ensures prefix { result.status ≡ 3 → (text : List ℕ) × AppendsPrefix (K.contents out.old) (K.contents out.new) text × Produces (names_of scripts.now) (pieces_in scripts.now) (log_tree result.log) text result.work steps.old steps.new }
+    requires fit { AreFit options }
+    requires few { length inputs.scripts.items ≤ 16 }
+    requires short { AllByRecursion (λ (pieces : List (List ℕ)). length pieces ≤ 256) (pieces_in inputs.scripts.items) }
+    requires turns { AllByRecursion (λ turn. (1 ≤ turn) × (turn ≤ length inputs.scripts.items)) inputs.turns.items }
+    ensures served { result.status ≡ 0 → (text : List ℕ) × Appends (K.contents out.old) (K.contents out.new) text
+        × IsServed options (names_of inputs.scripts.items) (pieces_in inputs.scripts.items) inputs.turns.items text (log_tree result.log) result.work steps.old steps.new }
+    ensures prefix { result.status ≡ 3 → (text : List ℕ) × AppendsPrefix (K.contents out.old) (K.contents out.new) text
+        × IsServed options (names_of inputs.scripts.items) (pieces_in inputs.scripts.items) inputs.turns.items text (log_tree result.log) result.work steps.old steps.new }
     ensures write_fault { result.status ≡ 3 → Rose (K.faults out.old) (K.faults out.new) }
     ensures known { (result.status ≡ 0) ⊎ (result.status ≡ 3) ⊎ (result.status ≡ 5) }
     ensures silent { result.status ≡ 5 → (K.contents out.new ≡ K.contents out.old) × (result.log ≡ []) × (result.work ≡ 0) }
     ensures at { result.at ≡ 0 }
 {
-    match produce(alloc, scripts, kernel, steps) {
+    match produce(alloc, options, inputs, kernel, steps) {
         Err(Memory) => failed(alloc, Failure::Memory),
         Ok(produced) => {
             let status = match write_all(out, produced.text.as_slice()) {

@@ -8,7 +8,7 @@ use Rattle.query_run.proofs.reuse.select_parts.Goals as goal
 
 pub merge_by_heads-requires : goal.merge_by_heads-requires
 merge_by_heads-requires g c =
-    subst (AllByRecursion (λ (part : Pairs). rises (heads_of part) ≡ true)) (sym (c.as_slice.ensures ∙ c.in_ok-pieces.ensures)) (each c.args.parts.now c.requires)
+    subst (AllByRecursion (λ (part : Pairs). rises (heads_of part) ≡ true)) (sym (c.as_slice.ensures ∙ c.in_ok-pieces.ensures.values)) (each c.args.parts.now c.requires)
   where
     each : (parts : List Part) → AllByRecursion (λ (part : Part). rises (heads_of (selected_in part.span part.value)) ≡ true) parts → AllByRecursion (λ (part : Pairs). rises (heads_of part) ≡ true) (map (λ (part : Part). selected_in part.span part.value) parts)
     each [] all = tt

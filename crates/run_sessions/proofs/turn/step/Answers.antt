@@ -1,23 +1,51 @@
 use Rattle.std.proofs.Common.{◌≤◌, length, refl, arith}
 use Rattle.session_run.proofs.StageLemmas.{computed_stands}
+use Rattle.session_run.proofs.WorkedLemmas.{computed_lost, computed_worked}
 use Rattle.run_log.specs.Events.{log_tree}
-use Rattle.run_sessions.proofs.TurnLemmas.{computed_ready, over_is}
+use Rattle.run_sessions.proofs.CountLemmas.{event_counts, over_counts}
+use Rattle.run_sessions.proofs.TurnLemmas.{computed_over, computed_ready, done_before}
 use Rattle.run_sessions.proofs.turn.step.Goals as goal
 
-pub returns-then-done-clause-turned : goal.returns-then-done-clause-turned
-returns-then-done-clause-turned g c =
+pub returns-then-done : goal.returns-then-done
+returns-then-done g c =
     let book = c.args.book.now in
-    let stands = computed_stands book.options (log_tree book.log) c.args.session.now c.requires.stands c.outside.new.self c.in_ok-outside.ensures in
-    let ready = computed_ready book.options (log_tree book.log) c.args.session.now c.outside.new.self c.requires.stands c.in_ok-outside.ensures in
+    let log = log_tree book.log in
+    let computed = c.in_ok-outside.ensures.computed in
     let all : length c.outside.new.self.pieces ≤ c.outside.new.self.ended = grind (arith, c.done.ensures, c.if-done.true) in
-    (refl, stands, over_is book.options (log_tree book.log) c.outside.new.self stands ready all)
+    let over = computed_over book.options log c.args.session.now c.outside.new.self c.requires.stands computed all in
+    record {
+      options = refl;
+      number = computed.number;
+      pieces = computed.pieces;
+      turned = (
+        refl,
+        computed_stands book.options log c.args.session.now c.requires.stands c.outside.new.self computed,
+        computed_worked book.options log c.args.session.now c.requires.stands c.requires.worked c.outside.new.self computed,
+        over,
+      );
+      counts = over_counts book c.args.session.now c.outside.new.self c.args.steps.now c.outside.new.steps c.in_ok-outside.ensures.counts over.between;
+    }
 
-pub inside-requires-clause-stands : goal.inside-requires-clause-stands
-inside-requires-clause-stands g c =
+pub inside-requires : goal.inside-requires
+inside-requires g c =
     let book = c.args.book.now in
-    computed_stands book.options (log_tree book.log) c.args.session.now c.requires.stands c.outside.new.self c.in_ok-outside.ensures
+    let log = log_tree book.log in
+    let computed = c.in_ok-outside.ensures.computed in
+    record {
+      kind = c.requires.kind;
+      weights = c.requires.weights;
+      stands = computed_stands book.options log c.args.session.now c.requires.stands c.outside.new.self computed;
+      worked = computed_worked book.options log c.args.session.now c.requires.stands c.requires.worked c.outside.new.self computed;
+      more = grind (arith, c.done.ensures, c.if-done.false);
+      ready = computed_ready book.options log c.args.session.now c.outside.new.self c.requires.stands computed;
+    }
 
-pub inside-requires-clause-ready : goal.inside-requires-clause-ready
-inside-requires-clause-ready g c =
-    let book = c.args.book.now in
-    computed_ready book.options (log_tree book.log) c.args.session.now c.outside.new.self c.requires.stands c.in_ok-outside.ensures
+pub returns-clause-turned : goal.returns-clause-turned
+returns-clause-turned g c =
+    let computed = c.in_ok-outside.ensures.computed in
+    done_before c.args.book.now c.inside.new.book c.args.session.now c.outside.new.self c.inside.new.self computed.number computed.pieces c.in_ok-inside.ensures.does
+
+pub returns-clause-counts : goal.returns-clause-counts
+returns-clause-counts g c =
+    event_counts c.args.book.now c.inside.new.book c.args.session.now c.outside.new.self c.inside.new.self c.args.steps.now c.outside.new.steps c.inside.new.steps c.in_ok-outside.ensures.counts
+    (computed_lost c.args.book.now c.args.session.now c.outside.new.self c.requires.worked c.in_ok-outside.ensures.computed) c.in_ok-outside.ensures.computed.number c.in_ok-inside.ensures.counts

@@ -1,28 +1,29 @@
 use Rattle.std.proofs.Common.{refl}
 use Rattle.std.proofs.lemmas.Option.{slice_get_read}
 use Rattle.run_sessions.proofs.PlaceLemmas.{set_other}
-use Rattle.run_sessions.proofs.TurnLemmas.{turn_over, turn_played}
+use Rattle.run_sessions.proofs.TurnLemmas.{turn_counts, turn_over, turn_played}
 use Rattle.run_sessions.proofs.turn.take_turn.Goals as goal
 
-pub step-requires-clause-stands : goal.step-requires-clause-stands
-step-requires-clause-stands g c =
-    let sessions = c.args.sessions.now.items in
+pub step-requires : goal.step-requires
+step-requires g c =
     let x = c.index_mut.result.now in
-    (c.requires.standing c.args.place x (slice_get_read sessions _ c.args.place x refl c.requires.inside c.index_mut.ensures.value)).1
+    let stood = c.requires.standing c.args.place x (slice_get_read c.args.sessions.now.items _ c.args.place x refl c.requires.inside c.index_mut.ensures.value) in
+    record { kind = c.requires.kind; weights = c.requires.weights; stands = stood.1; worked = stood.2 }
 
-pub returns-clause-played : goal.returns-clause-played
-returns-clause-played g c =
+pub returns : goal.returns
+returns g c =
+    let old = c.args.book.now in
+    let new = c.step.new.book in
     let sessions = c.args.sessions.now.items in
+    let place = c.args.place in
     let x = c.index_mut.result.now in
-    turn_played c.args.book.now c.step.new.book sessions c.args.place x c.step.new.session (slice_get_read sessions _ c.args.place x refl c.requires.inside c.index_mut.ensures.value) c.requires.standing
-    c.in_ok-more.ensures.options c.in_ok-more.ensures.number c.in_ok-more.ensures.pieces c.log.ensures.lawful c.in_ok-more.more c.in_ok-more.ensures.turned
-
-pub returns-clause-others : goal.returns-clause-others
-returns-clause-others g c = λ other apart. set_other c.args.sessions.now.items c.args.place other c.step.new.session apart
-
-pub returns-clause-over : goal.returns-clause-over
-returns-clause-over g c =
-    let sessions = c.args.sessions.now.items in
-    let x = c.index_mut.result.now in
-    turn_over c.args.book.now c.step.new.book sessions c.args.place x c.step.new.session (slice_get_read sessions _ c.args.place x refl c.requires.inside c.index_mut.ensures.value) c.requires.standing
-    c.in_ok-more.ensures.options c.in_ok-more.ensures.number c.in_ok-more.ensures.pieces c.log.ensures.lawful c.in_ok-more.more c.in_ok-more.ensures.turned
+    let y = c.step.new.session in
+    let here = slice_get_read sessions _ place x refl c.requires.inside c.index_mut.ensures.value in
+    let told = c.in_ok-more.ensures in
+    let lawful = c.log.ensures.lawful in
+    record {
+      played = turn_played old new sessions place x y here c.requires.standing told.options told.number told.pieces lawful c.one_reading.ensures c.in_ok-more.more told.turned;
+      counts = turn_counts old new sessions place x y here c.requires.standing told.options told.number told.pieces lawful c.args.steps.now c.step.new.steps told.counts;
+      others = λ other apart. set_other sessions place other y apart;
+      over = turn_over old new sessions place x y here c.requires.standing told.options told.number told.pieces lawful c.in_ok-more.more told.turned;
+    }

@@ -1,7 +1,8 @@
-use Rattle.std.proofs.Common.{refl}
+use Rattle.std.proofs.Common.{rules, ◌≡◌, ◌+◌, refl, ap}
 use Rattle.query_run.specs.declared.step.Step.TheVariants as step
 use Rattle.session_run.specs.declared.stage.Stage.TheVariants as stage
 use Rattle.session_run.specs.Stages.{at_stage}
+use Rattle.session_run.proofs.OutsideLemmas.{restaged}
 use Rattle.session_run.proofs.DoesLemmas.{can_offer, offer_does}
 use Rattle.session_run.proofs.session.Session.offer.Goals as goal
 
@@ -12,5 +13,14 @@ offer-requires-clause-offer g c =
 
 pub returns-clause-does : goal.returns-clause-does
 returns-clause-does g c =
-    offer_does c.args.book.now c.offer.new.book c.who-who.result (at_stage c.args.self.now (stage.Querying (step.Offering c.args.query c.args.offer))) _ c.requires.stands c.who-who.ensures c.offer.ensures.options
-    c.args.query c.args.offer c.in_ok-next.next c.in_ok-work.work refl c.log.ensures.lawful c.log-2.ensures.lawful c.in_ok-next.ensures.logged c.in_ok-next.ensures.step refl
+    let sum : c.in_ok-work.work ≡ c.args.self.now.work + c.args.offer.done = search rules in
+    (offer_does c.args.book.now c.offer.new.book c.who-who.result (at_stage c.args.self.now (stage.Querying (step.Offering c.args.query c.args.offer))) _ c.requires.stands c.who-who.ensures c.offer.ensures.options
+    c.requires.worked c.args.query c.args.offer c.in_ok-next.next refl c.log.ensures.lawful c.log-2.ensures.lawful c.in_ok-next.ensures.logged c.in_ok-next.ensures.step
+    (ap (λ work. restaged c.args.self.now work (stage.Querying c.in_ok-next.next)) sum)).0
+
+pub returns-clause-counts : goal.returns-clause-counts
+returns-clause-counts g c =
+    let sum : c.in_ok-work.work ≡ c.args.self.now.work + c.args.offer.done = search rules in
+    (offer_does c.args.book.now c.offer.new.book c.who-who.result (at_stage c.args.self.now (stage.Querying (step.Offering c.args.query c.args.offer))) _ c.requires.stands c.who-who.ensures c.offer.ensures.options
+    c.requires.worked c.args.query c.args.offer c.in_ok-next.next refl c.log.ensures.lawful c.log-2.ensures.lawful c.in_ok-next.ensures.logged c.in_ok-next.ensures.step
+    (ap (λ work. restaged c.args.self.now work (stage.Querying c.in_ok-next.next)) sum)).1

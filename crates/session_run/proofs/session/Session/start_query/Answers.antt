@@ -1,11 +1,20 @@
 use Rattle.std.proofs.Common.{refl}
 use Rattle.sql_tree.specs.Tree.{query_tree, stmt_tree}
-use Rattle.session_run.proofs.DoesLemmas.{query_does}
+use Rattle.session_run.specs.Stages.{at_stage}
+use Rattle.session_run.proofs.DoesLemmas.{DoneSo, query_does}
 use Rattle.session_run.proofs.session.Session.start_query.Goals as goal
+use Rattle.session_run.proofs.session.Session.start_query.Goals.{After-query_stage}
 
-pub returns-clause-does : goal.returns-clause-does
-returns-clause-does c =
+-- it has begun
+begun : (c : After-query_stage) → DoneSo c.args.book.now c.begin.new.self c.args.self.now (at_stage c.args.self.now c.query_stage.result)
+begun c =
     let told = c.in_ok-begun.ensures in
-    query_does c.args.book.now c.begin.new.self c.who.result c.args.self.now _ c.requires.stands c.requires.between c.who.ensures c.begin.ensures.options c.requires.read.0 c.requires.read.1
+    query_does c.args.book.now c.begin.new.self c.who.result c.args.self.now _ c.requires.stands c.requires.worked c.requires.between c.who.ensures c.begin.ensures.options c.requires.read.0 c.requires.read.1
     (query_tree c.args.query.now) c.in_ok-begun.begun.plan c.query_stage.result refl (stmt_tree c.args.stmt.now) c.in_ok-begun.begun.snap c.in_ok-begun.begun.marks.items c.requires.select
     (record { read = c.requires.read.2; outcome_is = told.plan; log = told.logged; db = told.tables; versions = told.versions; marks_are = told.marks; checked = told.checked; fits = told.fits; meaning = told.meaning }) c.query_stage.ensures
+
+pub returns-clause-does : goal.returns-clause-does
+returns-clause-does c = (begun (goal.at.returns-clause-does c).After-query_stage).0
+
+pub returns-clause-counts : goal.returns-clause-counts
+returns-clause-counts c = (begun (goal.at.returns-clause-counts c).After-query_stage).1

@@ -7,6 +7,7 @@ change-requires g c = record {
   weights = c.requires.weights;
   between = c.requires.between;
   stands = c.requires.stands;
+  worked = c.requires.worked;
   change = change_of c.args.stmt c.in_default.not-Query c.in_default.not-Explain;
   formed = c.requires.formed;
   read = c.requires.read;

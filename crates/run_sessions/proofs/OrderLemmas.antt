@@ -1,0 +1,285 @@
+-- The events of a session stay in order, whatever event comes next.
+use Rattle.std.proofs.Common.{◌≡◌, ℕ, ◌+◌, ◌≤◌, List, [], ◌∷◌, ◌++◌, map, take, length, false, true, Option, Some, None, Result, refl, ap, sym, ◌∙◌, subst, arith}
+use Rattle.std.specs.Prelude.{slice_get, ◌==◌}
+use Rattle.std.proofs.lemmas.List.{append_assoc, append-nil, length-take-le, map-append}
+use Rattle.std.proofs.lemmas.Option.{same_Some}
+use Rattle.cell_core.specs.declared.table.Db.{Db}
+use Rattle.pool_policy.specs.declared.options.PoolOptions.{PoolOptions}
+use Rattle.pool_policy.proofs.Ends.{all_append}
+use Rattle.sql_parse.specs.Answered.{EachReadsAsOne, Reads}
+use Rattle.sql_semantics.specs.declared.refusal.Refusal.{Refusal}
+use Rattle.sql_tree.specs.Tree.{StmtTree}
+use Rattle.run_log.specs.Events.{ActTree, Ends, EventTree}
+use Rattle.run_log.specs.Fold.{run_of}
+use Rattle.answer_text.specs.Log.{AreActs, AreStatements, acts_over, code_of, is_of_pool, is_opening, logged_of, shown_over, tables_met, with_between}
+use Rattle.session_run.specs.declared.session.Session.{Session}
+use Rattle.session_run.specs.Progress.{Progress, progress_by, progress_of}
+use Rattle.session_run.specs.Readings.{AreReadings}
+use Rattle.session_run.specs.Kept.{Stands, opened as placed_now}
+use Rattle.session_run.specs.Turns.{IsNext, next_act, state_before, who_at}
+use Rattle.session_run.proofs.LogLemmas.{ArePlaced, other_progress, own_progress, place_next, tables_next, tables_stay}
+use Rattle.session_run.proofs.OtherLemmas.{opened_above, readings_count, stands_placed}
+use Rattle.run_sessions.specs.Ordered.{HasOpened, IsInOrder, IsOpenedAs}
+use Rattle.run_sessions.proofs.ActLemmas.{Closes, GoesOnAs, Opens, Pooled, StartsAs, Whole, goes_on_as, pooled_begun, pooled_ended, starts_as}
+use Rattle.run_sessions.proofs.ListedLemmas.{logged_other, logged_own, readings_next, statements_next, statements_stay}
+
+-- the statements of a session that have ended have readings
+order_count : (log : List EventTree) (x : Session) (o : IsInOrder log x) → x.ended ≤ length x.pieces → length o.readings ≡ x.ended
+order_count log x o within = readings_count (take x.ended x.pieces) o.readings o.read ∙ length-take-le x.ended x.pieces within
+
+-- a session that has not begun has no events
+pub new_ordered : (options : PoolOptions) (x : Session) → Stands options [] x → IsInOrder [] x
+new_ordered options x s = record {
+  readings = [];
+  read = subst (λ n. AreReadings (take n x.pieces) []) s.ended tt;
+  finished = [];
+  opened = [];
+  logged = refl;
+  statements = refl;
+  open_ = refl;
+}
+
+-- ## The session under other names
+
+module _ (log : List EventTree) (x y : Session) where
+  abbrev between_them : Session
+  between_them = record y { number = x.number; pieces = x.pieces; ended = x.ended }
+
+  opened_here : (begun : Option ℕ) (acts : List (ℕ × ActTree)) → IsOpenedAs log x begun acts → IsOpenedAs log between_them begun acts
+  opened_here None acts is = is
+  opened_here (Some at) acts is = record {
+    piece = is.piece;
+    here = is.here;
+    reading = is.reading;
+    read = is.read;
+    first = is.first;
+    opens = is.opens;
+    between = is.between;
+    pool = is.pool;
+    acts_are = is.acts_are;
+  }
+
+  ordered_here : IsInOrder log x → IsInOrder log between_them
+  ordered_here o = record {
+    readings = o.readings;
+    read = o.read;
+    finished = o.finished;
+    opened = o.opened;
+    logged = o.logged;
+    statements = o.statements;
+    open_ = opened_here (progress_of x.number log).begun o.opened o.open_;
+  }
+
+  -- it goes by its number, its texts and how many of them have ended
+  pub ordered_as : x.number ≡ y.number → x.pieces ≡ y.pieces → x.ended ≡ y.ended → IsInOrder log x → IsInOrder log y
+  ordered_as number pieces ended o = subst (IsInOrder log) (λ i. record y { number = number i; pieces = pieces i; ended = ended i }) (ordered_here o)
+
+-- ## One event more
+
+module _ (options : PoolOptions) (log : List EventTree) (x : Session) (s : Stands options log x) (event : EventTree) where
+  abbrev later : List EventTree
+  later = log ++ event ∷ []
+
+  abbrev p : Progress
+  p = progress_of x.number log
+
+  -- the tables of the statements that have ended, and of one that has begun
+  met_before : (j : ℕ) → 1 ≤ j → j ≤ placed_now p p.begun → tables_met later x.number j ≡ tables_met log x.number j
+  met_before j low high = tables_stay x.number j log event (s.placed j low high)
+
+  ended_before : (j : ℕ) → 1 ≤ j → j ≤ x.ended → tables_met later x.number j ≡ tables_met log x.number j
+  ended_before j low high = let ended = s.ended in let above = opened_above p p.begun in met_before j low (omega (arith, high, ended, above))
+
+  finished_stay : (o : IsInOrder log x) → AreStatements later x.number 1 o.readings o.finished
+  finished_stay o =
+      let count = order_count log x o s.within in
+      statements_stay log later x.number 1 o.readings o.finished (λ j low high. ended_before j low (omega (arith, high, count))) o.statements
+
+  -- what holds of the present statement's tables holds behind the event
+  met_now : (at : ℕ) → p.begun ≡ Some at → tables_met later x.number (x.ended + 1) ≡ tables_met log x.number (x.ended + 1)
+  met_now at begun =
+      let ended = s.ended in
+      let placed : placed_now p p.begun ≡ p.ended + 1 = ap (placed_now p) begun in
+      met_before (x.ended + 1) (omega arith) (omega (arith, placed, ended))
+
+  opens_later : (at : ℕ) → p.begun ≡ Some at → (reading : Result StmtTree Refusal) (first : ActTree)
+      → acts_over (tables_met log x.number (x.ended + 1)) reading ≡ first ∷ Ends (code_of (shown_over (tables_met log x.number (x.ended + 1)) reading)) ∷ []
+      → acts_over (tables_met later x.number (x.ended + 1)) reading ≡ first ∷ Ends (code_of (shown_over (tables_met later x.number (x.ended + 1)) reading)) ∷ []
+  opens_later at begun reading first opens =
+      subst (λ (db : Db). acts_over db reading ≡ first ∷ Ends (code_of (shown_over db reading)) ∷ []) (sym (met_now at begun)) opens
+
+  -- ## Of another session
+
+  others_opened : (begun : Option ℕ) → p.begun ≡ begun → (acts : List (ℕ × ActTree)) → IsOpenedAs log x begun acts → IsOpenedAs later x begun acts
+  others_opened None is acts none = none
+  others_opened (Some at) is acts has = record {
+    piece = has.piece;
+    here = has.here;
+    reading = has.reading;
+    read = has.read;
+    first = has.first;
+    opens = opens_later at is has.reading has.first has.opens;
+    between = has.between;
+    pool = has.pool;
+    acts_are = has.acts_are;
+  }
+
+  -- the events of a session stay in order behind an event of another
+  pub others_ordered : (event.session == x.number) ≡ false → IsInOrder log x → IsInOrder later x
+  others_ordered other o = record {
+    readings = o.readings;
+    read = o.read;
+    finished = o.finished;
+    opened = o.opened;
+    logged = logged_other x.number log event other ∙ o.logged;
+    statements = finished_stay o;
+    open_ = subst (λ (q : Progress). IsOpenedAs later x q.begun o.opened) (sym (other_progress x.number log event other)) (others_opened p.begun refl o.opened o.open_);
+  }
+
+  -- ## Its own
+
+  module _ (each : EachReadsAsOne) (next : IsNext options x.pieces x.number log event)
+      (ends : (code : ℕ) → event.act ≡ Ends code → code ≡ code_of (shown_over (tables_met log event.session event.statement) next.reading)) (o : IsInOrder log x) where
+    abbrev q : Progress
+    q = progress_by (length log + 1) event.act p
+
+    own : event.session ≡ x.number
+    own = ap (λ (e : EventTree). e.session) next.is
+
+    numbered : event.statement ≡ x.ended + 1
+    numbered = ap (λ (e : EventTree). e.statement) next.is ∙ ap (λ n. n + 1) s.ended
+
+    acted : event.act ≡ next_act options log (who_at x.number p) p p.begun next.reading
+    acted = ap (λ (e : EventTree). e.act) next.is
+
+    text_here : slice_get x.pieces x.ended ≡ Some next.piece
+    text_here = ap (slice_get x.pieces) (sym s.ended) ∙ next.here
+
+    progress_is : progress_of x.number later ≡ q
+    progress_is = own_progress x.number log event own
+
+    -- what the log says then
+    logged_then : logged_of x.number later ≡ (o.finished ++ o.opened) ++ (x.ended + 1, event.act) ∷ []
+    logged_then = logged_own x.number log event own ∙ (λ i. o.logged i ++ (numbered i, event.act) ∷ [])
+
+    -- the session behind the event
+    abbrev ended_at : ℕ → Session
+    ended_at n = record x { ended = n }
+
+    -- a statement is finished
+    finishes : (acts : List ActTree) (reading : Result StmtTree Refusal) → Reads next.piece reading → AreActs (tables_met later x.number (x.ended + 1)) reading acts
+        → o.opened ++ (x.ended + 1, event.act) ∷ [] ≡ map {B = ℕ × ActTree} (λ act. (x.ended + 1, act)) acts → q.begun ≡ None → IsInOrder later (ended_at (x.ended + 1))
+    finishes acts reading read are same none = record {
+      readings = o.readings ++ reading ∷ [];
+      read = readings_next x.pieces x.ended o.readings next.piece reading text_here o.read read;
+      finished = o.finished ++ map {B = ℕ × ActTree} (λ act. (x.ended + 1, act)) acts;
+      opened = [];
+      logged = logged_then ∙ append_assoc o.finished o.opened ((x.ended + 1, event.act) ∷ []) ∙ ap (λ more. o.finished ++ more) same ∙ sym (append-nil (o.finished ++ map {B = ℕ × ActTree} (λ act. (x.ended + 1, act)) acts));
+      statements = (let count = order_count log x o s.within in
+          statements_next later x.number 1 (x.ended + 1) o.readings reading o.finished acts (omega (arith, count)) are (finished_stay o));
+      open_ = subst (λ begun. IsOpenedAs later (ended_at (x.ended + 1)) begun []) (sym (ap (λ (r : Progress). r.begun) progress_is ∙ none)) refl;
+    }
+
+    -- a statement has begun
+    stays_open : (at : ℕ) → q.begun ≡ Some at → (acts : List (ℕ × ActTree)) → HasOpened later x acts → acts ≡ o.opened ++ (x.ended + 1, event.act) ∷ [] → IsInOrder later x
+    stays_open at begun acts has same = record {
+      readings = o.readings;
+      read = o.read;
+      finished = o.finished;
+      opened = acts;
+      logged = logged_then ∙ append_assoc o.finished o.opened ((x.ended + 1, event.act) ∷ []) ∙ ap (λ more. o.finished ++ more) (sym same);
+      statements = finished_stay o;
+      open_ = subst (λ begun. IsOpenedAs later x begun acts) (sym (ap (λ (r : Progress). r.begun) progress_is ∙ begun)) has;
+    }
+
+    module _ (y : Session) (number : y.number ≡ x.number) (pieces : y.pieces ≡ x.pieces) (ended : y.ended ≡ (progress_of x.number later).ended) where
+      ended_is : y.ended ≡ q.ended
+      ended_is = ended ∙ ap (λ (r : Progress). r.ended) progress_is
+
+      abbrev entry : ℕ × ActTree
+      entry = (x.ended + 1, event.act)
+
+      abbrev with_number : ActTree → ℕ × ActTree
+      with_number act = (x.ended + 1, act)
+
+      -- nothing has begun
+      module _ (none : p.begun ≡ None) where
+        nothing_opened : o.opened ≡ []
+        nothing_opened = subst (λ begun. IsOpenedAs log x begun o.opened) none o.open_
+
+        met_next : is_opening event.act ≡ true → tables_met later x.number (x.ended + 1) ≡ (run_of options log).db
+        met_next opening =
+            let placed : placed_now p p.begun ≡ x.ended = ap (placed_now p) none ∙ s.ended in
+            tables_next options x.number (x.ended + 1) log event
+            (place_next x.number x.ended log event own numbered opening (subst (λ n. ArePlaced x.number n log) placed (stands_placed options log x s)))
+
+        starts : StartsAs (run_of options log).db next.reading event.act → IsInOrder later y
+        starts (Whole statement code count is over) =
+            let met = met_next (ap is_opening is) in
+            let acts : event.act ∷ [] ≡ with_between [] (acts_over (tables_met later x.number (x.ended + 1)) next.reading) = sym (ap (with_between []) (ap (λ (db : Db). acts_over db next.reading) met ∙ over)) in
+            let many : x.ended + 1 ≡ y.ended = sym (ended_is ∙ ap (λ a. (progress_by (length log + 1) a p).ended) is ∙ ap (λ n. n + 1) s.ended) in
+            ordered_as later (ended_at (x.ended + 1)) y (sym number) (sym pieces) many
+            (finishes (event.act ∷ []) next.reading next.read ([], tt, acts) (ap (λ before. before ++ entry ∷ []) nothing_opened) (ap (λ a. (progress_by (length log + 1) a p).begun) is ∙ none))
+        starts (Opens code plan is over) =
+            let met = met_next (ap is_opening is) in
+            let many : x.ended ≡ y.ended = sym (ended_is ∙ ap (λ a. (progress_by (length log + 1) a p).ended) is ∙ s.ended) in
+            let has : HasOpened later x (entry ∷ []) = record {
+              piece = next.piece;
+              here = text_here;
+              reading = next.reading;
+              read = next.read;
+              first = event.act;
+              opens = subst (λ (db : Db). acts_over db next.reading ≡ event.act ∷ Ends (code_of (shown_over db next.reading)) ∷ []) (sym met) over;
+              between = [];
+              pool = tt;
+              acts_are = refl;
+            } in
+            ordered_as later x y (sym number) (sym pieces) many
+            (stays_open (length log + 1) (ap (λ a. (progress_by (length log + 1) a p).begun) is) (entry ∷ []) has (sym (ap (λ before. before ++ entry ∷ []) nothing_opened)))
+
+      -- a statement has begun
+      module _ (at : ℕ) (is_begun : p.begun ≡ Some at) where
+        abbrev under : HasOpened log x o.opened
+        under = subst (λ begun. IsOpenedAs log x begun o.opened) is_begun o.open_
+
+        acts_then : o.opened ++ entry ∷ [] ≡ map with_number (under.first ∷ (under.between ++ event.act ∷ []))
+        acts_then = ap (λ before. before ++ entry ∷ []) under.acts_are ∙ sym (map-append with_number (under.first ∷ under.between) (event.act ∷ []))
+
+        goes_on : GoesOnAs event.act → IsInOrder later y
+        goes_on (Pooled is) =
+            let many : x.ended ≡ y.ended = sym (ended_is ∙ pooled_ended (length log + 1) event.act p is ∙ s.ended) in
+            let has : HasOpened later x (o.opened ++ entry ∷ []) = record {
+              piece = under.piece;
+              here = under.here;
+              reading = under.reading;
+              read = under.read;
+              first = under.first;
+              opens = opens_later at is_begun under.reading under.first under.opens;
+              between = under.between ++ event.act ∷ [];
+              pool = all_append (λ act. is_of_pool act ≡ true) under.between (event.act ∷ []) under.pool (is, tt);
+              acts_are = acts_then;
+            } in
+            ordered_as later x y (sym number) (sym pieces) many (stays_open at (pooled_begun (length log + 1) event.act p is ∙ is_begun) (o.opened ++ entry ∷ []) has refl)
+        goes_on (Closes code is) =
+            let many : x.ended + 1 ≡ y.ended = sym (ended_is ∙ ap (λ a. (progress_by (length log + 1) a p).ended) is ∙ ap (λ n. n + 1) s.ended) in
+            let text = same_Some under.piece next.piece (sym under.here ∙ text_here) in
+            let read = subst (λ piece. Reads piece under.reading) text under.read in
+            let reading = each next.piece next.reading under.reading next.read read in
+            let last : event.act ≡ Ends (code_of (shown_over (tables_met later x.number (x.ended + 1)) under.reading)) =
+            is ∙ ap Ends (ends code is ∙ (λ i. code_of (shown_over (tables_met log (own i) (numbered i)) (reading i))) ∙ ap (λ (db : Db). code_of (shown_over db under.reading)) (sym (met_now at is_begun))) in
+            let acts : under.first ∷ (under.between ++ event.act ∷ []) ≡ with_between under.between (acts_over (tables_met later x.number (x.ended + 1)) under.reading) =
+            ap (λ a. under.first ∷ (under.between ++ a ∷ [])) last ∙ sym (ap (with_between under.between) (opens_later at is_begun under.reading under.first under.opens)) in
+            ordered_as later (ended_at (x.ended + 1)) y (sym number) (sym pieces) many
+            (finishes (under.first ∷ (under.between ++ event.act ∷ [])) under.reading read (under.between, under.pool, acts) acts_then (ap (λ a. (progress_by (length log + 1) a p).begun) is))
+
+      -- they stay in order behind an event of its own
+      pub own_ordered : IsInOrder later y
+      own_ordered = go p.begun refl
+        where
+          go : (begun : Option ℕ) → p.begun ≡ begun → IsInOrder later y
+          go None is =
+              let act = acted ∙ ap (λ b. next_act options log (who_at x.number p) p b next.reading) is in
+              starts is (subst (StartsAs (run_of options log).db next.reading) (sym act) (starts_as (run_of options log) next.reading))
+          go (Some at) is =
+              let act = acted ∙ ap (λ b. next_act options log (who_at x.number p) p b next.reading) is in
+              goes_on at is (subst GoesOnAs (sym act) (goes_on_as (run_of options log) (who_at x.number p) (state_before options log at) p next.reading))

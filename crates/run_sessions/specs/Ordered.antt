@@ -1,0 +1,37 @@
+-- The events of a session, in the order of its statements.
+use Rattle.std.specs.Prelude.{◌≡◌, ℕ, ◌+◌, List, [], ◌∷◌, ◌++◌, map, take, true, Option, Some, None, Result, slice_get}
+use Rattle.std.specs.List.{AllByRecursion}
+use Rattle.sql_parse.specs.Answered.{Reads}
+use Rattle.sql_semantics.specs.declared.refusal.Refusal.{Refusal}
+use Rattle.sql_tree.specs.Tree.{StmtTree}
+use Rattle.run_log.specs.Events.{ActTree, Ends, EventTree}
+use Rattle.answer_text.specs.Log.{AreStatements, acts_over, code_of, is_of_pool, logged_of, shown_over, tables_met}
+use Rattle.session_run.specs.declared.session.Session.{Session}
+use Rattle.session_run.specs.Progress.{progress_of}
+use Rattle.session_run.specs.Readings.{AreReadings}
+
+-- the first of a session's statements that have not ended has begun: its Begin stands in the log, and behind it looks and admissions
+pub record HasOpened (log : List EventTree) (x : Session) (acts : List (ℕ × ActTree)) : Type 0 where
+  pub piece : List ℕ
+  pub here : slice_get x.pieces x.ended ≡ Some piece
+  pub reading : Result StmtTree Refusal
+  pub read : Reads piece reading
+  pub first : ActTree
+  pub opens : acts_over (tables_met log x.number (x.ended + 1)) reading ≡ first ∷ Ends (code_of (shown_over (tables_met log x.number (x.ended + 1)) reading)) ∷ []
+  pub between : List ActTree
+  pub pool : AllByRecursion (λ act. is_of_pool act ≡ true) between
+  pub acts_are : acts ≡ map {B = ℕ × ActTree} (λ act. (x.ended + 1, act)) (first ∷ between)
+
+abbrev pub IsOpenedAs : List EventTree → Session → Option ℕ → List (ℕ × ActTree) → Type 0
+IsOpenedAs log x None acts = acts ≡ []
+IsOpenedAs log x (Some at) acts = HasOpened log x acts
+
+-- its events are those of its statements that have ended, and of the one that has begun
+pub record IsInOrder (log : List EventTree) (x : Session) : Type 0 where
+  pub readings : List (Result StmtTree Refusal)
+  pub read : AreReadings (take x.ended x.pieces) readings
+  pub finished : List (ℕ × ActTree)
+  pub opened : List (ℕ × ActTree)
+  pub logged : logged_of x.number log ≡ finished ++ opened
+  pub statements : AreStatements log x.number 1 readings finished
+  pub open_ : IsOpenedAs log x (progress_of x.number log).begun opened

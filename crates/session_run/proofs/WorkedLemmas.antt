@@ -1,0 +1,188 @@
+-- A session's work through what it computes.
+use Rattle.std.proofs.Common.{◌≡◌, ℕ, ◌+◌, ◌-◌, ◌≤◌, List, [], ◌∷◌, ◌++◌, map, length, Some, None, refl, ap, sym, ◌∙◌, subst, arith}
+use Rattle.std.specs.Prelude.{sum_by, unwrap_or}
+use Rattle.std.specs.Option.{option_map_or}
+use Rattle.std.proofs.lemmas.List.Sums.{sum_by-cons}
+use Rattle.cell_core.specs.declared.operator.Instr.{Instr}
+use Rattle.cell_core.specs.declared.table.Db.{Db}
+use Rattle.cell_core.specs.Pairs.{Pairs, pair_count}
+use Rattle.mal_meaning.specs.declared.plan.Plan.{Plan}
+use Rattle.mal_meaning.specs.Meaning.{instr_load, plan_load, plan_rows, plan_values}
+use Rattle.lineage_key.specs.declared.key.Key.{Key}
+use Rattle.reuse_laws.specs.Reuse.{selected_in}
+use Rattle.pool_policy.specs.declared.options.Admitted.{Admitted}
+use Rattle.pool_policy.specs.declared.options.PoolOptions.{PoolOptions}
+use Rattle.pool_policy.specs.Keeps.{faces, value_in}
+use Rattle.pool_policy.specs.Laws.{value_of}
+use Rattle.pool_policy.specs.Looks.{look_of}
+use Rattle.pool_policy.specs.Pool.{PoolState}
+use Rattle.recycle_pool.specs.Answers.{ArePooled, HandsOut, piece_in, told}
+use Rattle.recycle_pool.specs.declared.found.Found.{Found}
+use Rattle.recycle_pool.specs.declared.found.Found.TheVariants as found
+use Rattle.recycle_pool.specs.declared.found.Part.{Part}
+use Rattle.store_changes.specs.Work.{lost_unless}
+use Rattle.table_store.specs.Content.{Content}
+use Rattle.run_log.specs.Events.{Admits, Ends, EventTree, log_tree}
+use Rattle.answer_text.specs.declared.shown.Shown.{Shown}
+use Rattle.answer_text.specs.Log.{code_of}
+use Rattle.book_core.specs.BookView.{BookView}
+use Rattle.query_run.specs.declared.step.Query.{Query}
+use Rattle.query_run.specs.declared.step.Offer.{Offer}
+use Rattle.query_run.specs.declared.step.Step.{Step}
+use Rattle.query_run.specs.declared.step.Step.TheVariants as step
+use Rattle.query_run.specs.Queries.{BecomesOf, ComesTo, EndsWith, IsAt, IsOffered, part_work, unmarked_work, work_from}
+use Rattle.query_run.specs.Queries.EndsWith.{HasRows, Overflows}
+use Rattle.query_run.specs.Steps.{Computes, IsSoundStep, lost_at}
+use Rattle.session_run.specs.declared.session.Session.{Session}
+use Rattle.session_run.specs.declared.stage.Stage.{Stage}
+use Rattle.session_run.specs.declared.stage.Stage.TheVariants as stage
+use Rattle.session_run.specs.Progress.{Progress, progress_of}
+use Rattle.session_run.specs.Kept.{Stands}
+use Rattle.session_run.specs.Work.{act_lost, act_work, load_at, pairs_at, piece_work, pool_looked, session_work, tables_begun, work_by}
+use Rattle.session_run.specs.Works.{IsLookedUp, IsPlanned, IsWorked, IsWorkedStage, IsWorkedStep, lost_in, lost_next}
+use Rattle.session_run.specs.Stages.{ComesTo as StageComesTo, HasComputed, IsSoundStage}
+use Rattle.session_run.proofs.StageLemmas.{stage_sound}
+
+-- ## What is found
+
+value_pooled : (pool : PoolState) (id : ℕ) (value : Pairs) → value_in (faces pool.entries) id ≡ Some value → value_of pool id ≡ value
+value_pooled pool id value pooled = ap (λ o. unwrap_or o []) pooled
+
+parts_count : (pool : PoolState) (parts : List Part) → ArePooled pool.entries parts → sum_by (piece_work pool) (map piece_in parts) ≡ sum_by part_work parts
+parts_count pool [] are = refl
+parts_count pool (part ∷ parts) are =
+    sum_by-cons (piece_work pool) (piece_in part) (map piece_in parts)
+    ∙ ap (λ (value : Pairs). length value + length (selected_in part.span value) + sum_by (piece_work pool) (map piece_in parts)) (value_pooled pool part.id part.value are.0)
+    ∙ ap (λ more. part_work part + more) (parts_count pool parts are.1)
+    ∙ sym (sum_by-cons part_work part parts)
+
+-- the work by what a look found is the work from what it handed out
+found_counts : (pool : PoolState) (what : Found) (parts : List Part) (load pairs : ℕ) → HandsOut pool.entries what parts → work_by pool (told what parts) load pairs ≡ work_from what parts load pairs
+found_counts pool (found.Exact id value) parts load pairs out = refl
+found_counts pool (found.Within id value) parts load pairs out = ap (λ (v : Pairs). length v + pairs) (value_pooled pool id value out.0)
+found_counts pool (found.Across count) parts load pairs out = ap (λ n. n + pairs) (parts_count pool parts out.0)
+found_counts pool found.Miss parts load pairs out = refl
+
+-- ## Steps
+
+module _ (options : PoolOptions) (log : List EventTree) (p : Progress) where
+  abbrev pool : PoolState
+  pool = pool_looked options log p
+
+  planned_as : (q to : Query) → to.snap ≡ q.snap → to.plan ≡ q.plan → IsPlanned options log p q → IsPlanned options log p to
+  planned_as q to snap plan k = record { plan = k.plan ∙ ap Some (sym plan); db = k.db ∙ ap (λ (content : Content). content.db) (sym snap) }
+
+  -- the End of a query that was run to its end counts its unmarked instructions
+  end_counts : (q : Query) → IsPlanned options log p q → act_work options log p (Ends 0) ≡ unmarked_work q.plan q.snap.db
+  end_counts q k = ap (λ plan. option_map_or (λ pl. unmarked_work pl (tables_begun options log p)) plan 0) k.plan ∙ ap (unmarked_work q.plan) k.db
+
+  ends_worked : (q : Query) → IsPlanned options log p q → (ids : List ℕ) (reply : Shown) (work : ℕ) → EndsWith q.snap q.plan ids reply work → work ≡ act_work options log p (Ends (code_of reply))
+  ends_worked q k ids reply work (Overflows next none is no_work) = no_work ∙ ap (λ r. act_work options log p (Ends (code_of r))) (sym is)
+  ends_worked q k ids reply work (HasRows rows next some is counted) = counted ∙ sym (end_counts q k) ∙ ap (λ r. act_work options log p (Ends (code_of r))) (sym is)
+
+  comes_worked : (q : Query) → IsPlanned options log p q → (ids : List ℕ) (to : Step) → ComesTo q.snap q.plan ids to → IsWorkedStep options log p to
+  comes_worked q k ids (step.Asking to key) asks = planned_as q to asks.goes.snap_is asks.goes.plan_is k
+  comes_worked q k ids (step.Ending reply work) ends = ends_worked q k ids reply work ends
+  comes_worked q k ids (step.Begun to) none = absurd none
+  comes_worked q k ids (step.Found to what parts) none = absurd none
+  comes_worked q k ids (step.Offering to offer) none = absurd none
+  comes_worked q k ids (step.Gained to value id) none = absurd none
+
+  -- the work of the next result's Admit
+  abbrev admit_counts : Key → Plan → Db → ℕ → ℕ
+  admit_counts key plan db n = work_by pool (look_of pool key) (load_at plan db n) (pairs_at plan db n)
+
+  -- it is that which was done
+  offer_worked : (q : Query) → IsPlanned options log p q → (instr : Instr) → IsAt q instr → (what : Found) (parts : List Part) → IsLookedUp pool q what parts → (offer : Offer) → IsOffered q instr offer
+      → offer.done ≡ work_from what parts offer.work (length offer.value) → (result : Admitted) → offer.done ≡ act_work options log p (Admits (length q.values + 1) offer.key result)
+  offer_worked q k instr at what parts looked offer offered done result =
+      let n = length q.values in
+      let found = looked instr at in
+      let last : (n + 1) - 1 ≡ n = omega arith in
+      done ∙ sym (
+      ap (λ plan. option_map_or (λ pl. admit_counts offer.key pl (tables_begun options log p) ((n + 1) - 1)) plan 0) k.plan
+      ∙ ap (λ db. admit_counts offer.key q.plan db ((n + 1) - 1)) k.db
+      ∙ ap (admit_counts offer.key q.plan q.snap.db) last
+      ∙ ap (λ o. work_by pool (look_of pool offer.key) (option_map_or (instr_load q.snap.db (plan_values q.snap.db q.plan.instrs)) o 0) (pairs_at q.plan q.snap.db n)) at.here
+      ∙ ap (λ load. work_by pool (look_of pool offer.key) load (pairs_at q.plan q.snap.db n)) (sym offered.work)
+      ∙ ap (λ o. work_by pool (look_of pool offer.key) offer.work (option_map_or pair_count (unwrap_or o None) 0)) offered.value
+      ∙ ap (λ finding. work_by pool finding offer.work (length offer.value)) (ap (look_of pool) offered.key ∙ sym found.0)
+      ∙ found_counts pool what parts offer.work (length offer.value) found.1
+      )
+
+  becomes_worked : (q : Query) → IsPlanned options log p q → (instr : Instr) → IsAt q instr → (what : Found) (parts : List Part) → IsLookedUp pool q what parts → (to : Step) → BecomesOf q instr what parts to → IsWorkedStep options log p to
+  becomes_worked q k instr at what parts looked (step.Offering to offer) b =
+      subst (λ r. IsWorkedStep options log p (step.Offering r offer)) (sym b.0) (k, offer_worked q k instr at what parts looked offer b.1 b.2)
+  becomes_worked q k instr at what parts looked (step.Ending reply work) b = b.3 ∙ ap (λ r. act_work options log p (Ends (code_of r))) (sym b.2)
+  becomes_worked q k instr at what parts looked (step.Begun to) none = absurd none
+  becomes_worked q k instr at what parts looked (step.Asking to key) none = absurd none
+  becomes_worked q k instr at what parts looked (step.Found to other pieces) none = absurd none
+  becomes_worked q k instr at what parts looked (step.Gained to value id) none = absurd none
+
+  step_computes : (from to : Step) → IsSoundStep from → IsWorkedStep options log p from → Computes from to → IsWorkedStep options log p to
+  step_computes (step.Begun q) to sound is c = comes_worked q is q.ids.items to c
+  step_computes (step.Asking q key) to sound is c = subst (IsWorkedStep options log p) (sym c) is
+  step_computes (step.Found q what parts) to sound is c =
+      becomes_worked q is.0 sound.1.0 sound.1.1 what parts.items is.1 to (c sound.1.0 sound.1.1)
+  step_computes (step.Offering q offer) to sound is c = subst (IsWorkedStep options log p) (sym c) is
+  step_computes (step.Gained q value id) to sound is c = comes_worked q is (q.ids.items ++ id ∷ []) to c
+  step_computes (step.Ending reply work) to sound is c = subst (IsWorkedStep options log p) (sym c) is
+
+  -- ## Stages
+
+  stage_computes : (at next : Stage) (k : ℕ) (text more : List ℕ) → IsSoundStage at → IsWorkedStage options log p at → StageComesTo at k text next more → IsWorkedStage options log p next
+  stage_computes stage.Between next k text more sound is c = subst (IsWorkedStage options log p) (sym c.0) tt
+  stage_computes (stage.Telling reply) next k text more sound is c = subst (IsWorkedStage options log p) (sym c.0) tt
+  stage_computes (stage.Querying from) next k text more sound is c = subst (IsWorkedStage options log p) (sym c.1) (step_computes from c.0 sound is c.2)
+  stage_computes (stage.Explaining plan) next k text more sound is c =
+      subst (IsWorkedStage options log p) (sym c.0) (sym (ap (λ begun. option_map_or (λ pl. unmarked_work pl (tables_begun options log p)) begun 0) is))
+
+  -- ## What is lost
+
+  end_loses : (q : Query) → IsPlanned options log p q → (code : ℕ) → act_lost options log p (Ends code) ≡ lost_unless (plan_rows q.plan q.snap.db) (plan_load q.plan q.snap.db)
+  end_loses q k code =
+      ap (λ plan. option_map_or (λ pl. lost_unless (plan_rows pl (tables_begun options log p)) (plan_load pl (tables_begun options log p))) plan 0) k.plan
+      ∙ ap (λ db. lost_unless (plan_rows q.plan db) (plan_load q.plan db)) k.db
+
+-- ## Sessions
+
+-- a session computes: its work is what its events count
+pub computed_worked : (options : PoolOptions) (log : List EventTree) (x : Session) → Stands options log x → IsWorked options log x → (new : Session) → HasComputed x new → IsWorked options log new
+computed_worked options log x s w new c = record {
+  work = c.work ∙ w.work ∙ ap (λ n. session_work options n log) (sym c.number);
+  stage = subst (λ n. IsWorkedStage options log (progress_of n log) new.stage) (sym c.number)
+      (stage_computes options log (progress_of x.number log) x.stage new.stage x.ended x.text.items new.text.items (stage_sound options log x s) w.stage c.stage);
+}
+
+module _ (book : BookView) (session : ℕ) where
+  abbrev p : Progress
+  p = progress_of session (log_tree book.log)
+
+  abbrev Worked : Step → Type 0
+  Worked at = IsWorkedStep book.options (log_tree book.log) p at
+
+  query_lost : (q : Query) → IsPlanned book.options (log_tree book.log) p q → (to : Step) → lost_at q to ≤ lost_next book session (stage.Querying to)
+  query_lost q k (step.Ending reply work) = let loses = end_loses book.options (log_tree book.log) p q k (code_of reply) in omega (arith, loses)
+  query_lost q k (step.Begun to) = omega arith
+  query_lost q k (step.Asking to key) = omega arith
+  query_lost q k (step.Found to what parts) = omega arith
+  query_lost q k (step.Offering to offer) = omega arith
+  query_lost q k (step.Gained to value id) = omega arith
+
+  step_lost : (from to : Step) → Worked from → lost_in (stage.Querying from) (stage.Querying to) ≤ lost_next book session (stage.Querying to)
+  step_lost (step.Begun q) to is = query_lost q is to
+  step_lost (step.Found q what parts) to is = query_lost q is.0 to
+  step_lost (step.Gained q value id) to is = query_lost q is to
+  step_lost (step.Asking q key) to is = omega arith
+  step_lost (step.Offering q offer) to is = omega arith
+  step_lost (step.Ending reply work) to is = omega arith
+
+  stage_lost : (at next : Stage) (k : ℕ) (text more : List ℕ) → IsWorkedStage book.options (log_tree book.log) p at → StageComesTo at k text next more → lost_in at next ≤ lost_next book session next
+  stage_lost stage.Between next k text more is c = omega arith
+  stage_lost (stage.Telling reply) next k text more is c = omega arith
+  stage_lost (stage.Querying from) next k text more is c = subst (λ to. lost_in (stage.Querying from) to ≤ lost_next book session to) (sym c.1) (step_lost from c.0 is)
+  stage_lost (stage.Explaining plan) next k text more is c = omega arith
+
+-- what a session may have counted in vain as it computed is lost where it does its next event
+pub computed_lost : (book : BookView) (x new : Session) → IsWorked book.options (log_tree book.log) x → HasComputed x new → lost_in x.stage new.stage ≤ lost_next book x.number new.stage
+computed_lost book x new w c = stage_lost book x.number x.stage new.stage x.ended x.text.items new.text.items w.stage c.stage

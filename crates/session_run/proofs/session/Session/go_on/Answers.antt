@@ -1,0 +1,19 @@
+use Rattle.std.proofs.Common.{ℕ, sym, subst}
+use Rattle.std.specs.Result.{OnOk}
+use Rattle.query_run.specs.declared.step.Step.{Step}
+use Rattle.session_run.specs.declared.stage.Stage.TheVariants as stage
+use Rattle.session_run.specs.Stages.{at_stage}
+use Rattle.session_run.specs.Works.{CountsInside}
+use Rattle.session_run.proofs.session.Session.go_on.Goals as goal
+
+pub returns-in-Asking-clause-counts : goal.returns-in-Asking-clause-counts
+returns-in-Asking-clause-counts g c =
+    subst (λ (s : Step). OnOk c.ask.result ((steps : ℕ) → CountsInside c.args.book.now c.ask.new.book (at_stage c.args.self.now (stage.Querying s)) c.ask.new.self steps steps)) (sym c.in-Asking.is) c.ask.ensures.counts
+
+pub returns-in-Offering-clause-counts : goal.returns-in-Offering-clause-counts
+returns-in-Offering-clause-counts g c =
+    subst (λ (s : Step). OnOk c.offer.result ((steps : ℕ) → CountsInside c.args.book.now c.offer.new.book (at_stage c.args.self.now (stage.Querying s)) c.offer.new.self steps steps)) (sym c.in-Offering.is) c.offer.ensures.counts
+
+pub returns-in-Ending-clause-counts : goal.returns-in-Ending-clause-counts
+returns-in-Ending-clause-counts g c =
+    subst (λ (s : Step). OnOk c.end.result ((steps : ℕ) → CountsInside c.args.book.now c.end.new.book (at_stage c.args.self.now (stage.Querying s)) c.end.new.self steps steps)) (sym c.in-Ending.is) c.end.ensures.counts

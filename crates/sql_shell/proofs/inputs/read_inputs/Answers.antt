@@ -1,0 +1,21 @@
+use Rattle.std.proofs.Common.{◌≡◌, ℕ, List, sym, ◌∙◌, subst}
+use Rattle.sql_shell.specs.Failures.{at_of, status_of}
+use Rattle.sql_shell.specs.Scripts.{AreCut}
+use Rattle.sql_shell.proofs.InputLemmas.{schedule_reached, schedule_wrong, wrong_before}
+use Rattle.sql_shell.proofs.inputs.read_inputs.Goals as goal
+
+pub returns-in-Err-read_turns-clause-wrong : goal.returns-in-Err-read_turns-clause-wrong
+returns-in-Err-read_turns-clause-wrong g c by =
+    let bytes = g.S.Scripts.bytes_of c.args.source.now in
+    let failure = c.in-Err-read_turns.failure in
+    schedule_wrong bytes c.args.command.now c.in-Ok.scripts.items (status_of failure) (at_of failure)
+    (subst (λ (names : List (List ℕ)). AreCut bytes names c.in-Ok.scripts.items) c.files_of.ensures c.in-Ok.ensures.cut)
+    (wrong_before bytes (g.S.Scripts.bytes_of c.read_scripts.new.source) c.in-Ok.ensures.same c.args.command.now (status_of failure) (at_of failure) (c.in-Err-read_turns.ensures.wrong by))
+
+pub returns-in-Err-read_turns-clause-reached : goal.returns-in-Err-read_turns-clause-reached
+returns-in-Err-read_turns-clause-reached g c two =
+    let bytes = g.S.Scripts.bytes_of c.args.source.now in
+    schedule_reached bytes c.args.command.now c.in-Ok.scripts.items (at_of c.in-Err-read_turns.failure)
+    (subst (λ (names : List (List ℕ)). AreCut bytes names c.in-Ok.scripts.items) c.files_of.ensures c.in-Ok.ensures.cut)
+    (c.in-Err-read_turns.ensures.fault two).1
+    (c.in-Err-read_turns.ensures.schedule (λ seven. let no_such : 2 ≡ 7 = sym two ∙ seven in cc))

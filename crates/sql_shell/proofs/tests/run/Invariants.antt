@@ -1,4 +1,0 @@
-use Rattle.sql_shell.proofs.tests.run.Given as goal
-
-abbrev pub ghosts-run_words : goal.ghosts-run_words
-ghosts-run_words a = record { name = a.blank.name; parts = a.blank.parts }

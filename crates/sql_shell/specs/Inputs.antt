@@ -1,0 +1,74 @@
+-- What a command reads before its first statement: its scripts, and its schedule.
+use Rattle.std.specs.Prelude.{◌≡◌, ℕ, zero, suc, ◌-◌, ◌≤◌, ◌<◌, ◌⊎◌, List, [], length, take, Option, Some, IfSome, IsUtf8}
+use Rattle.causes.specs.Limits.{most_bytes}
+use Rattle.command_line.specs.declared.command.Command.{Command}
+use Rattle.command_line.specs.declared.command.Command.TheVariants.{Run, Replay}
+use Rattle.turn_lines.specs.Schedule.{Bad, Turns, schedule_of}
+use Rattle.sql_shell.specs.Scripts.{AreRunnable, AreTexts, AreToldFirst, CanBeRun, IsFirstUnfit}
+
+-- ## Schedules
+
+-- a text for a file, which is what is told of the file where it is told
+abbrev pub IsText : (List ℕ → Option (List ℕ)) → List ℕ → List ℕ → Type 0
+IsText bytes name text = IfSome (bytes name) (λ told. text ≡ told)
+
+-- a schedule that has these turns
+pub record IsSchedule (sessions : ℕ) (text turns : List ℕ) : Type 0 where
+  pub short : length text ≤ most_bytes
+  pub utf8 : IsUtf8 text
+  pub turns_are : schedule_of sessions text ≡ Turns turns
+
+-- why a schedule has none, with the status that tells it, and the first bad line, or 0
+pub data IsBadSchedule (sessions : ℕ) (text : List ℕ) (status at : ℕ) : Type 0 where
+  TooLong : most_bytes < length text → status ≡ 4 → at ≡ 0 → IsBadSchedule sessions text status at
+  NotText : length text ≤ most_bytes → (IsUtf8 text → ⊥) → status ≡ 6 → at ≡ 0 → IsBadSchedule sessions text status at
+  BadLine : length text ≤ most_bytes → IsUtf8 text → schedule_of sessions text ≡ Bad at → status ≡ 7 → IsBadSchedule sessions text status at
+
+-- the turns of a command: those of its schedule; without one there are none
+abbrev pub AreTurns : (List ℕ → Option (List ℕ)) → Command → List ℕ → Type 0
+AreTurns bytes (Run options files) turns = turns ≡ []
+AreTurns bytes (Replay options schedule files) turns = (text : List ℕ) × IsText bytes schedule text × IsSchedule (length files) text turns
+
+-- ## What is wrong first
+
+-- the schedule has no turns, with this status and place
+abbrev pub HasBadSchedule : (List ℕ → Option (List ℕ)) → List ℕ → ℕ → ℕ → ℕ → Type 0
+HasBadSchedule bytes schedule sessions status at = (text : List ℕ) × IsText bytes schedule text × IsBadSchedule sessions text status at
+
+-- a command has a schedule
+abbrev pub IsReplay : Command → Type 0
+IsReplay (Run options files) = ⊥
+IsReplay (Replay options schedule files) = Unit {0}
+
+-- it has one that has no turns
+abbrev pub IsWrongSchedule : (List ℕ → Option (List ℕ)) → Command → ℕ → ℕ → Type 0
+IsWrongSchedule bytes (Run options files) status at = ⊥
+IsWrongSchedule bytes (Replay options schedule files) status at = HasBadSchedule bytes schedule (length files) status at
+
+-- the first of the scripts that isn't run, or behind them the schedule, has this status and place
+abbrev pub IsFirstWrong : (List ℕ → Option (List ℕ)) → Command → ℕ → ℕ → Type 0
+IsFirstWrong bytes (Run options files) status at = (texts : List (List ℕ)) × AreTexts bytes files texts × IsFirstUnfit 1 texts status at
+IsFirstWrong bytes (Replay options schedule files) status at =
+    (texts : List (List ℕ)) × AreTexts bytes files texts × (IsFirstUnfit 1 texts status at ⊎ (AreRunnable texts × HasBadSchedule bytes schedule (length files) status at))
+
+-- all of the files are told, and can be run
+abbrev pub AreToldRunnable : (List ℕ → Option (List ℕ)) → List (List ℕ) → Type 0
+AreToldRunnable bytes files = (texts : List (List ℕ)) × AreToldFirst bytes files texts × (length texts ≡ length files) × AreRunnable texts
+
+-- as far as the first that is wrong all is told, and it has this status and place
+abbrev pub IsToldWrong : (List ℕ → Option (List ℕ)) → Command → ℕ → ℕ → Type 0
+IsToldWrong bytes (Run options files) status at = (texts : List (List ℕ)) × AreToldFirst bytes files texts × IsFirstUnfit 1 texts status at
+IsToldWrong bytes (Replay options schedule files) status at =
+    ((texts : List (List ℕ)) × AreToldFirst bytes files texts × IsFirstUnfit 1 texts status at)
+    ⊎ (AreToldRunnable bytes files × ((text : List ℕ) × (bytes schedule ≡ Some text) × IsBadSchedule (length files) text status at))
+
+-- all is told, and nothing is wrong
+abbrev pub IsToldRight : (List ℕ → Option (List ℕ)) → Command → Type 0
+IsToldRight bytes (Run options files) = AreToldRunnable bytes files
+IsToldRight bytes (Replay options schedule files) = AreToldRunnable bytes files × ((text turns : List ℕ) × (bytes schedule ≡ Some text) × IsSchedule (length files) text turns)
+
+-- reading came as far as this file, where the schedule is file 0 and comes last: those before it can be run, if bytes are told of them
+abbrev pub IsReached : (List ℕ → Option (List ℕ)) → Command → ℕ → Type 0
+IsReached bytes (Run options files) at = (1 ≤ at) × CanBeRun bytes (take (at - 1) files)
+IsReached bytes (Replay options schedule files) zero = CanBeRun bytes files
+IsReached bytes (Replay options schedule files) (suc at) = CanBeRun bytes (take at files)

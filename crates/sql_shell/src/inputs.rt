@@ -1,0 +1,137 @@
+//! What a command reads before its first statement.
+ghost use Rattle.std.specs.Prelude.{◌≡◌, ◌≢◌, ◌≤◌, [], ℕ, List, true, length, IfOk, IfErr, IsUtf8};
+ghost use Rattle.std.specs.List.{AllByRecursion};
+ghost use Rattle.causes.specs.Faults.{Rose};
+ghost use Rattle.sql_shell.specs.Failures.{at_of, is_by_content, status_of};
+ghost use Rattle.sql_shell.specs.Inputs.{AreTurns, HasBadSchedule, IsBadSchedule, IsFirstWrong, IsReached, IsReplay, IsSchedule, IsText, IsWrongSchedule};
+ghost use Rattle.command_line.specs.Command.{files_of as files_in, options_of as options_in};
+ghost use Rattle.sql_shell.specs.Scripts.{AreCut};
+
+use crate::scripts::{Failure, Script, read_scripts};
+use causes::{ReadError, Scripts, read_all};
+use cell_core::Word;
+use command_line::{Command, RunOptions};
+use std::alloc::Global;
+use turn_lines::{ScheduleError, turns_of};
+
+/// What a command has read.
+#[derive(Debug, Drop)]
+pub struct Inputs {
+    /// The scripts of its files.
+    pub scripts: Vec<Script>,
+    /// The turns of its schedule; none without one.
+    pub turns: Vec<u32>,
+}
+
+/// The files of a command's scripts.
+fn files_of(command: &Command) -> &[Word]
+    ensures { result.now ≡ files_in command.entry.now }
+{
+    match command {
+        Command::Run { files, .. } => files.as_slice(),
+        Command::Replay { files, .. } => files.as_slice(),
+    }
+}
+
+/// The options of a command.
+pub fn options_of(command: Command) -> RunOptions
+    ensures { result ≡ options_in command }
+{
+    match command {
+        Command::Run { options, .. } => options,
+        Command::Replay { options, .. } => options,
+    }
+}
+
+/// Reads the scripts of a command's files, in order, and then its schedule. The first that is wrong ends
+/// it.
+pub fn read_inputs<S: Scripts>(
+    alloc: Global,
+    source: &mut S,
+    command: &Command,
+) -> Result<Inputs, Failure>
+    requires { length (files_in command.now) ≤ 16 }
+    ensures cut { IfOk result (λ inputs. AreCut (S.bytes_of source.old) (files_in command.now) inputs.scripts.items) }
+    ensures turns { IfOk result (λ inputs. AreTurns (S.bytes_of source.old) command.now inputs.turns.items) }
+    ensures each { IfOk result (λ inputs. AllByRecursion (λ turn. (1 ≤ turn) × (turn ≤ length (files_in command.now))) inputs.turns.items) }
+    ensures wrong { IfErr result (λ e. is_by_content (status_of e) ≡ true → IsFirstWrong (S.bytes_of source.old) command.now (status_of e) (at_of e)) }
+    ensures fault { IfErr result (λ e. status_of e ≡ 2 → Rose (S.faults source.old) (S.faults source.new)) }
+    ensures reached { IfErr result (λ e. status_of e ≡ 2 → IsReached (S.bytes_of source.old) command.now (at_of e)) }
+    ensures words { IfErr result (λ e. status_of e ≢ 1) }
+    ensures file { IfErr result (λ e. status_of e ≢ 7 → at_of e ≤ length (files_in command.now)) }
+{
+    let scripts = match read_scripts(alloc, source, files_of(command)) {
+        Ok(scripts) => scripts,
+        Err(failure) => return Err(failure),
+    };
+    match read_turns(alloc, source, command) {
+        Ok(turns) => Ok(Inputs { scripts, turns }),
+        Err(failure) => Err(failure),
+    }
+}
+
+/// Reads the turns of a command's schedule; without one there are none.
+fn read_turns<S: Scripts>(
+    alloc: Global,
+    source: &mut S,
+    command: &Command,
+) -> Result<Vec<u32>, Failure>
+    requires { length (files_in command.now) ≤ 16 }
+    ensures turns { IfOk result (λ turns. AreTurns (S.bytes_of source.old) command.now turns.items) }
+    ensures each { IfOk result (λ turns. AllByRecursion (λ turn. (1 ≤ turn) × (turn ≤ length (files_in command.now))) turns.items) }
+    ensures wrong { IfErr result (λ e. is_by_content (status_of e) ≡ true → IsWrongSchedule (S.bytes_of source.old) command.now (status_of e) (at_of e)) }
+    ensures fault { IfErr result (λ e. status_of e ≡ 2 → Rose (S.faults source.old) (S.faults source.new) × IsReplay command.now) }
+    ensures words { IfErr result (λ e. status_of e ≢ 1) }
+    ensures schedule { IfErr result (λ e. status_of e ≢ 7 → at_of e ≡ 0) }
+{
+    match command {
+        Command::Run { .. } => Ok(Vec::new(alloc)),
+        Command::Replay {
+            schedule,
+            files,
+            ..
+        } => read_schedule(alloc, source, schedule, files.len() as u32),
+    }
+}
+
+/// Reads the turns of a schedule.
+fn read_schedule<S: Scripts>(
+    alloc: Global,
+    source: &mut S,
+    name: &Word,
+    sessions: u32,
+) -> Result<Vec<u32>, Failure>
+    requires { sessions ≤ 16 }
+    ensures turns { IfOk result (λ turns. (text : List ℕ) × IsText (S.bytes_of source.old) name.now text × IsSchedule sessions text turns.items) }
+    ensures each { IfOk result (λ turns. AllByRecursion (λ turn. (1 ≤ turn) × (turn ≤ sessions)) turns.items) }
+    ensures wrong { IfErr result (λ e. is_by_content (status_of e) ≡ true → HasBadSchedule (S.bytes_of source.old) name.now sessions (status_of e) (at_of e)) }
+    ensures fault { IfErr result (λ e. status_of e ≡ 2 → Rose (S.faults source.old) (S.faults source.new)) }
+    ensures words { IfErr result (λ e. status_of e ≢ 1) }
+    ensures schedule { IfErr result (λ e. status_of e ≢ 7 → at_of e ≡ 0) }
+{
+    match read_all(alloc, source, name.text()) {
+        Ok(script) => turns_in(alloc, script.text(), sessions),
+        Err(ReadError::ReadFault) => Err(Failure::Fault(0)),
+        Err(ReadError::TooLong) => Err(Failure::TooLong(0)),
+        Err(ReadError::NotText) => Err(Failure::NotText(0)),
+        Err(ReadError::Memory) => Err(Failure::Memory),
+    }
+}
+
+/// The turns of a schedule that was read.
+fn turns_in(alloc: Global, text: &str, sessions: u32) -> Result<Vec<u32>, Failure>
+    requires sessions { sessions ≤ 16 }
+    requires short { length text.now ≤ 1048576 }
+    ensures turns { IfOk result (λ turns. IsSchedule sessions text.now turns.items) }
+    ensures each { IfOk result (λ turns. AllByRecursion (λ turn. (1 ≤ turn) × (turn ≤ sessions)) turns.items) }
+    ensures wrong { IfErr result (λ e. is_by_content (status_of e) ≡ true → IsBadSchedule sessions text.now (status_of e) (at_of e)) }
+    ensures read { IfErr result (λ e. status_of e ≢ 2) }
+    ensures words { IfErr result (λ e. status_of e ≢ 1) }
+    ensures schedule { IfErr result (λ e. status_of e ≢ 7 → at_of e ≡ 0) }
+{
+    match turns_of(alloc, text, sessions) {
+        Ok(turns) => Ok(turns),
+        Err(ScheduleError::BadLine(line)) => Err(Failure::BadLine(line)),
+        Err(ScheduleError::Memory) => Err(Failure::Memory),
+    }
+}
