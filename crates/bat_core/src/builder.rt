@@ -63,7 +63,7 @@ impl CellsBuilder {
     }
 
     /// Adds a cell at the end.
-    #[inline]
+    #[inline(always)]
     pub fn push(&mut self, alloc: Global, cell: Cell) -> Result<(), Memory>
         ensures ok { OnOk result (self.new ≡ self.old ++ cell ∷ []) }
         ensures err { OnErr result (self.new ≡ self.old) }

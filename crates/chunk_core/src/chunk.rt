@@ -66,7 +66,7 @@ impl Chunk {
     }
 
     /// Adds a cell at the end.
-    #[inline]
+    #[inline(always)]
     pub fn push(&mut self, alloc: Global, cell: Cell) -> Result<(), Memory>
         ensures ok { OnOk result (chunk_cells self.new ≡ chunk_cells self.old ++ cell ∷ []) }
         ensures err { OnErr result (chunk_cells self.new ≡ chunk_cells self.old) }
