@@ -1,6 +1,6 @@
 -- Oids from 0 on, of which each is its own number.
 use Rattle.std.proofs.Common.{◌≡◌, ℕ, suc, zero, ◌+◌, ◌<◌, ◌≤◌, ◌==◌, Bool, true, false, not, cond, List, [], ◌∷◌, ◌++◌, length, refl, sym, ap, ◌∙◌, arith}
-use Rattle.std.specs.List.{list_any, position_or_len}
+use Rattle.std.specs.List.{position_or_len}
 use Rattle.std.proofs.lemmas.Bool.{eqb-true, eqb-false}
 use Rattle.cell_core.specs.declared.cell.Cell.{Cell}
 use Rattle.cell_core.specs.declared.cell.Cell.TheVariants.{Oid}
@@ -8,7 +8,7 @@ use Rattle.cell_core.specs.Same.{same_cell}
 use Rattle.chunk_core.specs.Filled.{oids_from}
 use Rattle.chunk_core.proofs.FilledLemmas.{oids_append}
 use Rattle.chunk_core.proofs.PartLemmas.{length_oids}
-use Rattle.bat_group.specs.Numbers.{with_first, AreFirsts, AreNumbered}
+use Rattle.bat_group.specs.Numbers.{with_first, AreFirsts}
 use Rattle.bat_group.specs.declared.firsts.Firsts.{Firsts}
 use Rattle.bat_group.specs.declared.firsts.Firsts.TheVariants as firsts
 use Rattle.bat_group.proofs.NumberLemmas.{found_by_number, missed_by_number}

@@ -3,16 +3,16 @@ use Rattle.std.proofs.Common.{◌≡◌, ℕ, suc, zero, ◌+◌, ◌<◌, ◌�
 use Rattle.std.specs.Prelude.{filter}
 use Rattle.std.specs.List.{zip, list_any, position_or_len, enumerate_from}
 use Rattle.std.specs.Cmp.{IsEquivalence}
-use Rattle.std.proofs.lemmas.List.{get_or-map, get_or_read, take-map, length-map, map_push, take_all}
+use Rattle.std.proofs.lemmas.List.{length-map, map_push, take_all}
 use Rattle.std.proofs.lemmas.List.FromFn.{length-enumerate_from}
 use Rattle.std.proofs.lemmas.List.Sums.{prefix_len-le-length}
 use Rattle.std.proofs.lemmas.Slice.Zip.{get_or-zip}
 use Rattle.cell_core.specs.declared.cell.Cell.{Cell}
-use Rattle.cell_core.specs.declared.cell.Cell.TheVariants.{Nil, Oid}
+use Rattle.cell_core.specs.declared.cell.Cell.TheVariants.{Oid}
 use Rattle.cell_core.specs.Same.{same_cell, same_equivalence}
 use Rattle.cell_core.specs.Pairs.{Pairs, heads_of, tails_of, numbered}
 use Rattle.cell_core.specs.Groups.{distinct, group_heads_of, same_pair}
-use Rattle.bat_group.proofs.NumberLemmas.{distinct_next, found_by_number, missed_by_number}
+use Rattle.bat_group.proofs.NumberLemmas.{distinct_push, found_by_number, missed_by_number}
 
 -- a function of the tails beside the heads
 pub zip_tails : (f : Cell → Cell) (b : Pairs) → zip (heads_of b) (map f (tails_of b)) ≡ map (λ p. (p.0, f p.1)) b
@@ -29,7 +29,7 @@ zip_take zero (x ∷ xs) (y ∷ ys) short = absurd (omega arith)
 zip_take (suc n) (x ∷ xs) (y ∷ ys) short = ap (λ rest. (x, y) ∷ rest) (zip_take n xs ys (omega arith))
 
 -- two pairs are the same where both cells are
-both_first : (a b c d : Bool) → (a ≡ true → b ≡ true → c ≡ d) → (a && b) ≡ true → c ≡ d
+pub both_first : (a b c d : Bool) → (a ≡ true → b ≡ true → c ≡ d) → (a && b) ≡ true → c ≡ d
 both_first true true c d f e = f refl refl
 both_first true false c d f e = cc
 both_first false b c d f e = cc
@@ -88,32 +88,36 @@ pub length-group_heads : (b : Pairs) → length (group_heads_of b) ≡ length (d
 length-group_heads b =
     length-numbered (heads_of (distinct same_tail b)) ∙ length-map (distinct same_tail b) (λ p. p.0) ∙ sym (length-map (distinct same_tail b) (λ p. p.1)) ∙ ap length (tails-distinct b)
 
-module _ (g : Pairs) (i : ℕ) (p : Cell × Cell) (n : ℕ) (within : i < length g) (is : p ≡ get_or g i p)
-    (number : n ≡ position_or_len (λ y. same_cell y p.1) (distinct same_cell (take i (tails_of g)))) where
-  number_here : n ≡ position_or_len (λ y. same_cell y p.1) (tails_of (distinct same_tail (take i g)))
-  number_here = number ∙ ap (λ l. position_or_len (λ y. same_cell y p.1) l) (ap (distinct same_cell) (take-map (λ q. q.1) i g) ∙ sym (tails-distinct (take i g)))
+-- one pair more
+module _ (g : Pairs) (p : Cell × Cell) (n : ℕ) (number : n ≡ position_or_len (λ y. same_cell y p.1) (distinct same_cell (tails_of g))) where
+  number_here : n ≡ position_or_len (λ y. same_cell y p.1) (tails_of (distinct same_tail g))
+  number_here = number ∙ ap (λ l. position_or_len (λ y. same_cell y p.1) l) (sym (tails-distinct g))
 
-  long : length (group_heads_of (take i g)) ≡ length (tails_of (distinct same_tail (take i g)))
-  long = length-group_heads (take i g) ∙ ap length (sym (tails-distinct (take i g)))
+  long : length (group_heads_of g) ≡ length (tails_of (distinct same_tail g))
+  long = length-group_heads g ∙ ap length (sym (tails-distinct g))
 
-  heads_after : (b : Bool) → list_any (λ y. same_cell y p.1) (tails_of (distinct same_tail (take i g))) ≡ b → group_heads_of (take (i + 1) g) ≡ numbered (heads_of (cond b (distinct same_tail (take i g)) (distinct same_tail (take i g) ++ p ∷ [])))
+  heads_after : (b : Bool) → list_any (λ y. same_cell y p.1) (tails_of (distinct same_tail g)) ≡ b → group_heads_of (g ++ p ∷ []) ≡ numbered (heads_of (cond b (distinct same_tail g) (distinct same_tail g ++ p ∷ [])))
   heads_after b any =
-      ap (λ l. numbered (heads_of l)) (distinct_next same_tail same_tail_equivalence g i p within is
-      ∙ ap (λ x. cond x (distinct same_tail (take i g)) (distinct same_tail (take i g) ++ p ∷ [])) (sym (any-tails p.1 (distinct same_tail (take i g))) ∙ any))
+      ap (λ l. numbered (heads_of l)) (distinct_push same_tail same_tail_equivalence g p
+      ∙ ap (λ x. cond x (distinct same_tail g) (distinct same_tail g ++ p ∷ [])) (sym (any-tails p.1 (distinct same_tail g)) ∙ any))
 
   -- a number past all groups so far is a new group
-  pub heads_next : n ≡ length (group_heads_of (take i g)) → group_heads_of (take (i + 1) g) ≡ group_heads_of (take i g) ++ (Oid n, p.0) ∷ []
+  pub heads_next : n ≡ length (group_heads_of g) → group_heads_of (g ++ p ∷ []) ≡ group_heads_of g ++ (Oid n, p.0) ∷ []
   heads_next last =
-      let place : length (heads_of (distinct same_tail (take i g))) ≡ n = length-map (distinct same_tail (take i g)) (λ q. q.0) ∙ sym (length-map (distinct same_tail (take i g)) (λ q. q.1)) ∙ sym long ∙ sym last in
-      heads_after false (missed_by_number (λ y. same_cell y p.1) (tails_of (distinct same_tail (take i g))) (sym number_here ∙ last ∙ long))
-      ∙ ap numbered (map_push (λ (q : Cell × Cell). q.0) (distinct same_tail (take i g)) p)
-      ∙ numbered_push (heads_of (distinct same_tail (take i g))) p.0
-      ∙ ap (λ k. group_heads_of (take i g) ++ (Oid k, p.0) ∷ []) place
+      let place : length (heads_of (distinct same_tail g)) ≡ n = length-map (distinct same_tail g) (λ q. q.0) ∙ sym (length-map (distinct same_tail g) (λ q. q.1)) ∙ sym long ∙ sym last in
+      heads_after false (missed_by_number (λ y. same_cell y p.1) (tails_of (distinct same_tail g)) (sym number_here ∙ last ∙ long))
+      ∙ ap numbered (map_push (λ (q : Cell × Cell). q.0) (distinct same_tail g) p)
+      ∙ numbered_push (heads_of (distinct same_tail g)) p.0
+      ∙ ap (λ k. group_heads_of g ++ (Oid k, p.0) ∷ []) place
 
-  pub heads_stay : (n ≡ length (group_heads_of (take i g)) → ⊥) → group_heads_of (take (i + 1) g) ≡ group_heads_of (take i g)
+  pub heads_stay : (n ≡ length (group_heads_of g) → ⊥) → group_heads_of (g ++ p ∷ []) ≡ group_heads_of g
   heads_stay other =
-      heads_after true (found_by_number (λ y. same_cell y p.1) (tails_of (distinct same_tail (take i g)))
-      (omega (arith, number_here, long, other, prefix_len-le-length (λ y. not (same_cell y p.1)) (tails_of (distinct same_tail (take i g))))))
+      heads_after true (found_by_number (λ y. same_cell y p.1) (tails_of (distinct same_tail g))
+      (omega (arith, number_here, long, other, prefix_len-le-length (λ y. not (same_cell y p.1)) (tails_of (distinct same_tail g)))))
+
+-- the tails of one pair more
+pub tails_push : (g : Pairs) (p : Cell × Cell) → tails_of (g ++ p ∷ []) ≡ tails_of g ++ p.1 ∷ []
+tails_push g p = map_push (λ (q : Cell × Cell). q.1) g p
 
 -- two cells that were read side by side
 pub zip_read : (xs ys : List Cell) (i : ℕ) (a b : Cell) → i < length xs → i < length ys → a ≡ get_or xs i a → b ≡ get_or ys i b → (a, b) ≡ get_or (zip xs ys) i (a, b)
@@ -121,14 +125,3 @@ zip_read xs ys i a b x y left right = ap (λ c. (c, b)) left ∙ ap (λ c. (get_
 
 pub length-tails : (b : Pairs) → length (tails_of b) ≡ length b
 length-tails b = length-map b (λ p. p.1)
-
--- a cell that was read among the heads
-pub head_read : (g : Pairs) (i : ℕ) (c : Cell) → i < length g → c ≡ get_or (heads_of g) i c → c ≡ get_or (heads_of g) i Nil
-head_read g i c within is = get_or_read (heads_of g) i c (omega (arith, length-map g (λ (p : Cell × Cell). p.0))) is Nil
-
--- the pair whose tail was read
-pub pair_read : (g : Pairs) (i : ℕ) (key : Cell) → i < length g → key ≡ get_or (tails_of g) i key → (get_or (heads_of g) i Nil, key) ≡ get_or g i (get_or (heads_of g) i Nil, key)
-pair_read g i key within is =
-    let d : Cell × Cell = (get_or (heads_of g) i Nil, key) in
-    ap (λ h. (h, key)) (get_or-map (λ (q : Cell × Cell). q.0) g i d Nil within)
-    ∙ ap (λ t. ((get_or g i d).0, t)) (is ∙ get_or-map (λ (q : Cell × Cell). q.1) g i d key within)

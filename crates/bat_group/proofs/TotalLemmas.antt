@@ -1,10 +1,10 @@
 -- The aggregates of groups, one group and one cell on.
-use Rattle.std.proofs.Common.{◌≡◌, ℕ, suc, ◌+◌, ◌<◌, ◌≤◌, ◌==◌, Bool, true, false, not, ◌||◌, cond, List, [], ◌∷◌, ◌++◌, length, get_or, take, drop, set, map, refl, sym, ap, ◌∙◌, arith, append-nil}
+use Rattle.std.proofs.Common.{◌≡◌, ℕ, suc, zero, ◌+◌, ◌<◌, ◌≤◌, ◌==◌, Bool, true, false, not, ◌||◌, cond, List, [], ◌∷◌, ◌++◌, length, get_or, take, set, map, refl, sym, ap, ◌∙◌, arith, append-nil}
 use Rattle.std.specs.Prelude.{filter}
 use Rattle.std.specs.List.{list_any, position_or_len, zip}
 use Rattle.std.specs.Cmp.{IsEquivalence}
 use Rattle.std.proofs.lemmas.Bool.{eqb-true, eqb-false}
-use Rattle.std.proofs.lemmas.List.{length-map, length-take-le, drop_all, map_push, get_or-map}
+use Rattle.std.proofs.lemmas.List.{length-map, take_all, map_push, get_or-map}
 use Rattle.std.proofs.lemmas.List.Folds.{list_any-append}
 use Rattle.std.proofs.lemmas.List.Sums.{prefix_len-le-length, passes_at_first}
 use Rattle.cell_core.specs.declared.cell.Cell.{Cell}
@@ -13,7 +13,7 @@ use Rattle.cell_core.specs.Same.{same_cell, same_equivalence}
 use Rattle.cell_core.specs.Groups.{distinct}
 use Rattle.bat_group.specs.Numbers.{with_first}
 use Rattle.bat_group.specs.Members.{members_of}
-use Rattle.bat_group.proofs.NumberLemmas.{take_next, distinct_next, any_step, same_as, number_kept, found_by_number, missed_by_number}
+use Rattle.bat_group.proofs.NumberLemmas.{distinct_push, any_step, same_as, number_kept, found_by_number, missed_by_number}
 
 module _ {X : Type 0} (same : X → X → Bool) (laws : IsEquivalence same) where
   -- each element differs from all that follow
@@ -103,111 +103,122 @@ no_member (c ∷ cells) (y ∷ groups) k none =
       | false ↦ λ e. no_member cells groups k e
     ] none
 
-zip_none : (xs : List Cell) → let none : List Cell = [] in zip xs none ≡ []
-zip_none [] = refl
-zip_none (x ∷ xs) = refl
+-- one group more, beside which there is no cell
+member_alone : (cells groups : List Cell) (k group : Cell) → length cells ≤ length groups → members_of cells (groups ++ k ∷ []) group ≡ members_of cells groups group
+member_alone [] groups k group short = refl
+member_alone (c ∷ cells) [] k group short = absurd (omega arith)
+member_alone (c ∷ cells) (y ∷ groups) k group short =
+    elim (same_cell y group) as (λ b. map (λ (p : Cell × Cell). p.0) (cond b ((c, y) ∷ filter (λ p. same_cell p.1 group) (zip cells (groups ++ k ∷ []))) (filter (λ p. same_cell p.1 group) (zip cells (groups ++ k ∷ []))))
+    ≡ map (λ (p : Cell × Cell). p.0) (cond b ((c, y) ∷ filter (λ p. same_cell p.1 group) (zip cells groups)) (filter (λ p. same_cell p.1 group) (zip cells groups)))) [
+      | true ↦ ap (λ l. c ∷ l) (member_alone cells groups k group (omega arith))
+      | false ↦ member_alone cells groups k group (omega arith)
+    ]
 
--- one group more, and the cell beside it, if there is one
-member_more : (cells groups : List Cell) (k group : Cell) → members_of cells (groups ++ k ∷ []) group ≡ members_of cells groups group ++ cond (same_cell k group) (take 1 (drop (length groups) cells)) []
-member_more [] groups k group = sym (ap (λ l. cond (same_cell k group) (take 1 l) []) (drop_all (length groups) [] (omega arith)) ∙ either (same_cell k group))
-  where
-    either : (b : Bool) → cond {A = List Cell} b [] [] ≡ []
-    either true = refl
-    either false = refl
-member_more (c ∷ cells) [] k group = ap (λ r. map (λ (p : Cell × Cell). p.0) (cond (same_cell k group) ((c, k) ∷ filter (λ p. same_cell p.1 group) r) (filter (λ p. same_cell p.1 group) r))) (zip_none cells) ∙ pick (same_cell k group)
+-- one group more, and the cell beside it
+member_pair : (cells groups : List Cell) (c k group : Cell) → length cells ≡ length groups → members_of (cells ++ c ∷ []) (groups ++ k ∷ []) group ≡ members_of cells groups group ++ cond (same_cell k group) (c ∷ []) []
+member_pair [] [] c k group even = pick (same_cell k group)
   where
     pick : (b : Bool) → map (λ (p : Cell × Cell). p.0) (cond b ((c, k) ∷ []) []) ≡ cond b (c ∷ []) []
     pick true = refl
     pick false = refl
-member_more (c ∷ cells) (y ∷ groups) k group =
-    elim (same_cell y group) as (λ b. map (λ (p : Cell × Cell). p.0) (cond b ((c, y) ∷ filter (λ p. same_cell p.1 group) (zip cells (groups ++ k ∷ []))) (filter (λ p. same_cell p.1 group) (zip cells (groups ++ k ∷ []))))
-    ≡ map (λ (p : Cell × Cell). p.0) (cond b ((c, y) ∷ filter (λ p. same_cell p.1 group) (zip cells groups)) (filter (λ p. same_cell p.1 group) (zip cells groups))) ++ cond (same_cell k group) (take 1 (drop (length groups) cells)) []) [
-      | true ↦ ap (λ l. c ∷ l) (member_more cells groups k group)
-      | false ↦ member_more cells groups k group
+member_pair [] (y ∷ groups) c k group even = absurd (omega arith)
+member_pair (x ∷ cells) [] c k group even = absurd (omega arith)
+member_pair (x ∷ cells) (y ∷ groups) c k group even =
+    elim (same_cell y group) as (λ b. map (λ (p : Cell × Cell). p.0) (cond b ((x, y) ∷ filter (λ p. same_cell p.1 group) (zip (cells ++ c ∷ []) (groups ++ k ∷ []))) (filter (λ p. same_cell p.1 group) (zip (cells ++ c ∷ []) (groups ++ k ∷ []))))
+    ≡ map (λ (p : Cell × Cell). p.0) (cond b ((x, y) ∷ filter (λ p. same_cell p.1 group) (zip cells groups)) (filter (λ p. same_cell p.1 group) (zip cells groups))) ++ cond (same_cell k group) (c ∷ []) []) [
+      | true ↦ ap (λ l. x ∷ l) (member_pair cells groups c k group (omega arith))
+      | false ↦ member_pair cells groups c k group (omega arith)
     ]
 
--- ## One step over the groups, where A is the aggregate
-module _ (A : List Cell → Cell) (cells groups : List Cell) (i : ℕ) (k : Cell) (within : i < length groups) (is : k ≡ get_or groups i k) where
-  abbrev pub before : Cell → Cell
-  before group = A (members_of cells (take i groups) group)
+-- cells past the groups are beside none
+pub zip_cut : (n : ℕ) (xs ys : List Cell) → (n < length xs → n < length ys → ⊥) → zip (take n xs) ys ≡ zip xs ys
+zip_cut n [] ys past = ap (λ l. zip l ys) (take_all n [] (omega arith))
+zip_cut zero (x ∷ xs) [] past = refl
+zip_cut (suc n) (x ∷ xs) [] past = refl
+zip_cut zero (x ∷ xs) (y ∷ ys) past = absurd (past (omega arith) (omega arith))
+zip_cut (suc n) (x ∷ xs) (y ∷ ys) past = ap (λ rest. (x, y) ∷ rest) (zip_cut n xs ys (λ a b. past (omega (arith, a)) (omega (arith, b))))
 
-  abbrev pub after : Cell → Cell
-  after group = A (members_of cells (take (i + 1) groups) group)
+-- ## One step over the groups, where A is the aggregate and k the next group
+module _ (A : List Cell → Cell) (cells groups : List Cell) (k : Cell) where
+  abbrev so_far : Cell → Cell
+  so_far group = A (members_of cells groups group)
 
-  abbrev pub firsts : List Cell
-  firsts = distinct same_cell (take i groups)
+  abbrev met_so_far : Cell → Cell
+  met_so_far group = A (members_of cells (groups ++ k ∷ []) group)
 
-  abbrev pub firsts_now : List Cell
-  firsts_now = distinct same_cell (take (i + 1) groups)
+  abbrev firsts : List Cell
+  firsts = distinct same_cell groups
 
-  abbrev pub place : List Cell → ℕ
+  abbrev firsts_now : List Cell
+  firsts_now = distinct same_cell (groups ++ k ∷ [])
+
+  abbrev place : List Cell → ℕ
   place l = position_or_len (λ y. same_cell y k) l
 
-  step : (group : Cell) → members_of cells (take (i + 1) groups) group ≡ members_of cells (take i groups) group ++ cond (same_cell k group) (take 1 (drop i cells)) []
-  step group =
-      ap (λ l. members_of cells l group) (take_next same_cell same_equivalence groups i k within is) ∙ member_more cells (take i groups) k group
-      ∙ ap (λ n. members_of cells (take i groups) group ++ cond (same_cell k group) (take 1 (drop n cells)) []) (length-take-le i groups (omega arith))
+  firsts_next : firsts_now ≡ with_first same_cell firsts k
+  firsts_next = distinct_push same_cell same_equivalence groups k
 
   at_most : (l : List Cell) → place l ≤ length l
   at_most l = prefix_len-le-length (λ y. not (same_cell y k)) l
 
-  pub number_fits : (n : ℕ) (old : List Cell) → n ≡ place firsts → old ≡ map before firsts → n ≤ length old
-  number_fits n old number value = omega (arith, at_most firsts, ap length value, length-map firsts before)
-
   -- a new group has no cells so far
-  pub begun : (n : ℕ) (old new : List Cell) → n ≡ place firsts → old ≡ map before firsts → new ≡ cond (n == length old) (old ++ A [] ∷ []) old → new ≡ map before firsts_now
+  begun : (n : ℕ) (old new : List Cell) → n ≡ place firsts → old ≡ map so_far firsts → new ≡ cond (n == length old) (old ++ A [] ∷ []) old → new ≡ map so_far firsts_now
   begun n old new number value next =
-      let long : length old ≡ length firsts = ap length value ∙ length-map firsts before in
-      next ∙ elim (n == length old) as (λ b. (n == length old) ≡ b → cond b (old ++ A [] ∷ []) old ≡ map before firsts_now) [
+      let long : length old ≡ length firsts = ap length value ∙ length-map firsts so_far in
+      next ∙ elim (n == length old) as (λ b. (n == length old) ≡ b → cond b (old ++ A [] ∷ []) old ≡ map so_far firsts_now) [
         | true ↦ λ e.
             let missed : list_any (λ y. same_cell y k) firsts ≡ false = missed_by_number (λ y. same_cell y k) firsts (sym number ∙ eqb-true n (length old) e ∙ long) in
-            let none : before k ≡ A [] = ap A (no_member cells (take i groups) k (sym (any_distinct same_cell same_equivalence k (take i groups)) ∙ missed)) in
-            ap (λ l. l ++ A [] ∷ []) value ∙ ap (λ c. map before firsts ++ c ∷ []) (sym none) ∙ sym (map_push before firsts k)
-            ∙ ap (map before) (ap (λ b. cond b firsts (firsts ++ k ∷ [])) (sym missed) ∙ sym (distinct_next same_cell same_equivalence groups i k within is))
+            let none : so_far k ≡ A [] = ap A (no_member cells groups k (sym (any_distinct same_cell same_equivalence k groups) ∙ missed)) in
+            ap (λ l. l ++ A [] ∷ []) value ∙ ap (λ c. map so_far firsts ++ c ∷ []) (sym none) ∙ sym (map_push so_far firsts k)
+            ∙ ap (map so_far) (ap (λ b. cond b firsts (firsts ++ k ∷ [])) (sym missed) ∙ sym firsts_next)
         | false ↦ λ e.
             let other : n ≡ length old → ⊥ = eqb-false n (length old) e in
             let met : list_any (λ y. same_cell y k) firsts ≡ true = found_by_number (λ y. same_cell y k) firsts (omega (arith, at_most firsts, number, long, other)) in
-            value ∙ ap (map before) (ap (λ b. cond b firsts (firsts ++ k ∷ [])) (sym met) ∙ sym (distinct_next same_cell same_equivalence groups i k within is))
+            value ∙ ap (map so_far) (ap (λ b. cond b firsts (firsts ++ k ∷ [])) (sym met) ∙ sym firsts_next)
       ] refl
 
+  -- the group is met, and there is no cell beside it yet
+  pub met_alone : length cells ≤ length groups → (n : ℕ) (old new : List Cell) → n ≡ place firsts → old ≡ map so_far firsts → new ≡ cond (n == length old) (old ++ A [] ∷ []) old → new ≡ map met_so_far firsts_now
+  met_alone short n old new number value next = begun n old new number value next ∙ ap (λ f. map f firsts_now) (λ i group. A (sym (member_alone cells groups k group short) i))
+
   same_place : place firsts_now ≡ place firsts
-  same_place =
-      ap place (distinct_next same_cell same_equivalence groups i k within is ∙ sym (append-nil (with_first same_cell firsts k)))
-      ∙ number_kept same_cell same_equivalence firsts k []
+  same_place = ap place (firsts_next ∙ sym (append-nil (with_first same_cell firsts k))) ∙ number_kept same_cell same_equivalence firsts k []
 
   among : list_any (λ y. same_cell y k) firsts_now ≡ true
   among =
-      ap (list_any (λ y. same_cell y k)) (distinct_next same_cell same_equivalence groups i k within is)
+      ap (list_any (λ y. same_cell y k)) firsts_next
       ∙ elim (list_any (λ y. same_cell y k) firsts) as (λ b. list_any (λ y. same_cell y k) firsts ≡ b → list_any (λ y. same_cell y k) (cond b firsts (firsts ++ k ∷ [])) ≡ true) [
         | true ↦ λ e. e
         | false ↦ λ e.
             list_any-append (λ y. same_cell y k) firsts (k ∷ []) ∙ ap (λ b. b || (same_cell k k || false)) e ∙ ap (λ b. b || false) (same_equivalence.refl k)
       ] refl
 
-  pub number_inside : (n : ℕ) → n ≡ place firsts → n < length firsts_now
-  number_inside n number =
+  number_inside : place firsts_now < length firsts_now
+  number_inside =
       let other : place firsts_now ≡ length firsts_now → ⊥ = λ e. true_false (sym among ∙ missed_by_number (λ y. same_cell y k) firsts_now e) in
-      omega (arith, at_most firsts_now, other, number, same_place)
+      omega (arith, at_most firsts_now, other)
     where
       true_false : true ≡ false → ⊥
       true_false e = cc
 
   -- the cell beside the group is taken into its total
-  pub finished : (n : ℕ) (old : List Cell) (w : Cell) → n ≡ place firsts → old ≡ map before firsts_now → w ≡ A (members_of cells (take i groups) (get_or firsts_now n Nil) ++ take 1 (drop i cells)) → set old n w ≡ map after firsts_now
-  finished n old w number value taken =
-      let at : n ≡ place firsts_now = number ∙ sym same_place in
-      let inside : place firsts_now < length firsts_now = omega (arith, number_inside n number, at) in
-      let met : same_cell k (get_or firsts_now (place firsts_now) Nil) ≡ true =
-      same_equivalence.symm k (get_or firsts_now (place firsts_now) Nil) ∙ passes_at_first (λ y. same_cell y k) firsts_now Nil inside in
-      let changed : w ≡ after (get_or firsts_now (place firsts_now) Nil) =
-      taken ∙ ap (λ m. A (members_of cells (take i groups) (get_or firsts_now m Nil) ++ take 1 (drop i cells))) at
-      ∙ ap (λ b. A (members_of cells (take i groups) (get_or firsts_now (place firsts_now) Nil) ++ cond b (take 1 (drop i cells)) [])) (sym met)
-      ∙ ap A (sym (step (get_or firsts_now (place firsts_now) Nil))) in
-      ap (λ l. set l n w) value ∙ ap (λ m. set (map before firsts_now) m w) at
-      ∙ sym (map_changed same_cell same_equivalence before after k
-      (λ y e. ap A (step y ∙ ap (λ b. members_of cells (take i groups) y ++ cond b (take 1 (drop i cells)) []) (same_equivalence.symm k y ∙ e) ∙ append-nil (members_of cells (take i groups) y)))
-      firsts_now Nil w (distinct_apart same_cell same_equivalence (take (i + 1) groups)) inside changed)
+  module _ (c : Cell) (even : length cells ≡ length groups) where
+    abbrev after : Cell → Cell
+    after group = A (members_of (cells ++ c ∷ []) (groups ++ k ∷ []) group)
 
-  -- the total of a group
-  pub total_at : (n : ℕ) (old : List Cell) (c : Cell) → n < length firsts_now → old ≡ map before firsts_now → c ≡ get_or old n c → c ≡ before (get_or firsts_now n Nil)
-  total_at n old c inside value read = read ∙ ap (λ l. get_or l n c) value ∙ get_or-map before firsts_now n Nil c inside
+    step : (group : Cell) → members_of (cells ++ c ∷ []) (groups ++ k ∷ []) group ≡ members_of cells (groups ++ k ∷ []) group ++ cond (same_cell k group) (c ∷ []) []
+    step group = member_pair cells groups c k group even ∙ ap (λ l. l ++ cond (same_cell k group) (c ∷ []) []) (sym (member_alone cells groups k group (omega arith)))
+
+    pub finished : (n : ℕ) (old : List Cell) (total w : Cell) → n ≡ place firsts → old ≡ map met_so_far firsts_now → total ≡ get_or old n total → ((before : List Cell) → total ≡ A before → w ≡ A (before ++ c ∷ [])) → set old n w ≡ map after firsts_now
+    finished n old total w number value read taken =
+        let at : n ≡ place firsts_now = number ∙ sym same_place in
+        let inside : n < length firsts_now = omega (arith, number_inside, at) in
+        let group : Cell = get_or firsts_now (place firsts_now) Nil in
+        let met : same_cell k group ≡ true = same_equivalence.symm k group ∙ passes_at_first (λ y. same_cell y k) firsts_now Nil number_inside in
+        let found : total ≡ met_so_far group = read ∙ ap (λ l. get_or l n total) value ∙ get_or-map met_so_far firsts_now n Nil total inside ∙ ap (λ m. met_so_far (get_or firsts_now m Nil)) at in
+        let changed : w ≡ after group =
+        taken (members_of cells (groups ++ k ∷ []) group) found ∙ ap (λ b. A (members_of cells (groups ++ k ∷ []) group ++ cond b (c ∷ []) [])) (sym met) ∙ ap A (sym (step group)) in
+        ap (λ l. set l n w) value ∙ ap (λ m. set (map met_so_far firsts_now) m w) at
+        ∙ sym (map_changed same_cell same_equivalence met_so_far after k
+        (λ y e. ap A (step y ∙ ap (λ b. members_of cells (groups ++ k ∷ []) y ++ cond b (c ∷ []) []) (same_equivalence.symm k y ∙ e) ∙ append-nil (members_of cells (groups ++ k ∷ []) y)))
+        firsts_now Nil w (distinct_apart same_cell same_equivalence (groups ++ k ∷ [])) number_inside changed)

@@ -1,2 +1,5 @@
+pub mod Heads
+pub mod Ints
 pub mod Members
 pub mod Numbers
+pub mod Totals

@@ -6,9 +6,11 @@ ghost use Rattle.cell_core.specs.Same.{same_cell};
 ghost use Rattle.cell_core.specs.Pairs.{heads_of};
 ghost use Rattle.cell_core.specs.Groups.{grouped, derived, group_heads_of, group_number, same_pair};
 
-use crate::firsts::Firsts;
+use crate::heads::first_heads;
+use crate::int_pairs::number_int_pairs;
+use crate::ints::number_ints;
 use crate::numbers::number_of;
-use bat_core::{Bat, BatBuilder, Cells, CellsBuilder};
+use bat_core::{Bat, Cells, CellsBuilder};
 use cell_core::{Cell, Memory, Steps};
 use std::alloc::Global;
 use std::collections::HashMap;
@@ -29,6 +31,16 @@ pub fn group_new<L: Ledger>(alloc: Global, b: &Bat, steps: &mut Steps<L>) -> Res
 
 /// The numbers of the cells.
 fn number_cells(alloc: Global, cells: &Cells) -> Result<Cells, Memory>
+    ensures { IfOk result (λ out. out ≡ map (λ c. Cell.Oid (group_number same_cell cells.now c)) cells.now) }
+{
+    match number_ints(alloc, cells)? {
+        Some(numbers) => Ok(numbers),
+        None => number_each(alloc, cells),
+    }
+}
+
+/// The numbers of the cells, whatever they are.
+fn number_each(alloc: Global, cells: &Cells) -> Result<Cells, Memory>
     ensures { IfOk result (λ out. out ≡ map (λ c. Cell.Oid (group_number same_cell cells.now c)) cells.now) }
 {
     let mut numbers = HashMap::new(alloc);
@@ -63,6 +75,16 @@ pub fn group_derive<L: Ledger>(
 fn number_pairs(alloc: Global, left: &Cells, right: &Cells) -> Result<Cells, Memory>
     ensures { IfOk result (λ out. out ≡ map (λ p. Cell.Oid (group_number same_pair (zip left.now right.now) p)) (zip left.now right.now)) }
 {
+    match number_int_pairs(alloc, left, right)? {
+        Some(numbers) => Ok(numbers),
+        None => number_each_pair(alloc, left, right),
+    }
+}
+
+/// The numbers of the pairs of cells that stand side by side, whatever they are.
+fn number_each_pair(alloc: Global, left: &Cells, right: &Cells) -> Result<Cells, Memory>
+    ensures { IfOk result (λ out. out ≡ map (λ p. Cell.Oid (group_number same_pair (zip left.now right.now) p)) (zip left.now right.now)) }
+{
     let mut numbers = HashMap::new(alloc);
     let mut count = 0;
     let mut out = CellsBuilder::new(alloc);
@@ -93,21 +115,4 @@ pub fn group_heads<L: Ledger>(alloc: Global, g: &Bat, steps: &mut Steps<L>) -> R
     let out = first_heads(alloc, g)?;
     steps.add(g.len() + out.len());
     Ok(out)
-}
-
-/// The oid of each group beside the head of its first pair.
-fn first_heads(alloc: Global, g: &Bat) -> Result<Bat, Memory>
-    ensures { IfOk result (λ out. out ≡ group_heads_of g.now) }
-{
-    let mut firsts = Firsts::Oids;
-    let mut count = 0;
-    let mut out = BatBuilder::new(alloc);
-    for i in 0..g.len() {
-        let known = count;
-        let number = firsts.number(alloc, &mut count, g.tails().copy(i)?)?;
-        if number == known {
-            out.append(alloc, Cell::Oid(number), g.heads().copy(i)?)?;
-        }
-    }
-    out.finish(alloc)
 }

@@ -2,13 +2,21 @@
 //!
 //! It stands on `cell_core` for cells and for the definition of each operator, on `bat_core` for BATs,
 //! and on `cell_calc` for aggregates that take one cell after another. Each of its operators gives its
-//! definition exactly, in one pass with a hash of what was seen, and with its stated work. A group has a
-//! number by its first occurrence, and Nil is the same as Nil there.
+//! definition exactly, in one pass over the parts of its columns with a hash of what was seen, and with
+//! its stated work. Parts of numbers are taken as numbers: an aggregate by a loop over them, groups by keys
+//! of a number or two, and groups that are oids from 0 on by no hash at all. A group has a number by its first
+//! occurrence, and Nil is the same as Nil there.
 #![tactic(auto)]
 
+mod both;
 mod firsts;
+mod group_totals;
 mod grouping;
+mod heads;
+mod int_pairs;
+mod ints;
 mod numbers;
+mod parts;
 mod subtotals;
 mod totals;
 

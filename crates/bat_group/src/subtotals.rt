@@ -1,14 +1,11 @@
 //! Aggregates over the tails of a BAT, for each group of another.
-ghost use Rattle.std.specs.Prelude.{◌≡◌, ◌+◌, ◌++◌, ◌==◌, [], ◌∷◌, length, map, take, drop, if◌then◌else◌, List, IfOk, OnOk, OnErr};
-ghost use Rattle.cell_core.specs.declared.cell.Cell.{Cell};
-ghost use Rattle.cell_core.specs.Same.{same_cell};
+ghost use Rattle.std.specs.Prelude.{◌≡◌, ◌+◌, length, IfOk, OnErr};
 ghost use Rattle.cell_core.specs.Pairs.{numbered};
-ghost use Rattle.cell_core.specs.Groups.{counted, summed, least, greatest, by_group, distinct};
+ghost use Rattle.cell_core.specs.Groups.{counted, summed, least, greatest, by_group};
 ghost use Rattle.cell_calc.specs.Aggregates.{aggregate_of};
-ghost use Rattle.bat_group.specs.Members.{members_of};
 
-use crate::firsts::Firsts;
-use bat_core::{Bat, BatBuilder, Cells};
+use crate::group_totals::group_totals;
+use bat_core::{Bat, BatBuilder};
 use cell_calc::Aggregate;
 use cell_core::{Cell, Memory, Steps};
 use std::alloc::Global;
@@ -98,52 +95,6 @@ fn subaggregate<L: Ledger>(
     let out = number_totals(alloc, totals.as_slice())?;
     steps.add(b.len() + g.len() + out.len());
     Ok(out)
-}
-
-/// The aggregate over the cells beside each group, in the order of the groups' numbers.
-fn group_totals(
-    alloc: Global,
-    aggregate: Aggregate,
-    cells: &Cells,
-    groups: &Cells,
-) -> Result<Vec<Cell>, Memory>
-    ensures { IfOk result (λ out. out.items ≡ map (λ group. aggregate_of aggregate (members_of cells.now groups.now group)) (distinct same_cell groups.now)) }
-{
-    let mut firsts = Firsts::Oids;
-    let mut count = 0;
-    let mut totals = Vec::new(alloc);
-    for i in 0..groups.len() {
-        let number = firsts.number(alloc, &mut count, groups.copy(i)?)?;
-        begin_total(aggregate, number, &mut totals)?;
-        add_beside(aggregate, i, cells, &mut totals[number as usize])?;
-    }
-    Ok(totals)
-}
-
-/// The total of no cells is added where the number is the next.
-fn begin_total(aggregate: Aggregate, number: u64, totals: &mut Vec<Cell>) -> Result<(), Memory>
-    ensures { OnOk result (totals.new.items ≡ (if number == length totals.old.items then totals.old.items ++ aggregate_of aggregate [] ∷ [] else totals.old.items)) }
-{
-    if number == totals.len() as u64 {
-        totals.push(aggregate.of_none())?;
-    }
-    Ok(())
-}
-
-/// The cell at a place is taken into a total, if there is one.
-fn add_beside(
-    aggregate: Aggregate,
-    place: u64,
-    cells: &Cells,
-    total: &mut Cell,
-) -> Result<(), Memory>
-    ensures { OnOk result ((so_far : List Cell) → total.old ≡ aggregate_of aggregate so_far → total.new ≡ aggregate_of aggregate (so_far ++ take 1 (drop place cells.now))) }
-{
-    if place < cells.len() {
-        let held = cells.get(place);
-        aggregate.add(total, held.cell())?;
-    }
-    Ok(())
 }
 
 /// The totals beside the oids from 0.

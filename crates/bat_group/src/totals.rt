@@ -1,16 +1,13 @@
 //! Aggregates over the tails of a BAT.
-ghost use Rattle.std.specs.Prelude.{◌≡◌, ◌+◌, ◌++◌, ◌∷◌, [], ◌<◌, List, length, slice_index_or, IfOk, OnOk, OnErr};
-ghost use Rattle.cell_core.specs.declared.cell.Cell.{Cell as CellSeen};
-ghost use Rattle.cell_core.specs.declared.cell.Cell.TheVariants.{Nil};
-ghost use Rattle.chunk_core.specs.Parts.{part_cells};
+ghost use Rattle.std.specs.Prelude.{◌≡◌, ◌+◌, length, IfOk, OnOk, OnErr};
 ghost use Rattle.cell_core.specs.Pairs.{tails_of};
 ghost use Rattle.cell_core.specs.Groups.{counted, summed, least, greatest};
 ghost use Rattle.cell_calc.specs.Aggregates.{aggregate_of};
 
+use crate::parts::add_part;
 use bat_core::{Bat, Cells};
 use cell_calc::Aggregate;
 use cell_core::{Cell, Memory, Steps};
-use chunk_core::Part;
 use std::alloc::Global;
 use std::sync::ledger::Ledger;
 
@@ -73,24 +70,4 @@ fn aggregate_cells(aggregate: Aggregate, cells: &Cells) -> Result<Cell, Memory>
         from += part.len() as u64;
     }
     Ok(so_far)
-}
-
-/// The cells of a part are taken into a total.
-fn add_part(aggregate: Aggregate, part: Part<'_>, total: &mut Cell) -> Result<(), Memory>
-    ensures { OnOk result ((before : List CellSeen) → total.old ≡ aggregate_of aggregate before → total.new ≡ aggregate_of aggregate (before ++ part_cells part.entry)) }
-{
-    for i in 0..part.len() {
-        add_at(aggregate, part, i, total)?;
-    }
-    Ok(())
-}
-
-/// The cell at a place is taken into a total.
-#[inline]
-fn add_at(aggregate: Aggregate, part: Part<'_>, at: usize, total: &mut Cell) -> Result<(), Memory>
-    requires { at < length (part_cells part) }
-    ensures { OnOk result ((before : List CellSeen) → total.old ≡ aggregate_of aggregate before → total.new ≡ aggregate_of aggregate (before ++ slice_index_or (part_cells part.entry) at Nil ∷ [])) }
-{
-    let held = part.get(at);
-    aggregate.add(total, held.cell())
 }
