@@ -9,7 +9,12 @@ ghost use Rattle.chunk_core.specs.Parts.{part_cells};
 ghost use Rattle.bat_core.specs.Objects.{value_of};
 ghost use Rattle.bat_calc.specs.Functions.{function_of, Reaches, column, applied};
 
+use crate::bits::{Both, Either, add_bits, add_opposites};
 use crate::function::{Function, apply};
+use crate::general::add_one_by_one;
+use crate::numbers::{
+    Above, AtLeast, AtMost, Below, Difference, Equal, Product, Sum, Unequal, add_numbers,
+};
 use bat_core::{Bat, Cells, CellsBuilder, Obj, Shared};
 use cell_core::{Cell, Memory, RunError, Steps};
 use chunk_core::Part;
@@ -122,7 +127,7 @@ fn cells_of(alloc: Global, function: Function, rows: &Bat) -> Result<Cells, RunE
     Ok(cells.finish(alloc)?)
 }
 
-/// Adds the cells of a function over a run.
+/// Adds the cells of a function over a run. Most have forms of their own for numbers or for bits.
 fn add_cells(
     alloc: Global,
     function: Function,
@@ -134,25 +139,21 @@ fn add_cells(
     ensures value { OnOk result ((before : Pairs) → applied function before ≡ Some cells.old → applied function (before ++ zip (part_cells left.entry) (part_cells right.entry)) ≡ Some cells.new) }
     ensures overflow { result ≡ Err RunError.Overflow → applied function (zip (part_cells left.entry) (part_cells right.entry)) ≡ None }
 {
-    for i in 0..left.len() {
-        match apply_at(function, left, right, i) {
-            Some(cell) => cells.push(alloc, cell)?,
-            None => return Err(RunError::Overflow),
-        }
+    match function {
+        Function::Plus => add_numbers::<Sum>(alloc, function, left, right, cells),
+        Function::Minus => add_numbers::<Difference>(alloc, function, left, right, cells),
+        Function::Times => add_numbers::<Product>(alloc, function, left, right, cells),
+        Function::Eq => add_numbers::<Equal>(alloc, function, left, right, cells),
+        Function::Ne => add_numbers::<Unequal>(alloc, function, left, right, cells),
+        Function::Lt => add_numbers::<Below>(alloc, function, left, right, cells),
+        Function::Le => add_numbers::<AtMost>(alloc, function, left, right, cells),
+        Function::Gt => add_numbers::<Above>(alloc, function, left, right, cells),
+        Function::Ge => add_numbers::<AtLeast>(alloc, function, left, right, cells),
+        Function::And => add_bits::<Both>(alloc, function, left, right, cells),
+        Function::Or => add_bits::<Either>(alloc, function, left, right, cells),
+        Function::Not => add_opposites(alloc, left, right, cells),
+        Function::IsNil => add_one_by_one(alloc, function, left, right, cells),
     }
-    Ok(())
-}
-
-/// The cell of a function over the cells at a place.
-#[inline]
-fn apply_at(function: Function, left: Part<'_>, right: Part<'_>, at: usize) -> Option<Cell>
-    requires left { at < length (part_cells left) }
-    requires right { at < length (part_cells right) }
-    ensures { result ≡ function_of function (slice_index_or (part_cells left.entry) at Nil) (slice_index_or (part_cells right.entry) at Nil) }
-{
-    let a = left.get(at);
-    let b = right.get(at);
-    apply(function, a.cell(), b.cell())
 }
 
 /// Tails beside the first heads of a BAT, which are shared where none is left out.

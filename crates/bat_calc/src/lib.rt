@@ -5,11 +5,15 @@
 //! functions of single cells, and on `bat_core` for columns. A function goes over two scalars, or over
 //! BATs place by place, up to the shortest BAT, and then has the heads of the first. Each call gives
 //! exactly the value of its operator, and its counter rises by the stated work; `Overflow` comes exactly
-//! where a number leaves the signed 64-bit range.
+//! where a number leaves the signed 64-bit range. Runs of numbers alone, or of bits alone, have loops of
+//! their own; any others go cell by cell.
 #![tactic(auto)]
 
+mod bits;
 mod calculate;
 mod function;
+mod general;
+mod numbers;
 mod operators;
 
 pub use operators::{bit_and, bit_not, bit_or, eq, ge, gt, is_nil, le, lt, minus, ne, plus, times};

@@ -3,7 +3,7 @@ use Rattle.std.specs.List.{zip}
 use Rattle.cell_core.specs.Pairs.{Pairs}
 use Rattle.chunk_core.specs.Parts.{part_cells}
 use Rattle.bat_calc.specs.Functions.{applied}
-use Rattle.bat_calc.proofs.calculate.add_cells.Given as goal
+use Rattle.bat_calc.proofs.general.add_one_by_one.Given as goal
 
 -- the cells of the pairs so far are added
 abbrev pub invariant-loop-i : goal.invariant-loop-i

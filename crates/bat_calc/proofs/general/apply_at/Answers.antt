@@ -3,7 +3,7 @@ use Rattle.cell_core.specs.declared.cell.Cell.TheVariants.{Nil}
 use Rattle.chunk_core.specs.Parts.{part_cells, lent_cell}
 use Rattle.chunk_core.proofs.PickLemmas.{get_default}
 use Rattle.bat_calc.specs.Functions.{function_of}
-use Rattle.bat_calc.proofs.calculate.apply_at.Goals as goal
+use Rattle.bat_calc.proofs.general.apply_at.Goals as goal
 
 pub returns : goal.returns
 returns c =

@@ -7,7 +7,7 @@ use Rattle.chunk_core.specs.Parts.{part_cells}
 use Rattle.chunk_core.proofs.PickLemmas.{get_default}
 use Rattle.bat_calc.specs.Functions.{applied}
 use Rattle.bat_calc.proofs.RowLemmas.{applied_more, applied_none}
-use Rattle.bat_calc.proofs.calculate.add_cells.Goals as goal
+use Rattle.bat_calc.proofs.general.add_one_by_one.Goals as goal
 
 pub loop-i-init : goal.loop-i-init
 loop-i-init c = λ before so_far. ap (applied c.args.function) (append-nil before) ∙ so_far

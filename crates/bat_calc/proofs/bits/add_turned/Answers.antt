@@ -1,0 +1,28 @@
+use Rattle.std.proofs.Common.{◌≡◌, ◌<◌, ◌++◌, length, map, get_or, Some, sym, ap, ◌∙◌, arith, append-nil}
+use Rattle.std.specs.List.{zip}
+use Rattle.std.proofs.lemmas.List.{take_all, length-map}
+use Rattle.std.proofs.lemmas.Slice.Zip.{length-zip}
+use Rattle.cell_core.specs.declared.cell.Cell.TheVariants.{Bit, Nil}
+use Rattle.chunk_core.specs.Parts.{part_cells}
+use Rattle.chunk_core.proofs.PickLemmas.{get_default}
+use Rattle.bat_calc.specs.declared.function.Function.TheVariants as function
+use Rattle.bat_calc.specs.Functions.{applied}
+use Rattle.bat_calc.proofs.RowLemmas.{applied_more}
+use Rattle.bat_calc.proofs.bits.add_turned.Goals as goal
+
+pub loop-i-init : goal.loop-i-init
+loop-i-init c = λ before so_far. ap (applied function.Not) (append-nil before) ∙ so_far
+
+pub loop-i-preserved : goal.loop-i-preserved
+loop-i-preserved c = λ before so_far.
+    let left = map Bit c.args.bits.now in
+    let right = part_cells c.args.right in
+    let even : length right ≡ length left = c.requires ∙ sym (length-map c.args.bits.now Bit) in
+    let within : c.loop-i.i < length left = omega (arith, length-map c.args.bits.now Bit) in
+    applied_more function.Not before left right c.loop-i.i (get_or left c.loop-i.i Nil) (get_or right c.loop-i.i Nil) (Bit c.turned_at.result) c.loop-i.cells c.push.new.self
+    within even (get_default left c.loop-i.i Nil (get_or left c.loop-i.i Nil) within) (get_default right c.loop-i.i Nil (get_or right c.loop-i.i Nil) (omega (arith, even, within))) (c.loop-i.invariant before so_far) (ap Some (sym c.turned_at.ensures)) c.in_ok-push.ensures.ok
+
+pub returns : goal.returns
+returns c = λ before so_far.
+    ap (λ ps. applied function.Not (before ++ ps)) (sym (take_all c.loop-i.i (zip (map Bit c.args.bits.now) (part_cells c.args.right)) (omega (arith, length-zip (map Bit c.args.bits.now) (part_cells c.args.right), length-map c.args.bits.now Bit))))
+    ∙ c.loop-i.invariant before so_far

@@ -1,0 +1,201 @@
+//! Functions of two numbers, over parts that hold numbers alone.
+ghost use Rattle.std.specs.Prelude.{◌≡◌, ◌++◌, ◌<◌, length, map, slice_index_or, Some, None, OnOk};
+ghost use Rattle.std.specs.List.{zip};
+ghost use Rattle.cell_core.specs.declared.cell.Cell.TheVariants.{Int, Nil};
+ghost use Rattle.cell_core.specs.Pairs.{Pairs};
+ghost use Rattle.chunk_core.specs.Parts.{part_cells};
+ghost use Rattle.bat_calc.specs.declared.function.Function.{Function as FunctionSeen};
+ghost use Rattle.bat_calc.specs.declared.function.Function.TheVariants as function;
+ghost use Rattle.bat_calc.specs.Functions.{function_of, applied};
+
+use crate::function::Function;
+use crate::general::add_one_by_one;
+use bat_core::CellsBuilder;
+use cell_core::{Cell, RunError};
+use chunk_core::Part;
+use std::alloc::Global;
+
+/// A function that has a form of its own for two numbers.
+pub(crate) trait OfNumbers {
+    /// Which function it is.
+    ghost named: { FunctionSeen };
+
+    /// The function's cell; None is an overflow.
+    fn of_numbers(x: i64, y: i64) -> Option<Cell>
+        ensures { result ≡ function_of named (Int x) (Int y) };
+}
+
+/// The sum.
+pub(crate) struct Sum;
+
+impl OfNumbers for Sum {
+    ghost named = { function.Plus };
+
+    #[inline]
+    fn of_numbers(x: i64, y: i64) -> Option<Cell> {
+        match x.checked_add(y) {
+            Some(sum) => Some(Cell::Int(sum)),
+            None => None,
+        }
+    }
+}
+
+/// The difference.
+pub(crate) struct Difference;
+
+impl OfNumbers for Difference {
+    ghost named = { function.Minus };
+
+    #[inline]
+    fn of_numbers(x: i64, y: i64) -> Option<Cell> {
+        match x.checked_sub(y) {
+            Some(difference) => Some(Cell::Int(difference)),
+            None => None,
+        }
+    }
+}
+
+/// The product.
+pub(crate) struct Product;
+
+impl OfNumbers for Product {
+    ghost named = { function.Times };
+
+    #[inline]
+    fn of_numbers(x: i64, y: i64) -> Option<Cell> {
+        match x.checked_mul(y) {
+            Some(product) => Some(Cell::Int(product)),
+            None => None,
+        }
+    }
+}
+
+/// Whether both are equal.
+pub(crate) struct Equal;
+
+impl OfNumbers for Equal {
+    ghost named = { function.Eq };
+
+    #[inline]
+    fn of_numbers(x: i64, y: i64) -> Option<Cell> {
+        Some(Cell::Bit(x == y))
+    }
+}
+
+/// Whether they differ.
+pub(crate) struct Unequal;
+
+impl OfNumbers for Unequal {
+    ghost named = { function.Ne };
+
+    #[inline]
+    fn of_numbers(x: i64, y: i64) -> Option<Cell> {
+        Some(Cell::Bit(x != y))
+    }
+}
+
+/// Whether the first is below the second.
+pub(crate) struct Below;
+
+impl OfNumbers for Below {
+    ghost named = { function.Lt };
+
+    #[inline]
+    fn of_numbers(x: i64, y: i64) -> Option<Cell> {
+        Some(Cell::Bit(x < y))
+    }
+}
+
+/// Whether the first is at most the second.
+pub(crate) struct AtMost;
+
+impl OfNumbers for AtMost {
+    ghost named = { function.Le };
+
+    #[inline]
+    fn of_numbers(x: i64, y: i64) -> Option<Cell> {
+        Some(Cell::Bit(x <= y))
+    }
+}
+
+/// Whether the first is above the second.
+pub(crate) struct Above;
+
+impl OfNumbers for Above {
+    ghost named = { function.Gt };
+
+    #[inline]
+    fn of_numbers(x: i64, y: i64) -> Option<Cell> {
+        Some(Cell::Bit(x > y))
+    }
+}
+
+/// Whether the first is at least the second.
+pub(crate) struct AtLeast;
+
+impl OfNumbers for AtLeast {
+    ghost named = { function.Ge };
+
+    #[inline]
+    fn of_numbers(x: i64, y: i64) -> Option<Cell> {
+        Some(Cell::Bit(x >= y))
+    }
+}
+
+/// Adds the cells of a function over a run, by its form for numbers where both parts hold numbers alone.
+pub(crate) fn add_numbers<F: OfNumbers>(
+    alloc: Global,
+    function: Function,
+    left: Part<'_>,
+    right: Part<'_>,
+    cells: &mut CellsBuilder,
+) -> Result<(), RunError>
+    requires named { F.named ≡ function }
+    requires even { length (part_cells right) ≡ length (part_cells left) }
+    ensures value { OnOk result ((before : Pairs) → applied function before ≡ Some cells.old → applied function (before ++ zip (part_cells left.entry) (part_cells right.entry)) ≡ Some cells.new) }
+    ensures overflow { result ≡ Err RunError.Overflow → applied function (zip (part_cells left.entry) (part_cells right.entry)) ≡ None }
+{
+    match (left, right) {
+        (Part::Ints(x), Part::Ints(y)) => add_by_number::<F>(alloc, x, y, cells),
+        _ => add_one_by_one(alloc, function, left, right, cells),
+    }
+}
+
+/// Adds the cells of a function over numbers.
+fn add_by_number<F: OfNumbers>(
+    alloc: Global,
+    left: &[i64],
+    right: &[i64],
+    cells: &mut CellsBuilder,
+) -> Result<(), RunError>
+    requires { length right.now ≡ length left.now }
+    ensures value { OnOk result ((before : Pairs) → applied F.named before ≡ Some cells.old → applied F.named (before ++ zip (map Int left.now) (map Int right.now)) ≡ Some cells.new) }
+    ensures overflow { result ≡ Err RunError.Overflow → applied F.named (zip (map Int left.now) (map Int right.now)) ≡ None }
+{
+    for i in 0..left.len() {
+        match number_at::<F>(left, right, i) {
+            Some(cell) => cells.push(alloc, cell)?,
+            None => return Err(RunError::Overflow),
+        }
+    }
+    Ok(())
+}
+
+/// The cell of a function over the numbers at a place.
+#[inline]
+fn number_at<F: OfNumbers>(left: &[i64], right: &[i64], at: usize) -> Option<Cell>
+    requires left { at < length left.now }
+    requires right { at < length right.now }
+    ensures { result ≡ function_of F.named (slice_index_or (map Int left.now) at Nil) (slice_index_or (map Int right.now) at Nil) }
+{
+    F::of_numbers(int_at(left, at), int_at(right, at))
+}
+
+/// The number at a place.
+#[inline]
+fn int_at(numbers: &[i64], at: usize) -> i64
+    requires { at < length numbers.now }
+    ensures { Int result ≡ slice_index_or (map Int numbers.now) at Nil }
+{
+    numbers[at]
+}
