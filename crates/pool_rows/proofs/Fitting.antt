@@ -1,5 +1,5 @@
 -- What is computed from pooled results fits the pool.
-use Rattle.std.proofs.Common.{◌≡◌, ℕ, List, [], ◌∷◌, true, false, cond, ◌||◌, Option, Some, None, refl, ap, sym, ◌∙◌, subst, arith, length, map}
+use Rattle.std.proofs.Common.{◌≡◌, ◌<◌, ◌^◌, ℕ, List, [], ◌∷◌, true, false, cond, ◌||◌, Option, Some, None, refl, ap, sym, ◌∙◌, subst, arith, length, map}
 use Rattle.std.specs.Prelude.{IfSome, unwrap_or, ◌==◌}
 use Rattle.std.specs.List.{AllByRecursion, filter_map}
 use Rattle.std.specs.Option.{option_map}
@@ -65,9 +65,9 @@ module _ (pool : PoolState) (offer : Offer) (from : ℕ) (turn : Turn) where
       go Mark = ap (λ o. Some (Bat (marked (Oid 0) (unwrap_or o [])))) e
       go Reverse = ap (λ o. Some (Bat (reversed (unwrap_or o [])))) e
 
-  pub turn_fits : offer.work ≡ 4 → offer.key.op ≡ op_of turn → offer.key.args ≡ Id from ∷ rest_of turn → IfSome (value_in (faces pool.entries) from) (λ b. offer.value ≡ turned turn b) → IsOffer pool offer
+  pub turn_fits : offer.work < 2 ^ 62 → offer.key.op ≡ op_of turn → offer.key.args ≡ Id from ∷ rest_of turn → IfSome (value_in (faces pool.entries) from) (λ b. offer.value ≡ turned turn b) → IsOffer pool offer
   turn_fits work op_is args_is value = record {
-    work = omega (arith, work);
+    work = work;
     few = omega (arith, ap (λ (xs : List ℕ). length xs) parents);
     sole = λ bind. absurd (no_bind offer.key (op_of turn) op_is (no_bind_of turn) bind);
     computed = λ plain there.
@@ -85,10 +85,10 @@ module _ (pool : PoolState) (offer : Offer) (from : ℕ) (turn : Turn) where
 
 -- a join of two results
 module _ (pool : PoolState) (offer : Offer) (left right : ℕ) where
-  pub join_fits : offer.work ≡ 4 → offer.key.op ≡ Join → offer.key.args ≡ Id left ∷ Id right ∷ []
+  pub join_fits : offer.work < 2 ^ 62 → offer.key.op ≡ Join → offer.key.args ≡ Id left ∷ Id right ∷ []
       → IfSome (value_in (faces pool.entries) left) (λ l. IfSome (value_in (faces pool.entries) right) (λ r. offer.value ≡ joined l r)) → IsOffer pool offer
   join_fits work op_is args_is value = record {
-    work = omega (arith, work);
+    work = work;
     few = omega (arith, ap (λ (xs : List ℕ). length xs) parents);
     sole = λ bind. absurd (no_bind offer.key Join op_is refl bind);
     computed = λ plain there.

@@ -1,5 +1,5 @@
 //! Results that are offered to a pool.
-ghost use Rattle.std.specs.Prelude.{◌≡◌, [], ◌∷◌, IfOk, IfSome, true};
+ghost use Rattle.std.specs.Prelude.{◌≡◌, ◌<◌, ◌^◌, [], ◌∷◌, IfOk, IfSome, true};
 ghost use Rattle.std.specs.Option.{option_map};
 ghost use Rattle.cell_core.specs.declared.operator.Op.TheVariants.{Join};
 ghost use Rattle.cell_core.specs.Relations.{joined};
@@ -51,17 +51,19 @@ pub(crate) fn column(alloc: Global, table: &str, version: u64) -> Result<Key, Me
 pub(crate) fn bind(alloc: Global, key: Key, cells: &[i64], present: u64) -> Result<Offered, Memory>
     requires bind { is_bind key ≡ true }
     requires sole { parents_of key ≡ [] }
-    ensures { IfOk result (λ offered. (is_bind offered.key ≡ true) × (parents_of offered.key ≡ []) × (offered.work ≡ 4)) }
+    ensures { IfOk result (λ offered. (is_bind offered.key ≡ true) × (parents_of offered.key ≡ []) × (offered.work < 2 ^ 62)) }
 {
     let mut builder = BatBuilder::new(alloc);
     for i in 0..cells.len() {
         builder.append(alloc, Cell::Oid(i as u64), Cell::Int(cells[i]))?;
     }
-    let value = Shared::new(alloc, builder.finish(alloc)?)?;
+    let column = builder.finish(alloc)?;
+    let work = column.len();
+    let value = Shared::new(alloc, column)?;
     Ok(Offered {
         key,
         value,
-        work: 4,
+        work,
         present,
     })
 }
@@ -136,6 +138,16 @@ fn pooled(pool: &Pool, id: u64) -> Option<&Bat>
     }
 }
 
+/// How many pairs the entry with this id has, 0 where none is pooled.
+fn pooled_len(pool: &Pool, id: u64) -> u64
+    ensures { result < 2 ^ 60 }
+{
+    match pooled(pool, id) {
+        None => 0,
+        Some(b) => b.len(),
+    }
+}
+
 /// The value of an instruction on a pooled result, and nothing where that isn't pooled.
 fn value_from<L: Ledger>(
     alloc: Global,
@@ -163,12 +175,13 @@ pub(crate) fn turn_offer<L: Ledger>(
     ensures { IfOk result (λ offered. IsOffer pool.now (offer_in offered)) }
 {
     let value = value_from(alloc, pool, from, turn, steps)?;
+    let work = pooled_len(pool, from) + value.len();
     let value = Shared::new(alloc, value)?;
     let key = turn_key(alloc, from, turn)?;
     Ok(Offered {
         key,
         value,
-        work: 4,
+        work,
         present: 0,
     })
 }
@@ -230,12 +243,13 @@ pub(crate) fn join_offer<L: Ledger>(
     ensures { IfOk result (λ offered. IsOffer pool.now (offer_in offered)) }
 {
     let value = joined_from(alloc, pool, left, right, steps)?;
+    let work = pooled_len(pool, left) + pooled_len(pool, right) + value.len();
     let value = Shared::new(alloc, value)?;
     let key = join_key(alloc, left, right)?;
     Ok(Offered {
         key,
         value,
-        work: 4,
+        work,
         present: 0,
     })
 }

@@ -1,7 +1,7 @@
 //! Queries that are played on a pool, one instruction after the other.
 ghost use Rattle.std.specs.Prelude.{◌≡◌, ◌+◌, ◌<◌, ◌≤◌, ◌^◌, [], IfOk, OnOk};
-ghost use Rattle.score_hook.specs.declared.stats.Evict.TheVariants.{Lru};
-ghost use Rattle.score_hook.specs.Scores.{IsInRange, score_of};
+ghost use Rattle.score_hook.specs.declared.stats.Evict.TheVariants.{Benefit, Lru, Weighted};
+ghost use Rattle.score_hook.specs.Scores.{AreWeights, IsInRange, score_of};
 ghost use Rattle.pool_policy.specs.Keeps.{IsOffer};
 ghost use Rattle.recycle_pool.specs.Answers.{offer_in};
 
@@ -10,7 +10,7 @@ use cell_core::{Memory, Steps};
 use lineage_key::Key;
 use pool_policy::{Admitted, Who};
 use recycle_pool::{Found, Offered, Pool};
-use score_hook::{Evict, Score, ScoreCall, Scorer, Stats, formula};
+use score_hook::{Evict, Score, ScoreCall, Scorer, Stats, formula, weighted_formula};
 use std::alloc::Global;
 use std::sync::ledger::Ledger;
 
@@ -47,6 +47,19 @@ pub(crate) const NOTHING: Tally = Tally {
     peak: 0,
 };
 
+/// The version of a column that is asked for, and the present one.
+#[derive(Clone, Copy, Debug, PartialEq, Eq)]
+pub(crate) struct Versions {
+    pub(crate) asked: u64,
+    pub(crate) present: u64,
+}
+
+/// Version 2, which the column of a new table has after an INSERT.
+pub(crate) const SECOND: Versions = Versions {
+    asked: 2,
+    present: 2,
+};
+
 /// The scores by the moment of the last use.
 pub(crate) fn by_last_use(alloc: Global) -> Result<Scorer, Memory>
     ensures kind { IfOk result (λ scorer. scorer.kind ≡ Lru) }
@@ -62,8 +75,40 @@ pub(crate) fn by_last_use(alloc: Global) -> Result<Scorer, Memory>
     Ok(Scorer::new(alloc, Evict::Lru, call))
 }
 
+/// The scores by benefit.
+pub(crate) fn by_benefit(alloc: Global) -> Result<Scorer, Memory>
+    ensures kind { IfOk result (λ scorer. scorer.kind ≡ Benefit) }
+    ensures weights { IfOk result (λ scorer. scorer.weights.items ≡ []) }
+{
+    let call: ScoreCall = Box::new(
+        alloc,
+        move |stats: &Stats, now: u64| -> Score
+            requires { IsInRange stats.now now }
+            ensures { result ≡ score_of Benefit [] stats.now now }
+        { formula(Evict::Benefit, stats, now) },
+    )?;
+    Ok(Scorer::new(alloc, Evict::Benefit, call))
+}
+
+/// The scores by benefit times the weight of the operator, of which these are those of all.
+pub(crate) fn by_weights(alloc: Global, held: [u64; 35]) -> Result<Scorer, Memory>
+    requires weights { AreWeights held }
+    ensures kind { IfOk result (λ scorer. scorer.kind ≡ Weighted) }
+    ensures weights { IfOk result (λ scorer. scorer.weights.items ≡ held) }
+{
+    let call: ScoreCall = Box::new(
+        alloc,
+        move |stats: &Stats, now: u64| -> Score
+            requires range { IsInRange stats.now now }
+            requires weights { AreWeights held }
+            ensures { result ≡ score_of Weighted held stats.now now }
+        { weighted_formula(&held, stats, now) },
+    )?;
+    Ok(Scorer::weighted(Vec::from_array(alloc, held)?, call))
+}
+
 /// A look. The id of an equal result, which needs nothing more.
-fn looked(
+pub(crate) fn looked(
     alloc: Global,
     pool: &mut Pool,
     who: Who,
@@ -130,7 +175,7 @@ fn counted(said: Admitted, tally: &mut Tally) -> u64 {
 }
 
 /// An admission, and the id that the result has from then on.
-fn admitted(
+pub(crate) fn admitted(
     pool: &mut Pool,
     scorer: &Scorer,
     who: Who,
@@ -162,6 +207,7 @@ pub(crate) fn ask_bind(
     at: u64,
     table: &str,
     cells: &[i64],
+    versions: Versions,
     tally: &mut Tally,
 ) -> Result<u64, Memory>
     requires kind { scorer.now.kind ≡ pool.old.options.evict }
@@ -172,11 +218,11 @@ pub(crate) fn ask_bind(
     ensures moment { OnOk result (pool.new.moment ≤ at + 1) }
     ensures options { pool.new.options ≡ pool.old.options }
 {
-    let key = column(alloc, table, 2)?;
+    let key = column(alloc, table, versions.asked)?;
     match looked(alloc, pool, who, at, &key, tally)? {
         Some(id) => Ok(id),
         None => {
-            let offered = bind(alloc, key, cells, 2)?;
+            let offered = bind(alloc, key, cells, versions.present)?;
             admitted(pool, scorer, who, at + 1, offered, tally)
         }
     }
@@ -304,6 +350,7 @@ pub(crate) fn ask_range<L: Ledger>(
     who: Who,
     at: u64,
     cells: &[i64],
+    versions: Versions,
     range: &Turn,
     tally: &mut Tally,
     steps: &mut Steps<L>,
@@ -316,8 +363,8 @@ pub(crate) fn ask_range<L: Ledger>(
     ensures moment { OnOk result (pool.new.moment ≤ at + 11) }
     ensures options { pool.new.options ≡ pool.old.options }
 {
-    let column = ask_bind(alloc, pool, scorer, who, at, "t", cells, tally)?;
-    let selected = ask_turn(
+    let column = ask_bind(alloc, pool, scorer, who, at, "t", cells, versions, tally)?;
+    ask_rest(
         alloc,
         pool,
         scorer,
@@ -327,19 +374,32 @@ pub(crate) fn ask_range<L: Ledger>(
         range,
         tally,
         steps,
-    )?;
-    let rows = ask_rows(alloc, pool, scorer, who, at + 4, selected, tally, steps)?;
-    ask_join(
-        alloc,
-        pool,
-        scorer,
-        who,
-        at + 10,
-        rows,
-        column,
-        tally,
-        steps,
-    )?;
+    )
+}
+
+/// The same from its column on. It takes ten moments.
+pub(crate) fn ask_rest<L: Ledger>(
+    alloc: Global,
+    pool: &mut Pool,
+    scorer: &Scorer,
+    who: Who,
+    at: u64,
+    column: u64,
+    range: &Turn,
+    tally: &mut Tally,
+    steps: &mut Steps<L>,
+) -> Result<(), Memory>
+    requires kind { scorer.now.kind ≡ pool.old.options.evict }
+    requires weights { scorer.now.weights.items ≡ pool.old.options.weights }
+    requires session { who.session < 17 }
+    requires later { pool.old.moment < at }
+    requires early { at + 9 < 2 ^ 30 }
+    ensures moment { OnOk result (pool.new.moment ≤ at + 9) }
+    ensures options { pool.new.options ≡ pool.old.options }
+{
+    let selected = ask_turn(alloc, pool, scorer, who, at, column, range, tally, steps)?;
+    let rows = ask_rows(alloc, pool, scorer, who, at + 2, selected, tally, steps)?;
+    ask_join(alloc, pool, scorer, who, at + 8, rows, column, tally, steps)?;
     pool.release(who.session);
     Ok(())
 }
@@ -364,7 +424,7 @@ pub(crate) fn ask_count<L: Ledger>(
     ensures moment { OnOk result (pool.new.moment ≤ at + 7) }
     ensures options { pool.new.options ≡ pool.old.options }
 {
-    let column = ask_bind(alloc, pool, scorer, who, at, table, cells, tally)?;
+    let column = ask_bind(alloc, pool, scorer, who, at, table, cells, SECOND, tally)?;
     ask_rows(alloc, pool, scorer, who, at + 2, column, tally, steps)?;
     pool.release(who.session);
     Ok(())

@@ -1,9 +1,10 @@
 //! Worked sessions, whose numbers an independent implementation computed.
 ghost use Rattle.std.specs.Prelude.{◌≡◌, ◌+◌, ◌<◌, ◌≤◌, ◌^◌, [], OnOk, length};
-ghost use Rattle.score_hook.specs.declared.stats.Evict.TheVariants.{Lru};
 
 use crate::offers::Turn;
-use crate::play::{NOTHING, Tally, ask_count, ask_range, by_last_use};
+use crate::play::{
+    NOTHING, SECOND, Tally, ask_count, ask_range, by_benefit, by_last_use, by_weights,
+};
 use cell_core::{Cell, Memory, Sequence, Steps};
 use pool_policy::{Admit, PoolOptions, Who};
 use recycle_pool::Pool;
@@ -24,11 +25,11 @@ enum Query {
 
 /// What a session left.
 #[derive(Drop)]
-struct Outcome {
-    tally: Tally,
-    entries: u64,
-    bytes: u64,
-    ids: Vec<u64>,
+pub(crate) struct Outcome {
+    pub(crate) tally: Tally,
+    pub(crate) entries: u64,
+    pub(crate) bytes: u64,
+    pub(crate) ids: Vec<u64>,
 }
 
 /// A query of one of sixteen sessions, each of which is a statement of its own.
@@ -55,7 +56,9 @@ fn ask<L: Ledger>(
                 session: *session % 17,
                 statement: at as u32,
             };
-            ask_range(alloc, pool, scorer, who, at, cells, range, tally, steps)
+            ask_range(
+                alloc, pool, scorer, who, at, cells, SECOND, range, tally, steps,
+            )
         }
         Query::Count(session, table, rows) => {
             let who = Who {
@@ -72,20 +75,20 @@ fn play<L: Ledger>(
     alloc: Global,
     blank: Blank,
     options: PoolOptions,
+    scorer: &Scorer,
     cells: &[i64],
     queries: &[Query],
 ) -> Result<Outcome, Memory>
     requires name { blank.name ≡ L.name }
     requires parts { blank.parts ≡ L.parts }
     requires some { 0 < blank.parts }
-    requires kind { options.evict ≡ Lru }
-    requires weights { options.weights ≡ [] }
+    requires kind { scorer.now.kind ≡ options.evict }
+    requires weights { scorer.now.weights.items ≡ options.weights }
     requires places { options.places ≤ 1024 }
     requires budget { options.budget ≤ 2 ^ 40 }
     requires few { length queries.now ≤ 100 }
 {
     let mut steps = Steps::<L>::new(blank);
-    let scorer = by_last_use(alloc)?;
     let mut pool = Pool::new(alloc, options)?;
     let mut tally = NOTHING;
     'queries: for i in 0..queries.len() {
@@ -93,7 +96,7 @@ fn play<L: Ledger>(
         ask(
             alloc,
             &mut pool,
-            &scorer,
+            scorer,
             at,
             cells,
             &queries[i],
@@ -101,8 +104,13 @@ fn play<L: Ledger>(
             &mut steps,
         )?;
     }
+    left_by(alloc, &pool, tally)
+}
+
+/// What a pool has, beside what was counted.
+pub(crate) fn left_by(alloc: Global, pool: &Pool, tally: Tally) -> Result<Outcome, Memory> {
     let (entries, bytes) = pool.totals();
-    let ids = ids_of(alloc, &pool)?;
+    let ids = ids_of(alloc, pool)?;
     Ok(Outcome {
         tally,
         entries,
@@ -139,7 +147,8 @@ fn told(
         admit,
         credits: 1,
     };
-    play::<Brand>(alloc, Blank::new(1), options, cells, queries)
+    let scorer = by_last_use(alloc)?;
+    play::<Brand>(alloc, Blank::new(1), options, &scorer, cells, queries)
 }
 
 /// From a number to another, both included, asked by the first session.
@@ -158,7 +167,7 @@ fn above(low: i64) -> Query {
 }
 
 /// Whether the ids are so many from 1 on.
-fn are_first(ids: &[u64], count: usize) -> bool {
+pub(crate) fn are_first(ids: &[u64], count: usize) -> bool {
     ids.len() == count && ids.iter().zip(1..).all(|(id, place)| *id == place)
 }
 
@@ -267,13 +276,7 @@ fn another_session_finds_every_result(rt: HostRuntime) -> Result<(), Fail> {
 
 #[test]
 fn the_least_recently_used_go(rt: HostRuntime) -> Result<(), Fail> {
-    let queries = [
-        Query::Count(1, "u", TWO),
-        Query::Count(1, "v", ONE),
-        Query::Count(1, "w", ONE),
-        Query::Count(1, "u", TWO),
-    ];
-    let told = told(rt.alloc(), 584, Admit::All, &[], &queries)?;
+    let told = told(rt.alloc(), 584, Admit::All, &[], &COUNTS)?;
     let tally = Tally {
         miss: 16,
         taken: 16,
@@ -284,6 +287,90 @@ fn the_least_recently_used_go(rt: HostRuntime) -> Result<(), Fail> {
     assert_eq!(rt; told.tally, tally);
     assert_eq!(rt; (told.entries, told.bytes), (8, 584));
     assert!(rt; told.ids.as_slice() == [9, 10, 11, 12, 13, 14, 15, 16].as_slice());
+    Ok(())
+}
+
+/// Counts of three tables, and of the first again.
+const COUNTS: [Query; 4] = [
+    Query::Count(1, "u", TWO),
+    Query::Count(1, "v", ONE),
+    Query::Count(1, "w", ONE),
+    Query::Count(1, "u", TWO),
+];
+
+/// What the counts leave in 584 bytes, where entries go by these scores.
+fn counts_by(
+    alloc: Global,
+    evict: Evict,
+    weights: Vec<u64>,
+    scorer: &Scorer,
+) -> Result<Outcome, Memory>
+    requires kind { scorer.now.kind ≡ evict }
+    requires weights { scorer.now.weights.items ≡ weights.items }
+{
+    let options = PoolOptions {
+        places: 1024,
+        budget: 584,
+        evict,
+        weights: Sequence::from_vec(weights),
+        admit: Admit::All,
+        credits: 1,
+    };
+    play::<Brand>(alloc, Blank::new(1), options, scorer, &[], &COUNTS)
+}
+
+/// What was counted where so many were found and so many went.
+fn found_and_gone(exact: u64, evicted: u64) -> Tally
+    requires { exact ≤ 16 }
+{
+    Tally {
+        exact,
+        miss: 16 - exact,
+        taken: 16 - exact,
+        evicted,
+        peak: 584,
+        ..NOTHING
+    }
+}
+
+/// No operator weighs more than another.
+const EVEN: [u64; 35] = [1; 35];
+
+/// A mark weighs a hundred times as much as anything else.
+const MARKS: [u64; 35] = [
+    1, 1, 1, 1, 1, 1, 1, 100, 1, 1, 1, 1, 1, 1, 1, 1, 1, 1, 1, 1, 1, 1, 1, 1, 1, 1, 1, 1, 1, 1, 1,
+    1, 1, 1, 1,
+];
+
+#[test]
+fn the_least_benefit_goes(rt: HostRuntime) -> Result<(), Fail> {
+    let alloc = rt.alloc();
+    let told = counts_by(alloc, Evict::Benefit, Vec::new(alloc), &by_benefit(alloc)?)?;
+    assert_eq!(rt; told.tally, found_and_gone(4, 4));
+    assert_eq!(rt; (told.entries, told.bytes), (8, 584));
+    assert!(rt; told.ids.as_slice() == [1, 2, 3, 4, 9, 10, 11, 12].as_slice());
+    Ok(())
+}
+
+#[test]
+fn even_weights_are_benefit(rt: HostRuntime) -> Result<(), Fail> {
+    let alloc = rt.alloc();
+    let weights = Vec::from_array(alloc, EVEN)?;
+    let told = counts_by(alloc, Evict::Weighted, weights, &by_weights(alloc, EVEN)?)?;
+    assert_eq!(rt; told.tally, found_and_gone(4, 4));
+    assert_eq!(rt; (told.entries, told.bytes), (8, 584));
+    assert!(rt; told.ids.as_slice() == [1, 2, 3, 4, 9, 10, 11, 12].as_slice());
+    Ok(())
+}
+
+#[test]
+fn a_heavy_mark_outlives_its_child(rt: HostRuntime) -> Result<(), Fail> {
+    let alloc = rt.alloc();
+    let weights = Vec::from_array(alloc, MARKS)?;
+    let told = counts_by(alloc, Evict::Weighted, weights, &by_weights(alloc, MARKS)?)?;
+    assert_eq!(rt; told.tally, found_and_gone(3, 5));
+    assert_eq!(rt; (told.entries, told.bytes), (8, 584));
+    assert!(rt; told.ids.as_slice() == [1, 2, 3, 9, 10, 11, 12, 13].as_slice());
     Ok(())
 }
 

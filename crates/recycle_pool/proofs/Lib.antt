@@ -14,3 +14,4 @@ pub mod Answered
 pub mod Admissions
 pub mod Carrying
 pub mod Contained
+pub mod Walks

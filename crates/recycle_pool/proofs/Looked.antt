@@ -14,6 +14,7 @@ use Rattle.pool_policy.proofs.Lists.{all_on}
 use Rattle.recycle_pool.specs.declared.pool.Pool.TheInside.{Inside}
 use Rattle.recycle_pool.specs.Usable.{CanUse, HaveRisingIds, IsLookable, IsOwed}
 use Rattle.recycle_pool.specs.Named.{IsNamed}
+use Rattle.recycle_pool.specs.Indexed.{IsIndexed}
 use Rattle.recycle_pool.specs.Views.{pool_shown, IsKept}
 
 -- entries of a pool can be looked at
@@ -29,6 +30,10 @@ rising p shown known same = subst HaveRisingIds (sym same) (p.next, known.pool.r
 -- they are named
 pub named : (p : Inside) (shown : List PoolEntry) → IsKept p → shown ≡ p.entries.items → IsNamed p.keys shown
 named p shown known same = subst (IsNamed p.keys) (sym same) known.keys
+
+-- they are found by their first parents
+pub indexed : (p : Inside) (shown : List PoolEntry) → IsKept p → shown ≡ p.entries.items → IsIndexed p.children shown
+indexed p shown known same = subst (IsIndexed p.children) (sym same) known.children
 
 -- they may pay back
 pub owed : (p : Inside) (shown : List PoolEntry) → IsKept p → shown ≡ p.entries.items → IsOwed p.ledger shown

@@ -3,3 +3,4 @@ pub mod Answers
 pub mod Usable
 pub mod Carries
 pub mod Named
+pub mod Indexed

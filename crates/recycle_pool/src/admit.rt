@@ -6,6 +6,7 @@ ghost use Rattle.pool_policy.specs.Keeps.{IsOffer};
 ghost use Rattle.recycle_pool.specs.Answers.{offer_in};
 ghost use Rattle.recycle_pool.specs.Usable.{IsNew};
 
+use crate::children::{add_child, take_children};
 use crate::offer::{Offered, bytes_of, first_missing, is_stale, new_entry};
 use crate::pool::Pool;
 use crate::room::{enter, is_spent, leave, left_bytes, pay, plan_room, wanted};
@@ -148,9 +149,11 @@ impl Pool {
         let id = self.next;
         let entry = new_entry(id, shape, offered, bytes, who, now);
         leave(&mut self.entries, &mut self.ledger, gone);
+        take_children(&mut self.children, gone);
         self.bytes = left + bytes;
         pay(&mut self.ledger, shape);
         self.keys.add(self.entries.as_slice(), &entry);
+        add_child(&mut self.children, &entry);
         enter(&mut self.entries, entry);
         self.next = id + 1;
         let gone = self.lists.gone.len() as u64;

@@ -4,43 +4,55 @@ ghost use Rattle.lineage_key.specs.Spans.{span_asked};
 ghost use Rattle.pool_policy.specs.Keyed.{first_parent as parent_in};
 ghost use Rattle.pool_policy.specs.Looks.{across_found, container_of, cover_of, found_of, target_found, within_found};
 ghost use Rattle.recycle_pool.specs.Answers.{HandsOut, told};
+ghost use Rattle.recycle_pool.specs.Indexed.{IsIndexed};
 ghost use Rattle.recycle_pool.specs.Named.{IsNamed};
 ghost use Rattle.recycle_pool.specs.Usable.{IsLookable};
 
+use crate::children::first_parent;
 use crate::covers::{find_cover, value_at};
 use crate::found::{Found, Part};
 use crate::keys::Keys;
-use crate::selections::{container, first_parent, selections_of};
+use crate::selections::{container, selections_of};
 use cell_core::{Memory, Span};
 use lineage_key::{Key, span_of};
+use pool_index::Children;
 use pool_policy::PoolEntry;
 
 /// What serves a selection of a target: one whose range contains it, or pieces that cover it.
 fn find_selection(
+    children: &Children,
     entries: &[PoolEntry],
     parent: u64,
     target: &Span,
     parts: &mut Vec<Part>,
 ) -> Result<Found, Memory>
+    requires indexed { IsIndexed children.now entries.now }
     requires lookable { IsLookable entries.now }
     requires empty { parts.old.items ≡ [] }
     ensures found { IfOk result (λ found. told found parts.new.items ≡ within_found (container_of parent target.now entries.now) (across_found (cover_of parent target.now entries.now))) }
     ensures values { IfOk result (λ found. HandsOut entries.now found parts.new.items) }
 {
-    match container(entries, parent, target)? {
-        Some(selection) => {
-            let value = value_at(entries, selection.0)?;
-            Ok(Found::Within(selection.0, value))
+    let pairs = children.of(parent);
+    match container(entries, pairs, parent, target)? {
+        Some((id, _)) => {
+            let value = value_at(entries, id)?;
+            Ok(Found::Within(id, value))
         }
         None => {
-            let selections = selections_of(*parts.allocator(), entries, parent)?;
+            let selections = selections_of(*parts.allocator(), entries, pairs, parent)?;
             find_cover(entries, parent, target, selections.as_slice(), parts)
         }
     }
 }
 
 /// What serves a key that no entry has.
-fn find_range(entries: &[PoolEntry], key: &Key, parts: &mut Vec<Part>) -> Result<Found, Memory>
+fn find_range(
+    children: &Children,
+    entries: &[PoolEntry],
+    key: &Key,
+    parts: &mut Vec<Part>,
+) -> Result<Found, Memory>
+    requires indexed { IsIndexed children.now entries.now }
     requires lookable { IsLookable entries.now }
     requires empty { parts.old.items ≡ [] }
     ensures found { IfOk result (λ found. told found parts.new.items ≡ target_found (parent_in key.now) entries.now (span_asked key.now)) }
@@ -48,7 +60,7 @@ fn find_range(entries: &[PoolEntry], key: &Key, parts: &mut Vec<Part>) -> Result
 {
     match span_of(key)? {
         None => Ok(Found::Miss),
-        Some(target) => find_selection(entries, first_parent(key), &target, parts),
+        Some(target) => find_selection(children, entries, first_parent(key), &target, parts),
     }
 }
 
@@ -56,11 +68,13 @@ fn find_range(entries: &[PoolEntry], key: &Key, parts: &mut Vec<Part>) -> Result
 /// pooled.
 pub(crate) fn find(
     keys: &Keys,
+    children: &Children,
     entries: &[PoolEntry],
     key: &Key,
     parts: &mut Vec<Part>,
 ) -> Result<Found, Memory>
     requires named { IsNamed keys.now entries.now }
+    requires indexed { IsIndexed children.now entries.now }
     requires lookable { IsLookable entries.now }
     requires empty { parts.old.items ≡ [] }
     ensures found { IfOk result (λ found. told found parts.new.items ≡ found_of entries.now key.now) }
@@ -70,7 +84,7 @@ pub(crate) fn find(
         return Ok(Found::Miss);
     }
     match keys.place(entries, key) {
-        None => find_range(entries, key, parts),
+        None => find_range(children, entries, key, parts),
         Some(place) => {
             let value = entries[place].value.share()?;
             Ok(Found::Exact(entries[place].id, value))
@@ -81,18 +95,20 @@ pub(crate) fn find(
 /// The same; where memory runs out, there are no parts.
 pub(crate) fn find_whole(
     keys: &Keys,
+    children: &Children,
     entries: &[PoolEntry],
     key: &Key,
     parts: &mut Vec<Part>,
 ) -> Result<Found, Memory>
     requires named { IsNamed keys.now entries.now }
+    requires indexed { IsIndexed children.now entries.now }
     requires lookable { IsLookable entries.now }
     requires empty { parts.old.items ≡ [] }
     ensures found { IfOk result (λ found. told found parts.new.items ≡ found_of entries.now key.now) }
     ensures values { IfOk result (λ found. HandsOut entries.now found parts.new.items) }
     ensures err { OnErr result (parts.new.items ≡ []) }
 {
-    match find(keys, entries, key, parts) {
+    match find(keys, children, entries, key, parts) {
         Ok(found) => Ok(found),
         Err(memory) => {
             parts.clear();

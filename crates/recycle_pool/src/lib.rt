@@ -7,12 +7,14 @@
 //! told by the laws of `pool_policy`.
 //!
 //! An entry with a key is found by the print of the key (`pool_index`), and one with an id by halves, since
-//! ids rise. The bytes of all entries are kept. Selections are found by a look at each entry.
+//! ids rise. The bytes of all entries are kept. The selections from one parent are found by a look at
+//! those entries alone that stand on it.
 #![tactic(auto)]
 
 mod admit;
 mod by_id;
 mod carried;
+mod children;
 mod covers;
 mod finding;
 mod found;
@@ -24,8 +26,6 @@ mod pool;
 mod room;
 mod selections;
 mod shapes;
-#[cfg(test)]
-mod tests;
 mod uses;
 mod write;
 mod written;

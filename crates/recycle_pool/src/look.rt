@@ -33,7 +33,13 @@ impl Pool {
         ensures err { OnErr result (self.new ≡ self.old) }
         ensures none { OnErr result (parts.new.items ≡ []) }
     {
-        let found = find_whole(&self.keys, self.entries.as_slice(), key, parts)?;
+        let found = find_whole(
+            &self.keys,
+            &self.children,
+            self.entries.as_slice(),
+            key,
+            parts,
+        )?;
         let used = parts.as_slice();
         pay_uses(&mut self.ledger, self.entries.as_slice(), &found, used, who);
         use_all(&mut self.entries, &found, used, who, now);

@@ -10,6 +10,7 @@ use bat_core::Shared;
 use cell_core::Memory;
 use evict_admit::Ledger;
 use lineage_key::{Key, Shape};
+use pool_index::Children;
 use pool_policy::{PoolEntry, PoolOptions};
 use std::alloc::Global;
 use std::marker::Model;
@@ -25,6 +26,8 @@ pub struct Pool {
     pub(crate) ledger: Ledger,
     pub(crate) lists: Lists,
     pub(crate) keys: Keys,
+    /// The ids of the entries under those of their first parents.
+    pub(crate) children: Children,
     /// The stated bytes of all entries.
     pub(crate) bytes: u64,
 }
@@ -51,6 +54,7 @@ impl Pool {
         let entries = Vec::with_capacity(alloc, options.places as usize)?;
         let lists = Lists::new(alloc, options.places as usize)?;
         let keys = Keys::new(alloc, options.places as usize)?;
+        let children = Children::new(alloc, options.places as usize)?;
         let ledger = Ledger::new(alloc, options.credits);
         Ok(Pool {
             options,
@@ -61,6 +65,7 @@ impl Pool {
             ledger,
             lists,
             keys,
+            children,
             bytes: 0,
         })
     }

@@ -4,6 +4,7 @@ ghost use Rattle.pool_policy.specs.WriteLaws.{IsWrite};
 ghost use Rattle.recycle_pool.specs.Carries.{IsCarried};
 
 use crate::carried::Carried;
+use crate::children::{renew_children, take_children};
 use crate::pool::Pool;
 use crate::room::leave;
 use crate::uses::total_bytes;
@@ -28,6 +29,7 @@ impl Pool {
             &mut self.ledger,
             self.lists.touched.as_slice(),
         );
+        take_children(&mut self.children, self.lists.touched.as_slice());
         self.bytes = total_bytes(self.entries.as_slice());
     }
 
@@ -72,6 +74,7 @@ impl Pool {
         );
         enter_all(&mut self.entries, entries);
         self.keys.renew(self.entries.as_slice());
+        renew_children(&mut self.children, self.entries.as_slice());
         let back = ids.len() as u64;
         let dropped = (self.lists.touched.len() as u64).saturating_sub(back);
         self.next += back;
@@ -88,6 +91,7 @@ impl Pool {
             &mut self.ledger,
             self.lists.gone.as_slice(),
         );
+        take_children(&mut self.children, self.lists.gone.as_slice());
         self.bytes = total_bytes(self.entries.as_slice());
         (dropped, self.lists.gone.len() as u64)
     }

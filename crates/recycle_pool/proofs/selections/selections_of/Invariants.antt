@@ -1,10 +1,10 @@
 -- What was found and what is left give the whole.
 use Rattle.std.proofs.Common.{◌≡◌, ◌++◌, length}
-use Rattle.pool_policy.specs.Looks.{selections_from}
+use Rattle.recycle_pool.specs.Indexed.{selections_at}
 use Rattle.recycle_pool.proofs.selections.selections_of.Given as goal
 
-abbrev pub invariant-entries : goal.invariant-entries
-invariant-entries l = l.selections.items ++ selections_from l.parent l.rest ≡ selections_from l.parent l.entries
+abbrev pub invariant-pairs : goal.invariant-pairs
+invariant-pairs l = l.selections.items ++ selections_at l.entries l.rest ≡ selections_at l.entries l.pairs
 
-abbrev pub decreases-entries : goal.decreases-entries
-decreases-entries l = length l.rest
+abbrev pub decreases-pairs : goal.decreases-pairs
+decreases-pairs l = length l.rest

@@ -14,6 +14,7 @@ use Rattle.pool_policy.proofs.Leaving.{bytes_left}
 use Rattle.recycle_pool.specs.Answers.{offer_in}
 use Rattle.recycle_pool.specs.Usable.{IsNew, IsOwed}
 use Rattle.recycle_pool.specs.Named.{IsNamed}
+use Rattle.recycle_pool.specs.Indexed.{IsIndexed}
 use Rattle.recycle_pool.specs.Views.{pool_shown}
 use Rattle.recycle_pool.proofs.Admissions.{few_shapes, plannable, run_from, shaped_from}
 use Rattle.recycle_pool.proofs.Answered.{no_credit_is, no_room_is, owed_shaped, place_left, said_keeps, spent_is, still_some, taken_is}
@@ -21,6 +22,7 @@ use Rattle.recycle_pool.proofs.Looked.{rising}
 use Rattle.recycle_pool.proofs.Prints.{named_left}
 use Rattle.recycle_pool.proofs.Totals.{bytes_more}
 use Rattle.recycle_pool.proofs.Stands.{kept_on}
+use Rattle.recycle_pool.proofs.Walks.{few_pairs}
 use Rattle.recycle_pool.proofs.pool.Pool.admit_new.Goals as goal
 
 pub plan_room-enough-requires-clause-plan : goal.plan_room-enough-requires-clause-plan
@@ -44,7 +46,7 @@ invariant_of-self-then-is_spent g c =
     let later : c.self.inside.moment < c.args.now = let m = ap (λ (p : PoolState). p.moment) c.self.view_is in omega (arith, m, c.requires.later) in
     let fits = subst (λ (p : PoolState). IsOffer p offer) (sym c.self.view_is) c.requires.fits in
     let done = no_credit_is c.args.who c.args.now offer pool c.self.inside.ledger.start c.in_ok-shape.shape c.give_number.new.shapes.items c.give_number.new.ledger.each shaped c.is_spent.result test c.if-is_spent.true in
-    kept_on c.self.inside _ c.self.invariant (said_keeps c.args.who c.args.now offer pool _ _ done later c.self.invariant.pool fits) refl c.give_number.ensures.start c.requires.early (omega (arith, later, c.self.invariant.next)) (few_shapes c.self.inside c.args.now (shape_in c.as_slice.result.now c.args.offered.key) (has_credits c.self.inside.options) c.give_number.new.shapes.items c.self.invariant later c.in_ok-shape.ensures.shapes) (omega arith) c.self.invariant.lists c.self.invariant.keys (omega arith) c.self.invariant.bytes
+    kept_on c.self.inside _ c.self.invariant (said_keeps c.args.who c.args.now offer pool _ _ done later c.self.invariant.pool fits) refl c.give_number.ensures.start c.requires.early (omega (arith, later, c.self.invariant.next)) (few_shapes c.self.inside c.args.now (shape_in c.as_slice.result.now c.args.offered.key) (has_credits c.self.inside.options) c.give_number.new.shapes.items c.self.invariant later c.in_ok-shape.ensures.shapes) (omega arith) c.self.invariant.lists c.self.invariant.keys (omega arith) c.self.invariant.bytes c.self.invariant.children (omega arith)
 
 pub returns-then-is_spent-clause-done : goal.returns-then-is_spent-clause-done
 returns-then-is_spent-clause-done g c =
@@ -73,7 +75,7 @@ invariant_of-self-then-not-enough g c =
       touched = (let same = ap (λ v. vec_capacity v) c.plan_room-enough.ensures.touched in omega (arith, same, c.self.invariant.lists.touched));
       gone = omega (arith, c.self.invariant.lists.gone, c.plan_room-enough.ensures.gone_room);
       rows = omega (arith, c.self.invariant.lists.rows, c.plan_room-enough.ensures.rows_room);
-    }) c.self.invariant.keys (omega arith) c.self.invariant.bytes
+    }) c.self.invariant.keys (omega arith) c.self.invariant.bytes c.self.invariant.children (omega arith)
 
 pub returns-then-not-enough-clause-done : goal.returns-then-not-enough-clause-done
 returns-then-not-enough-clause-done g c =
@@ -139,6 +141,25 @@ add-requires-clause-room g c =
     let l = ap (λ (es : List PoolEntry). length es) c.as_slice-5.ensures.value in
     omega (arith, l, place, c.self.invariant.prints)
 
+pub add_child-requires : goal.add_child-requires
+add_child-requires g c =
+    let pool : PoolState = pool_shown c.self.inside in
+    let offer : Offer = offer_in c.args.offered in
+    let shown : c.as_slice.result.now ≡ c.self.inside.entries.items = c.as_slice.ensures.value in
+    let new : IsNew offer pool = subst (IsNew offer) (sym c.self.view_is) c.requires.new in
+    let shaped = shaped_from c.args.who c.args.now offer c.self.inside c.as_slice.result.now c.in_ok-shape.shape c.give_number.new.shapes.items c.give_number.new.ledger.each c.self.invariant shown new c.in_ok-shape.ensures.shapes c.in_ok-shape.ensures.each c.in_ok-shape.ensures.number in
+    let test = spent_is (has_credits c.self.inside.options) c.is_spent.result c.in_ok-shape.shape c.give_number.new.ledger.each c.in_ok-shape.ensures.marked c.in_ok-shape.ensures.none c.is_spent.ensures.spent c.is_spent.ensures.none in
+    let later : c.self.inside.moment < c.args.now = let m = ap (λ (p : PoolState). p.moment) c.self.view_is in omega (arith, m, c.requires.later) in
+    let fits = subst (λ (p : PoolState). IsOffer p offer) (sym c.self.view_is) c.requires.fits in
+    let run = run_from c.args.now c.self.inside offer c.as_slice-2.result.now c.as_slice-3.result.now c.bytes_of-bytes.result c.wanted-need.result.0 c.wanted-need.result.1 (c.plan_room-enough.new.lists.gone.items, c.plan_room-enough.result) c.self.invariant c.as_slice-2.ensures.value c.as_slice-3.ensures.value c.bytes_of-bytes.ensures.bytes c.wanted-need.ensures.bytes c.wanted-need.ensures.places c.plan_room-enough.ensures.plan in
+    let rest = c.leave.ensures.entries ∙ ap (λ (ids : List ℕ). left_without ids c.self.inside.entries.items) c.as_slice-gone.ensures.value in
+    let paid = c.leave.ensures.each ∙ ap (λ (ids : List ℕ). paid_back c.give_number.new.ledger.each (filter (λ (e : PoolEntry). is_one_of ids e.id && pays_at_end e) c.self.inside.entries.items)) c.as_slice-gone.ensures.value in
+    let done = taken_is c.args.who c.args.now offer pool c.self.inside.ledger.start c.in_ok-shape.shape c.give_number.new.shapes.items c.give_number.new.ledger.each shaped c.is_spent.result c.plan_room-enough.result test c.if-is_spent.false c.plan_room-enough.new.lists.gone.items c.bytes_of-bytes.result (length c.plan_room-enough.new.lists.gone.items) c.leave.new.entries.items (c.leave.new.entries.items ++ c.new_entry-entry.result ∷ []) c.new_entry-entry.result c.leave.new.ledger.each c.pay.new.ledger.each c.if-not-enough.false run c.bytes_of-bytes.ensures.bytes refl rest refl c.new_entry-entry.ensures paid c.pay.ensures.each in
+    let place = place_left c.args.who c.args.now offer pool _ c.leave.new.entries.items c.new_entry-entry.result _ c.self.invariant.pool done later fits refl refl in
+    let few = few_pairs c.take_children.new.children (left_without c.as_slice-gone.result.now c.self.inside.entries.items) (c.take_children.ensures.indexed c.self.inside.entries.items c.self.invariant.children) in
+    let l = ap (λ (es : List PoolEntry). length es) c.leave.ensures.entries in
+    omega (arith, few, l, place, c.self.invariant.spare, c.take_children.ensures.room)
+
 pub enter-requires : goal.enter-requires
 enter-requires g c =
     let pool : PoolState = pool_shown c.self.inside in
@@ -179,6 +200,9 @@ invariant_of-self-2 g c =
     (subst (IsNamed c.add.new.self) (ap (λ (es : List PoolEntry). es ++ c.new_entry-entry.result ∷ []) c.as_slice-5.ensures.value ∙ sym c.enter.ensures.items) c.add.ensures.named)
     (omega (arith, c.add.ensures.room))
     (bytes_more c.left_bytes-left.result c.bytes_of-bytes.result c.leave.new.entries.items c.enter.new.entries.items c.new_entry-entry.result (c.left_bytes-left.ensures ∙ ap (λ (es : List PoolEntry). pool_bytes (left_without c.as_slice-gone.result.now es)) c.as_slice-4.ensures.value ∙ ap pool_bytes (sym c.leave.ensures.entries)) (c.bytes_of-bytes.ensures.bytes ∙ ap (λ (e : PoolEntry). e.bytes) (sym c.new_entry-entry.ensures)) c.enter.ensures.items)
+    (subst (IsIndexed c.add_child.new.children) (ap (λ (es : List PoolEntry). es ++ c.new_entry-entry.result ∷ []) (sym c.leave.ensures.entries) ∙ sym c.enter.ensures.items)
+    (c.add_child.ensures.indexed (left_without c.as_slice-gone.result.now c.self.inside.entries.items) (c.take_children.ensures.indexed c.self.inside.entries.items c.self.invariant.children)))
+    (omega (arith, c.take_children.ensures.room, c.add_child.ensures.room))
 
 pub returns-clause-done : goal.returns-clause-done
 returns-clause-done g c =

@@ -13,6 +13,7 @@ use Rattle.recycle_pool.proofs.Looked.{named, rising}
 use Rattle.recycle_pool.proofs.Prints.{named_faces}
 use Rattle.recycle_pool.proofs.Totals.{bytes_on}
 use Rattle.recycle_pool.proofs.Stands.{kept_on}
+use Rattle.recycle_pool.proofs.Walks.{indexed_faces}
 use Rattle.recycle_pool.proofs.pool.Pool.answer_known.Goals as goal
 
 pub place-requires-clause-named : goal.place-requires-clause-named
@@ -33,6 +34,7 @@ invariant_of-self c =
     refl refl c.requires.early (omega (arith, later, c.self.invariant.next)) (omega (arith, later, c.self.invariant.shapes)) (omega (arith, c.pin_id.ensures.room)) c.self.invariant.lists
     (named_faces c.self.inside.keys c.self.inside.entries.items c.pin_id.new.entries.items (ap faces c.pin_id.ensures.entries ∙ pinned_faces c.args.who (c.index.result.now.id ∷ []) c.self.inside.entries.items) c.self.invariant.keys) (omega arith)
     (bytes_on c.self.inside.bytes c.self.inside.entries.items c.pin_id.new.entries.items (ap faces c.pin_id.ensures.entries ∙ pinned_faces c.args.who (c.index.result.now.id ∷ []) c.self.inside.entries.items) c.self.invariant.bytes)
+    (indexed_faces c.self.inside.children c.self.inside.entries.items c.pin_id.new.entries.items (ap faces c.pin_id.ensures.entries ∙ pinned_faces c.args.who (c.index.result.now.id ∷ []) c.self.inside.entries.items) c.self.invariant.children) (omega arith)
 
 pub returns-in-Some-clause-some : goal.returns-in-Some-clause-some
 returns-in-Some-clause-some c =

@@ -11,10 +11,11 @@ use Rattle.pool_policy.proofs.Kept.{look_keeps}
 use Rattle.recycle_pool.specs.Answers.{told}
 use Rattle.recycle_pool.specs.Views.{pool_shown}
 use Rattle.recycle_pool.proofs.Ids.{rising_on}
-use Rattle.recycle_pool.proofs.Looked.{lookable, looked, named, owed, rising, usable}
+use Rattle.recycle_pool.proofs.Looked.{indexed, lookable, looked, named, owed, rising, usable}
 use Rattle.recycle_pool.proofs.Prints.{named_faces}
 use Rattle.recycle_pool.proofs.Totals.{bytes_on}
 use Rattle.recycle_pool.proofs.Stands.{kept_on}
+use Rattle.recycle_pool.proofs.Walks.{indexed_faces}
 use Rattle.recycle_pool.proofs.pool.Pool.look.Goals as goal
 
 pub find_whole-requires-clause-lookable : goal.find_whole-requires-clause-lookable
@@ -22,6 +23,9 @@ find_whole-requires-clause-lookable c = lookable c.self.inside c.as_slice.result
 
 pub find_whole-requires-clause-named : goal.find_whole-requires-clause-named
 find_whole-requires-clause-named c = named c.self.inside c.as_slice.result.now c.self.invariant c.as_slice.ensures.value
+
+pub find_whole-requires-clause-indexed : goal.find_whole-requires-clause-indexed
+find_whole-requires-clause-indexed c = indexed c.self.inside c.as_slice.result.now c.self.invariant c.as_slice.ensures.value
 
 pub pay_uses-requires-clause-rising : goal.pay_uses-requires-clause-rising
 pay_uses-requires-clause-rising c = rising c.self.inside c.as_slice-2.result.now c.self.invariant c.as_slice-2.ensures.value
@@ -56,6 +60,10 @@ invariant_of-self c =
     (bytes_on c.self.inside.bytes c.self.inside.entries.items c.pin_found.new.entries.items
     (ap faces (c.pin_found.ensures.entries c.as_slice-used.result.now) ∙ pinned_faces c.args.who (ids_pinned found) c.use_all.new.entries.items ∙ ap faces c.use_all.ensures.entries ∙ used_faces c.args.who c.args.now (ids_used found) c.self.inside.entries.items)
     c.self.invariant.bytes)
+    (indexed_faces c.self.inside.children c.self.inside.entries.items c.pin_found.new.entries.items
+    (ap faces (c.pin_found.ensures.entries c.as_slice-used.result.now) ∙ pinned_faces c.args.who (ids_pinned found) c.use_all.new.entries.items ∙ ap faces c.use_all.ensures.entries ∙ used_faces c.args.who c.args.now (ids_used found) c.self.inside.entries.items)
+    c.self.invariant.children)
+    (omega arith)
 
 pub returns-clause-pool : goal.returns-clause-pool
 returns-clause-pool c =

@@ -10,6 +10,7 @@ use Rattle.recycle_pool.specs.Views.{pool_shown}
 use Rattle.recycle_pool.proofs.Prints.{named_faces}
 use Rattle.recycle_pool.proofs.Totals.{bytes_on}
 use Rattle.recycle_pool.proofs.Stands.{kept_on}
+use Rattle.recycle_pool.proofs.Walks.{indexed_faces}
 use Rattle.recycle_pool.proofs.pool.Pool.release.Goals as goal
 
 pub invariant_of-self : goal.invariant_of-self
@@ -19,3 +20,4 @@ invariant_of-self c =
     refl refl c.self.invariant.moment c.self.invariant.next c.self.invariant.shapes (omega (arith, c.unpin_all.ensures.room)) c.self.invariant.lists
     (named_faces c.self.inside.keys c.self.inside.entries.items c.unpin_all.new.entries.items (ap faces c.unpin_all.ensures.entries ∙ map_faces (unpinned c.args.session) (λ e. refl) c.self.inside.entries.items) c.self.invariant.keys) (omega arith)
     (bytes_on c.self.inside.bytes c.self.inside.entries.items c.unpin_all.new.entries.items (ap faces c.unpin_all.ensures.entries ∙ map_faces (unpinned c.args.session) (λ e. refl) c.self.inside.entries.items) c.self.invariant.bytes)
+    (indexed_faces c.self.inside.children c.self.inside.entries.items c.unpin_all.new.entries.items (ap faces c.unpin_all.ensures.entries ∙ map_faces (unpinned c.args.session) (λ e. refl) c.self.inside.entries.items) c.self.invariant.children) (omega arith)
