@@ -6,47 +6,8 @@ ghost use Rattle.command_line.specs.Weights as told;
 
 use crate::numbers::number_between;
 use cell_core::{Memory, Op, Sequence};
-use mal_tokens::function_word;
+use mal_tokens::{OPERATORS, function_word};
 use std::alloc::{AllocError, Global};
-
-/// The operators, in the order of their table.
-const OPERATORS: [Op; 35] = [
-    Op::Bind,
-    Op::Select,
-    Op::Semijoin,
-    Op::Kdifference,
-    Op::Kunion,
-    Op::Reverse,
-    Op::Mirror,
-    Op::MarkT,
-    Op::Project,
-    Op::Cross,
-    Op::Join,
-    Op::GroupNew,
-    Op::GroupDerive,
-    Op::GroupHeads,
-    Op::Count,
-    Op::Sum,
-    Op::Min,
-    Op::Max,
-    Op::Subcount,
-    Op::Subsum,
-    Op::Submin,
-    Op::Submax,
-    Op::Plus,
-    Op::Minus,
-    Op::Times,
-    Op::Eq,
-    Op::Ne,
-    Op::Lt,
-    Op::Le,
-    Op::Gt,
-    Op::Ge,
-    Op::And,
-    Op::Or,
-    Op::Not,
-    Op::IsNil,
-];
 
 /// An operator, and the weight that it is given.
 #[derive(Clone, Copy, Debug)]

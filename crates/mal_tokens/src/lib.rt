@@ -15,6 +15,6 @@ mod token;
 
 pub use error::TokensError;
 pub use laws::one_list;
-pub use operators::{function_word, is_calc, module_word, operator};
+pub use operators::{OPERATORS, function_word, is_calc, module_word, operator};
 pub use reading::tokens;
 pub use token::{Mark, Token};
