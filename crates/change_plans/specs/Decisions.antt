@@ -17,7 +17,7 @@ use Rattle.sql_semantics.specs.Effect.{Change, is_too_long, is_null_refused}
 use Rattle.change_plans.specs.declared.cells.Fault.{Fault}
 use Rattle.change_plans.specs.declared.cells.Fault.TheVariants as fault
 use Rattle.change_plans.specs.declared.decided.Decided.{Decided}
-use Rattle.change_plans.specs.declared.decided.Decided.TheVariants.{Refused, Added, Gone, Set}
+use Rattle.change_plans.specs.declared.decided.Decided.TheVariants.{Refused, Gone, Set}
 
 -- ## What a decision leaves
 
@@ -39,7 +39,6 @@ rows_with columns names places cells rows =
 -- the rows that a decision leaves of a table and how many it touches, or why the change is refused
 abbrev pub left_by : Decided → Table → Change
 left_by (Refused refusal) table = Err refusal
-left_by (Added rows) table = Ok (table.rows ++ rows, length rows)
 left_by (Gone places) table = Ok (rows_without places table.rows, length places)
 left_by (Set names places cells) table = Ok (rows_with table.columns names places cells table.rows, length places)
 

@@ -1,16 +1,11 @@
 use cell_core::{Cell, Sequence, Word};
 use sql_semantics::Refusal;
 
-/// What is decided of an INSERT, a DELETE or an UPDATE.
+/// What is decided of a DELETE or an UPDATE.
 #[derive(Debug, Drop)]
 pub enum Decided {
     /// It is refused.
     Refused(Refusal),
-    /// Rows are added behind the others.
-    Added {
-        /// The rows, each with one cell for each column of the table.
-        rows: Sequence<Sequence<Cell>>,
-    },
     /// Rows go.
     Gone {
         /// Their places in the table, counted from 0, in order.

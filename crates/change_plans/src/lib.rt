@@ -1,4 +1,4 @@
-//! DELETE and UPDATE by their plans, and INSERT, decided without the rows of their table.
+//! DELETE and UPDATE by their plans, decided without the rows of their table.
 //!
 //! It stands on `rows_to_mal`, whose `compile_write` gives the plan of a change, and on `sql_changes`. Its laws tie the two: over
 //! a table, the plan gives the rows of which the condition is true, each by its oid and its new cells, in the
@@ -9,11 +9,9 @@
 
 mod cells;
 mod decided;
-mod inserts;
 mod laws;
 mod writes;
 
 pub use decided::Decided;
-pub use inserts::decide_insert;
 pub use laws::{decisions_are_in_place, decisions_are_meant, plans_give_hits, writes_give_hits};
 pub use writes::{decide, refusal_over};

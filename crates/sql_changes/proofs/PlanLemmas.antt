@@ -1,8 +1,8 @@
 -- Plans are what INSERT, DELETE and UPDATE mean.
-use Rattle.std.proofs.Common.{◌≡◌, ℕ, ◌+◌, List, [], ◌∷◌, ◌++◌, map, filter, length, Bool, true, false, not, ◌&&◌, ◌||◌, cond, refl, ap, sym, ◌∙◌, Option, Some, None}
-use Rattle.std.specs.Prelude.{codes, nat_lt, slice_get, Ok, Err}
+use Rattle.std.proofs.Common.{◌≡◌, ℕ, ◌+◌, List, [], ◌∷◌, ◌++◌, map, filter, length, Bool, true, false, not, ◌&&◌, ◌||◌, if◌then◌else◌, cond, refl, ap, sym, ◌∙◌, Option, Some, None}
+use Rattle.std.specs.Prelude.{codes, ◌==◌, nat_lt, slice_get, Ok, Err}
 use Rattle.std.specs.List.{list_any}
-use Rattle.std.proofs.lemmas.List.{length-map}
+use Rattle.std.proofs.lemmas.List.{length-map, map-id}
 use Rattle.cell_core.specs.declared.cell.Cell.{Cell}
 use Rattle.cell_core.specs.declared.table.Column.{Column}
 use Rattle.cell_core.specs.declared.table.Table.{Table}
@@ -16,7 +16,8 @@ use Rattle.sql_changes.specs.declared.fate.Fate.{Fate}
 use Rattle.sql_changes.specs.declared.fate.Fate.TheVariants.{Stays, Goes, Becomes}
 use Rattle.sql_changes.specs.declared.plan.Work.TheVariants.{Settles}
 use Rattle.sql_changes.specs.declared.plan.PlannedChange.TheVariants.{Refused, Accepted}
-use Rattle.sql_changes.specs.Added.{added_to}
+use Rattle.sql_changes.specs.Added.{added_rows, added_to, by_name}
+use Rattle.sql_changes.specs.declared.insert.AddedRows.{AddedRows}
 use Rattle.sql_changes.specs.Plans.{change_of}
 use Rattle.sql_changes.specs.Faults.{in_turn}
 use Rattle.sql_changes.specs.Parts.{is_true_of, deleted_fate, updated_fate, constants_overflow, update_refusal, insert_refusal}
@@ -142,8 +143,16 @@ module _ (listed : List (List ℕ)) (rows : List (List Cell)) (columns : List Co
   inserted_not found more refusal is m e table f g =
       sym (inserted_here table f g ∙ refused_as refusals_here (table.rows ++ placed_here, length rows) refusal (e ∙ insert_first found more is m))
 
-  pub inserted_is : (found : List Column) (more : List (List Cell)) → found ≡ targets columns listed → more ≡ placed_here → None ≡ insert_refusal found rows more columns count
-      → (table : Table) → table.columns ≡ columns → length table.rows ≡ count → added_to table (Ok more) ≡ inserted listed rows table
-  inserted_is found more is m none table f g =
+  pub inserted_is : (found : List Column) (added : AddedRows) → found ≡ targets columns listed → added_rows added ≡ placed_here → None ≡ insert_refusal found rows (added_rows added) columns count
+      → (table : Table) → table.columns ≡ columns → length table.rows ≡ count → added_to table (Ok added) ≡ inserted listed rows table
+  inserted_is found added is m none table f g =
       both_same _ _ _ _ (ap (λ l. table.rows ++ l) m) (ap (λ (l : List (List Cell)). length l) m ∙ length-map rows (placed columns listed))
-      ∙ sym (inserted_here table f g ∙ accepted_as refusals_here (table.rows ++ placed_here, length rows) (none ∙ insert_first found more is m))
+      ∙ sym (inserted_here table f g ∙ accepted_as refusals_here (table.rows ++ placed_here, length rows) (none ∙ insert_first found (added_rows added) is m))
+
+-- where no columns are listed each row is placed as it is, and else by the names of the columns
+rows_by : (b : Bool) (by : List Cell → List Cell) (rows : List (List Cell)) → map (λ row. if b then row else by row) rows ≡ (if b then rows else map by rows)
+rows_by true by rows = map-id rows
+rows_by false by rows = refl
+
+pub placed_are : (columns : List Column) (listed : List (List ℕ)) (rows : List (List Cell)) → map (placed columns listed) rows ≡ (if length listed == 0 then rows else map (by_name columns listed) rows)
+placed_are columns listed rows = rows_by (length listed == 0) (by_name columns listed) rows

@@ -4,18 +4,49 @@ ghost use Rattle.std.specs.List.{position_or_len};
 ghost use Rattle.cell_core.specs.declared.table.Column.{Column as ColumnSeen};
 ghost use Rattle.cell_core.specs.declared.table.Table.{Table as TableSeen};
 ghost use Rattle.sql_semantics.specs.Effect.{inserted, placed, row_limit};
-ghost use Rattle.sql_changes.specs.Added.{added_to};
+ghost use Rattle.sql_changes.specs.Added.{added_rows, added_to, by_name};
 ghost use Rattle.sql_changes.specs.Plans.{change_of};
 ghost use Rattle.sql_changes.specs.Parts.{insert_refusal};
 
 use crate::plan::{PlannedChange, Work};
 use crate::stored::{are_rows_too_long, has_null_row};
-use cell_core::{Cell, Column, Memory, Sequence, Table, Word, copy_cells, word_of};
+use cell_core::{Cell, Column, Memory, Sequence, Table, Word, copy_rows, word_of};
 use sql_semantics::{Refusal, targets};
 use std::alloc::Global;
 
 /// The most rows of a table.
 const ROW_LIMIT: usize = 1_048_576;
+
+/// The rows that an INSERT adds to a table, each with one cell for each column.
+#[derive(Drop)]
+pub enum AddedRows<'a> {
+    /// Those of the statement as they are.
+    Lent(&'a [Sequence<Cell>]),
+    /// Rows with their values in their columns' places.
+    Made(Sequence<Sequence<Cell>>),
+}
+
+impl AddedRows<'_> {
+    /// The rows.
+    pub fn as_slice(&self) -> &[Sequence<Cell>]
+        ensures { result.now ≡ added_rows self.now }
+    {
+        match self {
+            AddedRows::Lent(rows) => rows,
+            AddedRows::Made(rows) => rows.as_slice(),
+        }
+    }
+
+    /// The rows for somebody who keeps them.
+    fn into_rows(self, alloc: Global) -> Result<Sequence<Sequence<Cell>>, Memory>
+        ensures { IfOk result (λ rows. rows ≡ added_rows self.entry) }
+    {
+        match self {
+            AddedRows::Lent(rows) => copy_rows(alloc, rows),
+            AddedRows::Made(rows) => Ok(rows),
+        }
+    }
+}
 
 /// The place of a name in a list, or the list's length.
 fn place_of(listed: &[Word], name: &Word) -> usize
@@ -42,13 +73,13 @@ fn placed_cell(listed: &[Word], row: &[Cell], column: &Column) -> Result<Cell, M
 }
 
 /// The values that a row has for the columns, each in its column's place.
-fn placed_cells(
+fn placed_row(
     alloc: Global,
     columns: &[Column],
     listed: &[Word],
     row: &[Cell],
 ) -> Result<Sequence<Cell>, Memory>
-    ensures { IfOk result (λ cells. cells ≡ map (λ (column : ColumnSeen). slice_index_or row.now (position_or_len (bytes_eq column.name) listed.now) column.default) columns.now) }
+    ensures { IfOk result (λ cells. cells ≡ by_name columns.now listed.now row.now) }
 {
     let mut cells = Sequence::new(alloc);
     let mut rest = columns;
@@ -59,22 +90,6 @@ fn placed_cells(
     Ok(cells)
 }
 
-/// A row with each value in its column's place.
-fn placed_row(
-    alloc: Global,
-    columns: &[Column],
-    listed: &[Word],
-    row: &[Cell],
-) -> Result<Sequence<Cell>, Memory>
-    ensures { IfOk result (λ cells. cells ≡ placed columns.now listed.now row.now) }
-{
-    if listed.is_empty() {
-        copy_cells(alloc, row)
-    } else {
-        placed_cells(alloc, columns, listed, row)
-    }
-}
-
 /// The rows, each with its values in their columns' places.
 fn placed_rows(
     alloc: Global,
@@ -82,7 +97,7 @@ fn placed_rows(
     listed: &[Word],
     rows: &[Sequence<Cell>],
 ) -> Result<Sequence<Sequence<Cell>>, Memory>
-    ensures { IfOk result (λ out. out ≡ map (placed columns.now listed.now) rows.now) }
+    ensures { IfOk result (λ out. out ≡ map (by_name columns.now listed.now) rows.now) }
 {
     let mut out = Sequence::new(alloc);
     let mut rest = rows;
@@ -91,6 +106,22 @@ fn placed_rows(
         rest = more;
     }
     Ok(out)
+}
+
+/// The rows that a table gets: the same where no columns are listed.
+fn rows_in_place<'a>(
+    alloc: Global,
+    columns: &[Column],
+    listed: &[Word],
+    rows: &'a [Sequence<Cell>],
+) -> Result<AddedRows<'a>, Memory>
+    ensures { IfOk result (λ added. added_rows added ≡ map (placed columns.now listed.now) rows.entry.now) }
+{
+    if listed.is_empty() {
+        Ok(AddedRows::Lent(rows))
+    } else {
+        Ok(AddedRows::Made(placed_rows(alloc, columns, listed, rows)?))
+    }
 }
 
 /// Whether a table has more rows than it may, with so many more.
@@ -124,19 +155,19 @@ fn refusal_for(
     Ok(None)
 }
 
-/// The rows that an INSERT adds to a table with these columns and so many rows, each with one cell for each
-/// column, or why it is refused.
-pub fn rows_to_add(
+/// The rows that an INSERT adds to a table with these columns and so many rows, or why it is refused. They
+/// are those of the statement, without a copy, where it lists no columns.
+pub fn rows_to_add<'a>(
     alloc: Global,
     columns: &[Column],
     listed: &[Word],
-    rows: &[Sequence<Cell>],
+    rows: &'a [Sequence<Cell>],
     count: usize,
-) -> Result<Result<Sequence<Sequence<Cell>>, Refusal>, Memory>
-    ensures { IfOk result (λ added. (table : TableSeen) → table.columns ≡ columns.now → length table.rows ≡ count → added_to table added ≡ inserted listed.now rows.now table) }
+) -> Result<Result<AddedRows<'a>, Refusal>, Memory>
+    ensures { IfOk result (λ added. (table : TableSeen) → table.columns ≡ columns.now → length table.rows ≡ count → added_to table added ≡ inserted listed.now rows.entry.now table) }
 {
     let targets = targets(alloc, columns, listed)?;
-    let placed = placed_rows(alloc, columns, listed, rows)?;
+    let placed = rows_in_place(alloc, columns, listed, rows)?;
     match refusal_for(
         alloc,
         targets.as_slice(),
@@ -162,6 +193,6 @@ pub(crate) fn insert_plan(
     let columns = table.columns.as_slice();
     match rows_to_add(alloc, columns, listed, rows, table.rows.len())? {
         Err(refusal) => Ok(PlannedChange::Refused(refusal)),
-        Ok(placed) => Ok(PlannedChange::Accepted(Work::Adds(placed))),
+        Ok(added) => Ok(PlannedChange::Accepted(Work::Adds(added.into_rows(alloc)?))),
     }
 }

@@ -27,5 +27,5 @@ mod update;
 
 pub use alter::why_not_added;
 pub use effect::{change, slow_effect};
-pub use insert::rows_to_add;
+pub use insert::{AddedRows, rows_to_add};
 pub use stored::{has_long_default, is_null_refused, is_too_long};

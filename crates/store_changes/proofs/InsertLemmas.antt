@@ -22,7 +22,8 @@ use Rattle.sql_semantics.specs.Check.{check_refusal}
 use Rattle.sql_semantics.specs.Effect.{Change, changed, changed_by, effect, inserted}
 use Rattle.sql_semantics.specs.Sources.{schema_of}
 use Rattle.sql_semantics.specs.Valid.{IsValid, are_valid_columns, column_names, fits_columns, is_valid_table, names_differ}
-use Rattle.sql_changes.specs.Added.{added_to}
+use Rattle.sql_changes.specs.Added.{added_rows, added_to}
+use Rattle.sql_changes.specs.declared.insert.AddedRows.{AddedRows}
 use Rattle.sql_kinds.specs.Laws.{StatementsKeepValid}
 use Rattle.sql_kinds.proofs.NameLemmas.{own_name}
 use Rattle.sql_kinds.proofs.TableLemmas.{found_holds}
@@ -106,7 +107,10 @@ module _ (name : List ℕ) (listed : List (List ℕ)) (rows : List (List Cell)) 
   pub insert_refused : (refusal : Refusal) → added_to table (Err refusal) ≡ inserted listed rows table → ComesTo stmt content (Err refusal)
   insert_refused refusal is = refused_comes stmt content refusal (insert_is (Err refusal) is)
 
-  module _ (added : List (List Cell)) (is : added_to table (Ok added) ≡ inserted listed rows table) where
+  module _ (given : AddedRows) (is : added_to table (Ok given) ≡ inserted listed rows table) where
+    abbrev added : List (List Cell)
+    added = added_rows given
+
     abbrev longer : Table → Table
     longer t = record t { rows = table.rows ++ added }
 

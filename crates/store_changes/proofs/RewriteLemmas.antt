@@ -20,7 +20,7 @@ use Rattle.sql_semantics.specs.Check.{check_refusal, sources_named, tables_of}
 use Rattle.sql_semantics.specs.Effect.{changed, changed_by, effect, is_null_refused, is_too_long}
 use Rattle.sql_semantics.specs.Sources.{schema_of}
 use Rattle.change_plans.specs.declared.decided.Decided.{Decided}
-use Rattle.change_plans.specs.declared.decided.Decided.TheVariants.{Refused, Added, Gone, Set}
+use Rattle.change_plans.specs.declared.decided.Decided.TheVariants.{Refused, Gone, Set}
 use Rattle.change_plans.specs.Decisions.{decided_by, is_any_refused, is_in_place, left_by, place_of, rows_with, rows_without}
 use Rattle.change_plans.specs.Hits.{changed_table}
 use Rattle.change_plans.specs.Laws.{OverflowsOver}
@@ -48,11 +48,6 @@ module _ (columns : List Column) (names : List (List ℕ)) (places : List ℕ) (
   never_gone true null gone e = cc
   never_gone false true gone e = cc
   never_gone false false gone e = cc
-
-  never_added : (long null : Bool) (rows : List (List Cell)) → Added rows ≡ decided_update_by long null → ⊥
-  never_added true null rows e = cc
-  never_added false true rows e = cc
-  never_added false false rows e = cc
 
   its_names : (long null : Bool) (set : List (List ℕ)) (at : List ℕ) (new : List (List Cell)) → Set set at new ≡ decided_update_by long null → set ≡ names
   its_names true null set at new e = cc
@@ -92,17 +87,6 @@ module _ (columns : List Column) (rows : List (List Cell)) (db : Db) where
   set_touches (InsertInto name listed given) w names places cells e = cc
   set_touches (Select query) w names places cells e = cc
   set_touches (ExplainSelect query) w names places cells e = cc
-
-  -- nothing is added
-  pub nothing_added : (s : StmtTree) → is_write s ≡ true → (more : List (List Cell)) → Added more ≡ decided_by s columns rows → ⊥
-  nothing_added (DeleteFrom name condition) w more e = cc
-  nothing_added (UpdateTable name sets condition) w more e = never_added columns (set_names sets) (map place_of rows) (map (drop 1) rows) (is_long sets) (is_null sets) more e
-  nothing_added (CreateTable name cols) w more e = cc
-  nothing_added (DropTable name) w more e = cc
-  nothing_added (AlterTable name column) w more e = cc
-  nothing_added (InsertInto name listed given) w more e = cc
-  nothing_added (Select query) w more e = cc
-  nothing_added (ExplainSelect query) w more e = cc
 
 -- ## What is decided, done
 

@@ -123,7 +123,6 @@ fn carry_out(
             places.as_slice(),
             cells.as_slice(),
         )?)),
-        Decided::Added { .. } => unreachable!(),
     }
 }
 

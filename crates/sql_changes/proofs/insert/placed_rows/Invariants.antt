@@ -1,11 +1,11 @@
 use Rattle.std.proofs.Common.{◌≡◌, ◌++◌, map, length}
-use Rattle.sql_semantics.specs.Effect.{placed}
+use Rattle.sql_changes.specs.Added.{by_name}
 use Rattle.sql_changes.proofs.insert.placed_rows.Given as goal
 
 -- what is made so far, and what the rest gives, is what all give
 abbrev pub invariant-rows : goal.invariant-rows
 invariant-rows l =
-    l.out ++ map (placed l.columns l.listed) l.rest ≡ map (placed l.columns l.listed) l.rows
+    l.out ++ map (by_name l.columns l.listed) l.rest ≡ map (by_name l.columns l.listed) l.rows
 
 abbrev pub decreases-rows : goal.decreases-rows
 decreases-rows l = length l.rest

@@ -11,7 +11,7 @@ returns-in-Some c =
 
 pub returns : goal.returns
 returns c =
-    inserted_is c.args.listed.now c.args.rows.now c.args.columns.now c.args.count _ _
+    inserted_is c.args.listed.now c.args.rows.now c.args.columns.now c.args.count c.as_slice.result.now c.in_ok-placed.placed
     (c.as_slice.ensures ∙ c.in_ok-targets.ensures.columns) c.in_ok-placed.ensures
     (sym c.in-None.is ∙ c.in_ok-refusal.ensures
     ∙ ap (λ (placed : List (List Cell)). insert_refusal c.as_slice.result.now c.args.rows.now placed c.args.columns.now c.args.count) c.as_slice-2.ensures)

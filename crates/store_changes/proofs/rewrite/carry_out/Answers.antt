@@ -5,7 +5,7 @@ use Rattle.change_plans.specs.declared.decided.Decided.TheVariants.{Gone, Set}
 use Rattle.change_plans.specs.Decisions.{own_columns, rises}
 use Rattle.table_store.specs.Touches.{row_count}
 use Rattle.store_changes.specs.Rewrites.{Removes, Sets, are_placed}
-use Rattle.store_changes.proofs.RewriteLemmas.{count_here, decided_gone, decided_refused, decided_set, here, in_place_here, nothing_added}
+use Rattle.store_changes.proofs.RewriteLemmas.{count_here, decided_gone, decided_refused, decided_set, here, in_place_here}
 use Rattle.store_changes.proofs.rewrite.carry_out.Goals as goal
 
 pub remove-requires-clause-rise : goal.remove-requires-clause-rise
@@ -25,10 +25,6 @@ set-requires-clause-placed c =
     ∙ ap (λ n. are_placed n c.in-Set.columns c.in-Set.places c.in-Set.cells) (count_here s c.args.typed.now.sources c.args.store.now c.requires.write c.requires.held c.args.typed.now.accepted)
     ∙ in_place_here s c.args.typed.now.sources c.args.store.now c.requires.write c.requires.held c.args.typed.now.accepted c.in_ok-refusal.field-0 (Set c.in-Set.columns c.in-Set.places c.in-Set.cells)
     (c.in_ok-refusal.ensures.in_place c.args.store.now.db h.table c.requires.held h.found c.requires.rows) c.in-Set.is
-
-pub unreachable-requires : goal.unreachable-requires
-unreachable-requires c =
-    nothing_added (own_columns c.args.typed.now.sources) c.args.rows.now c.args.store.now.db (stmt_tree c.args.typed.now.stmt) c.requires.write c.in-Added.rows (sym c.in-Added.is ∙ c.in_ok-refusal.ensures.decided)
 
 pub returns-in-Refused : goal.returns-in-Refused
 returns-in-Refused c =

@@ -2,7 +2,7 @@ use Rattle.std.proofs.Common.{◌≡◌, ◌++◌, map, length}
 use Rattle.std.specs.Prelude.{bytes_eq, slice_index_or}
 use Rattle.std.specs.List.{position_or_len}
 use Rattle.cell_core.specs.declared.table.Column.{Column}
-use Rattle.sql_changes.proofs.insert.placed_cells.Given as goal
+use Rattle.sql_changes.proofs.insert.placed_row.Given as goal
 
 -- what is made so far, and what the rest gives, is what all give
 abbrev pub invariant-columns : goal.invariant-columns
