@@ -66,10 +66,9 @@ outcome_of b known is stmt ready load formed done prepared touched counted =
     others_of (Ok r) prepared = λ table column out. prepared.others table column out ∙ known.state.versions table column
     others_of (Err refusal) prepared = tt
 
--- what a statement comes to over a book as it is seen, its copy comes to over the book
-pub outcome_inside : (b : Inside) {seen : BookView} (copy stmt : StmtTree) (ready : Result Ready Refusal) (load : ℕ) → book_shown b ≡ seen → copy ≡ stmt → IsOutcome stmt ready load (state_of seen) → IsOutcome copy ready load (state_of (book_shown b))
-outcome_inside b {seen} copy stmt ready load is same outcome =
-    subst (λ (v : BookView). IsOutcome copy ready load (state_of v)) (sym is) (subst (λ (t : StmtTree). IsOutcome t ready load (state_of seen)) (sym same) outcome)
+-- what a statement comes to over a book as it is seen, it comes to over the book
+pub outcome_inside : (b : Inside) {seen : BookView} (stmt : StmtTree) (ready : Result Ready Refusal) (load : ℕ) → book_shown b ≡ seen → IsOutcome stmt ready load (state_of seen) → IsOutcome stmt ready load (state_of (book_shown b))
+outcome_inside b stmt ready load is outcome = subst (λ (v : BookView). IsOutcome stmt ready load (state_of v)) (sym is) outcome
 
 -- ## A change that is refused
 
@@ -101,6 +100,10 @@ module _ (b : Inside) (known : IsBook b) (stmt : Stmt) (load : ℕ) (load_is : l
       }))
 
 -- ## A change that is done
+
+-- as many come back as are carried
+pub back_is : (touched : Touched) (now : ℕ) (pool : PoolState) (carried : Carried) → IsCarried touched now pool carried → length carried.ids.items ≡ (write_of touched now pool).carried
+back_is touched now pool carried brings = ap (λ (ids : List ℕ). length ids) brings.ids ∙ length-map (backs_of touched now pool) (λ (r : Return). r.old.id)
 
 module _ (b : Inside) (known : IsBook b) (stmt : Stmt) (ready : Ready) (load : ℕ) (is : IsOutcome (stmt_tree stmt) (Ok ready) load (state_of (book_shown b))) (now : ℕ) (now_is : now ≡ length b.log.items + 1) where
   abbrev pub s : LogState
@@ -156,9 +159,6 @@ module _ (b : Inside) (known : IsBook b) (stmt : Stmt) (ready : Ready) (load : �
 
     pub change_fits : IsWrite ready.change.touched now b.pool
     change_fits = from_state IsWrite (commit_fits s tree known.state.sound commits)
-
-    pub back_is : length carried.ids.items ≡ (write_of ready.change.touched now b.pool).carried
-    back_is = ap (λ (ids : List ℕ). length ids) brings.ids ∙ length-map (backs_of ready.change.touched now b.pool) (λ (r : Return). r.old.id)
 
     -- ## The versions behind it
 
@@ -230,12 +230,11 @@ module _ (b : Inside) (known : IsBook b) (stmt : Stmt) (ready : Ready) (load : �
         }))
 
     -- the counter goes on with the work of what comes back
-    pub carried_work : {seen : BookView} → book_shown b ≡ seen → (same : StmtTree) → tree ≡ same → (before after : ℕ) → after ≡ before + carried.work
-        → after ≡ before + (write_of (touched_by same (state_of seen).db) ((state_of seen).at + 1) (state_of seen).pool).work
-    carried_work shown same copied before after counted =
+    pub carried_work : {seen : BookView} → book_shown b ≡ seen → (before after : ℕ) → after ≡ before + carried.work
+        → after ≡ before + (write_of (touched_by tree (state_of seen).db) ((state_of seen).at + 1) (state_of seen).pool).work
+    carried_work shown before after counted =
         counted ∙ ap (λ n. before + n) (brings.work ∙ ap (λ (w : Written). w.work) written_is)
-        ∙ ap (λ (t : StmtTree). before + (write_of (touched_by t s.db) (s.at + 1) s.pool).work) copied
-        ∙ ap (λ (v : BookView). before + (write_of (touched_by same (state_of v).db) ((state_of v).at + 1) (state_of v).pool).work) shown
+        ∙ ap (λ (v : BookView). before + (write_of (touched_by tree (state_of v).db) ((state_of v).at + 1) (state_of v).pool).work) shown
 
     pub small_change : (dropped back evicted : ℕ) → length b.pool.entries ≤ 1024 → dropped ≡ (write_of ready.change.touched now b.pool).dropped → back ≡ (write_of ready.change.touched now b.pool).carried → evicted ≡ (write_of ready.change.touched now b.pool).evicted
         → AreSmall (with_work carried.work (with_written dropped back evicted (with_work load b.totals)))
@@ -266,10 +265,9 @@ pub logged_tree : (old new : List Event) (event : Event) → new ≡ old ++ even
 logged_tree old new event is = ap log_tree is ∙ map-append event_tree old (event ∷ [])
 
 -- the event of a write whose copy is logged
-pub written_tree : (old new : List Event) (who : Who) (copy : Stmt) (stmt : StmtTree) (reply : Reply) → stmt_tree copy ≡ stmt → new ≡ old ++ event_of who (act.Write (Some copy) (reply_code reply) (reply_count reply)) ∷ []
-    → log_tree new ≡ log_tree old ++ written_by who stmt reply ∷ []
-written_tree old new who copy stmt reply same is =
-    logged_tree old new (event_of who (act.Write (Some copy) (reply_code reply) (reply_count reply))) is ∙ ap (λ (t : StmtTree). log_tree old ++ written_by who t reply ∷ []) same
+pub written_tree : (old new : List Event) (who : Who) (stmt : Stmt) (reply : Reply) → new ≡ old ++ event_of who (act.Write (Some stmt) (reply_code reply) (reply_count reply)) ∷ []
+    → log_tree new ≡ log_tree old ++ written_by who (stmt_tree stmt) reply ∷ []
+written_tree old new who stmt reply is = logged_tree old new (event_of who (act.Write (Some stmt) (reply_code reply) (reply_count reply))) is
 
 -- ## The work that is added
 

@@ -115,30 +115,35 @@ impl Book {
     /// comes back with the new rows; what goes to make room is scored by the scorer that is lent, which
     /// is of the kind of the options. One event. The counter rises by the work that the write adds to the
     /// totals, in pairs of cells; where the plan of a DELETE or an UPDATE overflows, by at most its load
-    /// more. Where memory runs out, nothing is done.
+    /// more. The log keeps the statement as it is handed in. Where memory runs out, nothing is done.
     pub fn write<E: Operate, L: Ledger>(
         &mut self,
         alloc: Global,
         scorer: &Scorer,
         who: Who,
-        stmt: &Stmt,
+        stmt: Stmt,
         kernel: &E,
         steps: &mut Steps<L>,
     ) -> Result<Reply, Memory>
         requires kind { scorer.now.kind ≡ self.old.options.evict }
         requires weights { scorer.now.weights.items ≡ self.old.options.weights }
         requires session { who.session < 17 }
-        requires change { is_change (stmt_tree stmt.now) ≡ true }
-        requires formed { IsFormed (stmt_tree stmt.now) }
+        requires change { is_change (stmt_tree stmt) ≡ true }
+        requires formed { IsFormed (stmt_tree stmt) }
         ensures options { self.new.options ≡ self.old.options }
-        ensures reply { IfOk result (λ reply. reply ≡ (effect (stmt_tree stmt.now) (state_of self.old).db).1) }
-        ensures logged { IfOk result (λ reply. log_tree self.new.log ≡ log_tree self.old.log ++ written_by who (stmt_tree stmt.now) reply ∷ []) }
-        ensures work { OnOk result ((state_of self.new).totals.work ≡ (state_of self.old).totals.work + write_work (stmt_tree stmt.now) (state_of self.old)) }
-        ensures counted { IfOk result (λ reply. Counts steps.old steps.new (write_work (stmt_tree stmt.now) (state_of self.old)) (write_lost (stmt_tree stmt.now) (state_of self.old).db)) }
+        ensures reply { IfOk result (λ reply. reply ≡ (effect (stmt_tree stmt) (state_of self.old).db).1) }
+        ensures logged { IfOk result (λ reply. log_tree self.new.log ≡ log_tree self.old.log ++ written_by who (stmt_tree stmt) reply ∷ []) }
+        ensures work { OnOk result ((state_of self.new).totals.work ≡ (state_of self.old).totals.work + write_work (stmt_tree stmt) (state_of self.old)) }
+        ensures counted { IfOk result (λ reply. Counts steps.old steps.new (write_work (stmt_tree stmt) (state_of self.old)) (write_lost (stmt_tree stmt) (state_of self.old).db)) }
         ensures same { OnErr result (self.new ≡ self.old) }
     {
-        let outcome = prepare(alloc, &self.store, stmt, kernel, steps)?;
-        self.settle(alloc, scorer, who, stmt, outcome, steps)
+        match prepare(alloc, &self.store, &stmt, kernel, steps) {
+            Ok(outcome) => self.settle(alloc, scorer, who, stmt, outcome, steps),
+            Err(Memory) => {
+                drop(stmt);
+                Err(Memory)
+            }
+        }
     }
 
     /// What a statement comes to is done, or its refusal is logged.
@@ -147,48 +152,46 @@ impl Book {
         alloc: Global,
         scorer: &Scorer,
         who: Who,
-        stmt: &Stmt,
+        stmt: Stmt,
         outcome: Outcome,
         steps: &mut Steps<L>,
     ) -> Result<Reply, Memory>
         requires kind { scorer.now.kind ≡ self.old.options.evict }
         requires weights { scorer.now.weights.items ≡ self.old.options.weights }
-        requires outcome { IsOutcome (stmt_tree stmt.now) outcome.ready outcome.work (state_of self.old) }
+        requires outcome { IsOutcome (stmt_tree stmt) outcome.ready outcome.work (state_of self.old) }
         ensures options { self.new.options ≡ self.old.options }
-        ensures reply { IfOk result (λ reply. reply ≡ (effect (stmt_tree stmt.now) (state_of self.old).db).1) }
-        ensures logged { IfOk result (λ reply. log_tree self.new.log ≡ log_tree self.old.log ++ written_by who (stmt_tree stmt.now) reply ∷ []) }
-        ensures counted { OnOk result (steps.new ≡ steps.old + return_work (stmt_tree stmt.now) (state_of self.old)) }
+        ensures reply { IfOk result (λ reply. reply ≡ (effect (stmt_tree stmt) (state_of self.old).db).1) }
+        ensures logged { IfOk result (λ reply. log_tree self.new.log ≡ log_tree self.old.log ++ written_by who (stmt_tree stmt) reply ∷ []) }
+        ensures counted { OnOk result (steps.new ≡ steps.old + return_work (stmt_tree stmt) (state_of self.old)) }
         ensures same { OnErr result (self.new ≡ self.old) }
     {
         let Outcome { ready, work } = outcome;
         match ready {
             Ok(ready) => self.commit(alloc, scorer, who, stmt, ready, work, steps),
-            Err(refusal) => self.refuse_change(alloc, who, stmt, refusal, work),
+            Err(refusal) => self.refuse_change(who, stmt, refusal, work),
         }
     }
 
     /// A change that is refused: the load of its plan counts, and nothing else changes.
     fn refuse_change(
         &mut self,
-        alloc: Global,
         who: Who,
-        stmt: &Stmt,
+        stmt: Stmt,
         refusal: Refusal,
         load: u128,
     ) -> Result<Reply, Memory>
-        requires { IsOutcome (stmt_tree stmt.now) (Err refusal) load (state_of self.old) }
+        requires { IsOutcome (stmt_tree stmt) (Err refusal) load (state_of self.old) }
         ensures options { self.new.options ≡ self.old.options }
         ensures reply { IfOk result (λ reply. reply ≡ answer.Refused refusal) }
-        ensures logged { IfOk result (λ reply. log_tree self.new.log ≡ log_tree self.old.log ++ written_by who (stmt_tree stmt.now) reply ∷ []) }
+        ensures logged { IfOk result (λ reply. log_tree self.new.log ≡ log_tree self.old.log ++ written_by who (stmt_tree stmt) reply ∷ []) }
         ensures same { OnErr result (self.new ≡ self.old) }
     {
-        let copy = stmt.copy(alloc)?;
         make_room(&mut self.log)?;
         make_room_for_work(&self.totals, load, 0)?;
         self.totals.note_work(load);
         count_event(&mut self.totals, &self.pool);
         let reply = Reply::Refused(refusal);
-        let _ = push_event(&mut self.log, event(who, written(copy, &reply)));
+        let _ = push_event(&mut self.log, event(who, written(stmt, &reply)));
         Ok(reply)
     }
 
@@ -199,21 +202,20 @@ impl Book {
         alloc: Global,
         scorer: &Scorer,
         who: Who,
-        stmt: &Stmt,
+        stmt: Stmt,
         ready: Ready,
         load: u128,
         steps: &mut Steps<L>,
     ) -> Result<Reply, Memory>
         requires kind { scorer.now.kind ≡ self.old.options.evict }
         requires weights { scorer.now.weights.items ≡ self.old.options.weights }
-        requires outcome { IsOutcome (stmt_tree stmt.now) (Ok ready) load (state_of self.old) }
+        requires outcome { IsOutcome (stmt_tree stmt) (Ok ready) load (state_of self.old) }
         ensures options { self.new.options ≡ self.old.options }
         ensures reply { IfOk result (λ reply. reply ≡ reply_with ready.rows) }
-        ensures logged { IfOk result (λ reply. log_tree self.new.log ≡ log_tree self.old.log ++ written_by who (stmt_tree stmt.now) reply ∷ []) }
-        ensures counted { OnOk result (steps.new ≡ steps.old + (write_of (touched_by (stmt_tree stmt.now) (state_of self.old).db) ((state_of self.old).at + 1) (state_of self.old).pool).work) }
+        ensures logged { IfOk result (λ reply. log_tree self.new.log ≡ log_tree self.old.log ++ written_by who (stmt_tree stmt) reply ∷ []) }
+        ensures counted { OnOk result (steps.new ≡ steps.old + (write_of (touched_by (stmt_tree stmt) (state_of self.old).db) ((state_of self.old).at + 1) (state_of self.old).pool).work) }
         ensures same { OnErr result (self.new ≡ self.old) }
     {
-        let copy = stmt.copy(alloc)?;
         make_room(&mut self.log)?;
         let now = self.log.len() as u64 + 1;
         let Ready { change, rows } = ready;
@@ -230,7 +232,7 @@ impl Book {
         count_write(&mut self.totals, load, dropped, back, evicted, work);
         count_event(&mut self.totals, &self.pool);
         let reply = reply_to(rows);
-        let _ = push_event(&mut self.log, event(who, written(copy, &reply)));
+        let _ = push_event(&mut self.log, event(who, written(stmt, &reply)));
         Ok(reply)
     }
 }

@@ -82,7 +82,7 @@ fn written<L: Ledger>(
 {
     match stmt {
         Stmt::Query(_) | Stmt::Explain(_) => Err(Memory),
-        _ => book.write(alloc, scorer, WHO, stmt, &Kernel::new(), steps),
+        _ => book.write(alloc, scorer, WHO, stmt.copy(alloc)?, &Kernel::new(), steps),
     }
 }
 
@@ -114,6 +114,27 @@ pub(crate) fn write_both<L: Ledger>(
     let told = written(alloc, book, scorer, &stmt, steps)?;
     let plain = change(alloc, &stmt, db)?;
     Ok(is_same(&told, &plain))
+}
+
+/// Does a change to the book, and to the plain tables where the book did it. Where memory runs out in the
+/// book nothing is done to them.
+pub(crate) fn write_or_leave<L: Ledger>(
+    alloc: Global,
+    book: &mut Book,
+    scorer: &Scorer,
+    db: &mut Db,
+    text: &str,
+    steps: &mut Steps<L>,
+) -> Result<(), Memory>
+    requires kind { scorer.now.kind ≡ book.old.options.evict }
+    requires weights { scorer.now.weights.items ≡ book.old.options.weights }
+    ensures { book.new.options ≡ book.old.options }
+{
+    let stmt = read(alloc, text)?;
+    match written(alloc, book, scorer, &stmt, steps) {
+        Ok(_) => change(alloc, &stmt, db).map(|_| ()),
+        Err(Memory) => Ok(()),
+    }
 }
 
 /// The tables as they stand, by the begin of a query.

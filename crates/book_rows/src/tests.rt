@@ -1,7 +1,9 @@
 //! What is wanted of a change is what the plain program of the language does.
 ghost use Rattle.std.specs.Prelude.{◌≡◌, ◌<◌};
 
-use crate::beside::{WHO, by_last_use, empty_book, has_tables, read, snapshot_of, write_both};
+use crate::beside::{
+    WHO, by_last_use, empty_book, has_tables, read, snapshot_of, write_both, write_or_leave,
+};
 use cell_core::{Cell, Db, Memory, Op, Sequence, Steps, word_of};
 use lineage_key::{Key, KeyArg};
 use recycle_pool::Found;
@@ -69,6 +71,38 @@ fn changes_agree<L: Ledger>(alloc: Global, blank: Blank) -> Result<bool, Memory>
 fn changes_are_those_of_the_plain_program(rt: HostRuntime) -> Result<(), Fail> {
     let alloc = rt.alloc();
     assert!(rt; changes_agree::<Brand>(alloc, Blank::new(1))?);
+    Ok(())
+}
+
+/// Does the changes where memory may run out, and tells whether the tables are behind each those of the
+/// changes that were done.
+fn changes_are_whole<L: Ledger>(alloc: Global, blank: Blank) -> Result<bool, Memory>
+    requires name { blank.name ≡ L.name }
+    requires parts { blank.parts ≡ L.parts }
+    requires some { 0 < blank.parts }
+{
+    let mut steps = Steps::<L>::new(blank);
+    let scorer = by_last_use(alloc)?;
+    let mut book = empty_book(alloc)?;
+    let mut db = Db {
+        tables: Sequence::new(alloc),
+    };
+    for text in CHANGES {
+        write_or_leave(alloc, &mut book, &scorer, &mut db, text, &mut steps)?;
+        let snap = snapshot_of(alloc, &mut book, "SELECT a FROM t")?;
+        if !has_tables(alloc, &snap, &db)? {
+            return Ok(false);
+        }
+    }
+    Ok(true)
+}
+
+#[test]
+fn changes_are_done_whole_or_not_at_all(rt: HostRuntime) -> Result<(), Fail> {
+    // With `rt try --test --fail-alloc N` the Nth allocation fails; outside of the changes it ends the test.
+    if let Ok(whole) = changes_are_whole::<Brand>(rt.alloc(), Blank::new(1)) {
+        assert!(rt; whole);
+    }
     Ok(())
 }
 

@@ -23,9 +23,9 @@ pub invariant_of-self-2 : goal.invariant_of-self-2
 invariant_of-self-2 c =
     let b : Inside = c.self.inside in
     let new : Inside = record { store = b.store; pool = b.pool; log = c.push_event.new.log; totals = c.count_event.new.totals; begun = b.begun } in
-    let is = outcome_inside b (stmt_tree c.in_ok-copy.copy) (stmt_tree c.args.stmt.now) (Err c.args.refusal) c.args.load c.self.view_is c.in_ok-copy.ensures c.requires in
+    let is = outcome_inside b (stmt_tree c.args.stmt) (Err c.args.refusal) c.args.load c.self.view_is c.requires in
     let same = ap (λ (es : List Event). length es) c.in_ok-make_room.ensures.items in
-    let quiet : IsQuiet b new (event_of c.args.who (act.Write (Some c.in_ok-copy.copy) (reply_code (Refused c.args.refusal)) 0)) = record {
+    let quiet : IsQuiet b new (event_of c.args.who (act.Write (Some c.args.stmt) (reply_code (Refused c.args.refusal)) 0)) = record {
       log = c.push_event.ensures.items ∙ (λ i. c.in_ok-make_room.ensures.items i ++ c.event.ensures i ∷ []) ∙ ap (λ (a : Act). c.self.inside.log.items ++ event_of c.args.who a ∷ []) c.written.ensures;
       options = refl;
       store = refl;
@@ -33,10 +33,10 @@ invariant_of-self-2 c =
       room = (let room = c.in_ok-make_room.ensures.room in let kept = c.push_event.ensures.room in omega (arith, room, kept, same));
       few = (let few = c.in_ok-make_room.ensures.few in omega (arith, few, same));
     } in
-    refused_book b c.self.invariant c.in_ok-copy.copy c.args.load is.work new c.args.who (reply_code (Refused c.args.refusal)) 0 quiet is.formed (refused_code c.args.refusal) refl
+    refused_book b c.self.invariant c.args.stmt c.args.load is.work new c.args.who (reply_code (Refused c.args.refusal)) 0 quiet is.formed (refused_code c.args.refusal) refl
     (c.count_event.ensures ∙ ap (λ (t : Totals). with_pool new.pool t) c.note_work.ensures)
 
 pub returns-clause-logged : goal.returns-clause-logged
 returns-clause-logged c =
-    written_tree c.self.inside.log.items c.push_event.new.log.items c.args.who c.in_ok-copy.copy (stmt_tree c.args.stmt.now) (Refused c.args.refusal) c.in_ok-copy.ensures (c.push_event.ensures.items ∙ (λ i. c.in_ok-make_room.ensures.items i ++ c.event.ensures i ∷ []) ∙ ap (λ (a : Act). c.self.inside.log.items ++ event_of c.args.who a ∷ []) c.written.ensures)
-    ∙ ap (λ (v : BookView). log_tree v.log ++ written_by c.args.who (stmt_tree c.args.stmt.now) (Refused c.args.refusal) ∷ []) c.self.view_is
+    written_tree c.self.inside.log.items c.push_event.new.log.items c.args.who c.args.stmt (Refused c.args.refusal) (c.push_event.ensures.items ∙ (λ i. c.in_ok-make_room.ensures.items i ++ c.event.ensures i ∷ []) ∙ ap (λ (a : Act). c.self.inside.log.items ++ event_of c.args.who a ∷ []) c.written.ensures)
+    ∙ ap (λ (v : BookView). log_tree v.log ++ written_by c.args.who (stmt_tree c.args.stmt) (Refused c.args.refusal) ∷ []) c.self.view_is

@@ -11,16 +11,16 @@ use Rattle.book_core.proofs.book.Book.write.Goals as goal
 
 pub settle-requires-clause-outcome : goal.settle-requires-clause-outcome
 settle-requires-clause-outcome g c =
-    let told = c.in_ok-outcome.ensures in
-    outcome_of c.self.inside c.self.invariant c.self.view_is (stmt_tree c.args.stmt.now) c.in_ok-outcome.outcome.ready c.in_ok-outcome.outcome.work c.requires.formed told.effect told.prepared told.touched told.work
+    let told = c.in-Ok.ensures in
+    outcome_of c.self.inside c.self.invariant c.self.view_is (stmt_tree c.args.stmt) c.in-Ok.outcome.ready c.in-Ok.outcome.work c.requires.formed told.effect told.prepared told.touched told.work
 
-pub returns-clause-work : goal.returns-clause-work
-returns-clause-work g c =
-    both_ok c.settle.result (λ (reply : Reply). reply ≡ (effect (stmt_tree c.args.stmt.now) (state_of c.args.self.now).db).1) (λ (reply : Reply). log_tree c.settle.new.self.log ≡ log_tree c.args.self.now.log ++ written_by c.args.who (stmt_tree c.args.stmt.now) reply ∷ []) _
-    (λ reply said logged. work_added c.args.self.now c.settle.new.self c.args.who (stmt_tree c.args.stmt.now) reply c.settle.ensures.options logged said) c.settle.ensures.reply c.settle.ensures.logged
+pub returns-in-Ok-clause-work : goal.returns-in-Ok-clause-work
+returns-in-Ok-clause-work g c =
+    both_ok c.settle.result (λ (reply : Reply). reply ≡ (effect (stmt_tree c.args.stmt) (state_of c.args.self.now).db).1) (λ (reply : Reply). log_tree c.settle.new.self.log ≡ log_tree c.args.self.now.log ++ written_by c.args.who (stmt_tree c.args.stmt) reply ∷ []) _
+    (λ reply said logged. work_added c.args.self.now c.settle.new.self c.args.who (stmt_tree c.args.stmt) reply c.settle.ensures.options logged said) c.settle.ensures.reply c.settle.ensures.logged
 
-pub returns-clause-counted : goal.returns-clause-counted
-returns-clause-counted g c =
+pub returns-in-Ok-clause-counted : goal.returns-in-Ok-clause-counted
+returns-in-Ok-clause-counted g c =
     on_ok_weaker c.settle.result
-    (λ more. write_counted c.self.inside c.self.invariant c.self.view_is (stmt_tree c.args.stmt.now) c.in_ok-outcome.outcome.work c.args.steps.now c.prepare.new.steps c.settle.new.steps c.in_ok-outcome.ensures.work c.in_ok-outcome.ensures.counted more)
+    (λ more. write_counted c.self.inside c.self.invariant c.self.view_is (stmt_tree c.args.stmt) c.in-Ok.outcome.work c.args.steps.now c.prepare.new.steps c.settle.new.steps c.in-Ok.ensures.work c.in-Ok.ensures.counted more)
     c.settle.ensures.counted
