@@ -11,6 +11,8 @@ use std::marker::Brand;
 use std::sync::ledger::{Blank, Ledger};
 use std::test::Fail;
 
+mod closures;
+mod pooled;
 mod replies;
 
 use replies::Replied;
@@ -232,112 +234,56 @@ fn statuses_and_what_they_are_about(rt: HostRuntime) -> Result<(), Fail> {
         many_pieces.extend_from_slice(&[b, b';'])?;
     }
     let three = THREE.as_bytes();
-    let run_a: &[&str] = &["run", "a.sql"];
-    for (name, texts, script, failing, status, at, written) in [
-        ("no words", &[] as &[&str], three, (0, 0), 1, 0, ""),
-        (
-            "files behind --",
-            &["run", "--", "-"],
-            three,
-            (0, 0),
-            2,
-            1,
-            "",
-        ),
-        (
-            "an option behind a file",
-            &["run", "a.sql", "-x"],
-            three,
-            (0, 0),
-            1,
-            0,
-            "",
-        ),
-        ("run alone", &["run"], three, (0, 0), 1, 0, ""),
-        (
-            "a second file that isn't there",
-            &["run", "a.sql", "b.sql"],
-            three,
-            (0, 0),
-            2,
-            2,
-            "",
-        ),
-        ("an option", &["run", "-a.sql"], three, (0, 0), 1, 0, ""),
-        (
-            "a replay without a script",
-            &["replay", "a.sql"],
-            three,
-            (0, 0),
-            1,
-            0,
-            "",
-        ),
-        (
-            "a schedule that isn't there",
-            &["replay", "order", "a.sql"],
-            three,
-            (0, 0),
-            2,
-            0,
-            "",
-        ),
-        (
-            "a script in the place of a schedule",
-            &["replay", "a.sql", "a.sql"],
-            three,
-            (0, 0),
-            7,
-            1,
-            "",
-        ),
+    for (name, words, status, at) in [
+        ("no words", "", 1, 0),
+        ("files behind --", "run -- -", 2, 1),
+        ("an option behind a file", "run a.sql -x", 1, 0),
+        ("run alone", "run", 1, 0),
+        ("a second file that isn't there", "run a.sql b.sql", 2, 2),
+        ("an option", "run -a.sql", 1, 0),
+        ("a missing file", "run b.sql", 2, 1),
+        ("a replay without a script", "replay a.sql", 1, 0),
+        ("a schedule that isn't there", "replay order a.sql", 2, 0),
+        ("a script for a schedule", "replay a.sql a.sql", 7, 1),
         (
             "weights of no operator",
-            &["run", "--evict", "weighted", "--weights", "x=1", "a.sql"],
-            three,
-            (0, 0),
+            "run --evict weighted --weights x=1 a.sql",
             1,
             0,
-            "",
         ),
-        ("a missing file", &["run", "b.sql"], three, (0, 0), 2, 1, ""),
-        ("a failing start", run_a, three, (1, 0), 2, 1, ""),
-        ("a failing read", run_a, three, (2, 0), 2, 1, ""),
-        (
-            "an unfit file before one that isn't there",
-            &["run", "a.sql", "b.sql"],
-            &[0xff],
-            (0, 0),
-            6,
-            1,
-            "",
-        ),
-        ("a failing write", run_a, three, (0, 2), 3, 0, "session 1 "),
+    ] {
+        let words: Vec<&str> = words.split_whitespace().collect(alloc)?;
+        let (got, about, text) = run(alloc, words.as_slice(), three, (0, 0))?;
+        assert_eq!(rt; (got, about), (status, at), "{name}");
+        assert_eq!(rt; text.len(), 0, "{name}");
+    }
+    for (name, script, failing, status, at, written) in [
+        ("a failing start", three, (1, 0), 2, 1, ""),
+        ("a failing read", three, (2, 0), 2, 1, ""),
+        ("a failing write", three, (0, 2), 3, 0, "session 1 "),
         (
             "the longest",
-            run_a,
             longest.as_slice(),
             (0, 0),
             0,
             0,
             NOTHING_SERVED,
         ),
-        ("too long", run_a, too_long.as_slice(), (0, 0), 4, 1, ""),
-        ("no text", run_a, &[0xff], (0, 0), 6, 1, ""),
-        (
-            "257 statements",
-            run_a,
-            many_pieces.as_slice(),
-            (0, 0),
-            4,
-            1,
-            "",
-        ),
+        ("too long", too_long.as_slice(), (0, 0), 4, 1, ""),
+        ("no text", &[0xff], (0, 0), 6, 1, ""),
+        ("257 statements", many_pieces.as_slice(), (0, 0), 4, 1, ""),
     ] {
-        let (got, about, text) = run(alloc, texts, script, failing)?;
+        let (got, about, text) = run(alloc, &["run", "a.sql"], script, failing)?;
         assert_eq!(rt; (got, about), (status, at), "{name}");
         assert_eq!(rt; text.as_slice(), written.as_bytes(), "{name}");
     }
+    let (status, at, text) = run(alloc, &["run", "a.sql", "b.sql"], &[0xff], (0, 0))?;
+    assert_eq!(rt;
+        (status, at),
+        (6, 1),
+        "an unfit file before one that isn't there"
+    );
+    assert_eq!(rt; text.len(), 0);
     Ok(())
 }
 
@@ -356,8 +302,7 @@ fn run_two(alloc: Global, first: &str, second: &str) -> Result<Outcome, Memory> 
 #[test]
 fn sessions_one_after_the_other(rt: HostRuntime) -> Result<(), Fail> {
     let alloc = rt.alloc();
-    let second = " SELECT a FROM t WHERE a BETWEEN 2 AND 3;";
-    let (status, at, text) = run_two(alloc, THREE, second)?;
+    let (status, at, text) = run_two(alloc, THREE, ASKED_AGAIN)?;
     assert_eq!(rt; (status, at), (0, 0));
     let want = "session 1 a.sql\n1 ok\n2 ok 3\n3 rows 2\n2\n3\nsession 2 b.sql\n1 rows 2\n2\n3\n\
         history 2\n1 1 1 CREATE TABLE t (a INT);\n2 1 2 INSERT INTO t VALUES (3), (1), (2);\n\
@@ -411,10 +356,11 @@ impl Operate for Counting {
     }
 }
 
-/// The status and the work of a run of a script, and how often the kernel was called.
+/// The status and the work of a run of the words over files, and how often the kernel was called.
 fn run_counted<L: Ledger>(
     alloc: Global,
-    script: Vec<u8>,
+    texts: &[&str],
+    files: &[(&str, &str)],
     most: u64,
     blank: Blank,
 ) -> Result<(u8, u128, u64), Memory>
@@ -422,8 +368,18 @@ fn run_counted<L: Ledger>(
     requires parts { blank.parts ≡ L.parts }
     requires some { 0 < blank.parts }
 {
-    let words = vec![in alloc; word_of(alloc, "run")?, word_of(alloc, "a.sql")?]?;
-    let mut scripts = SureScripts::new(vec![in alloc; (word_of(alloc, "a.sql")?, script)]?);
+    let mut words = Vec::new(alloc);
+    for text in texts {
+        words.push(word_of(alloc, text)?)?;
+    }
+    let mut held = Vec::new(alloc);
+    for (name, text) in files {
+        held.push((
+            word_of(alloc, name)?,
+            Vec::from_slice(alloc, text.as_bytes())?,
+        ))?;
+    }
+    let mut scripts = SureScripts::new(held);
     let mut out = MemSink::new(alloc, 1000, 1000, Vec::new(alloc))?;
     let mut steps = Steps::<L>::new(blank);
     let kernel = Counting {
@@ -441,18 +397,51 @@ fn run_counted<L: Ledger>(
     Ok((served.status, served.work, kernel.calls.get()))
 }
 
+/// The same over one script.
 fn counted(alloc: Global, script: &str, most: u64) -> Result<(u8, u128, u64), Memory> {
-    let script = Vec::from_slice(alloc, script.as_bytes())?;
-    run_counted::<Brand>(alloc, script, most, Blank::new(1))
+    run_counted::<Brand>(
+        alloc,
+        &["run", "a.sql"],
+        &[("a.sql", script)],
+        most,
+        Blank::new(1),
+    )
 }
 
+/// The same over two scripts, in the order of an empty schedule.
+fn replayed<'a>(
+    alloc: Global,
+    first: &'a str,
+    second: &'a str,
+    most: u64,
+) -> Result<(u8, u128, u64), Memory> {
+    run_counted::<Brand>(
+        alloc,
+        &["replay", "order", "a.sql", "b.sql"],
+        &[("order", ""), ("a.sql", first), ("b.sql", second)],
+        most,
+        Blank::new(1),
+    )
+}
+
+/// The script of three rows, and its query once more.
+const ASKED_TWICE: &str = "CREATE TABLE t (a INT); INSERT INTO t VALUES (3), (1), (2); \
+    SELECT a FROM t WHERE a BETWEEN 2 AND 3; SELECT a FROM t WHERE a BETWEEN 2 AND 3;";
+
+const ASKED_AGAIN: &str = " SELECT a FROM t WHERE a BETWEEN 2 AND 3;";
+
 #[test]
-fn a_query_runs_as_its_plan(rt: HostRuntime) -> Result<(), Fail> {
+fn a_query_runs_as_its_plan_once(rt: HostRuntime) -> Result<(), Fail> {
     let alloc = rt.alloc();
-    // select, mirror, markT, reverse and join, once each: the bind is no call of the kernel
-    let served = counted(alloc, THREE, 5)?;
+    // select, mirror, markT, reverse and join, once each: the bind is no call of the kernel, and all is
+    // found the second time
+    let served = counted(alloc, ASKED_TWICE, 5)?;
     assert_eq!(rt; served, (0, 27, 5));
-    let given_up = counted(alloc, THREE, 4)?;
+    let given_up = counted(alloc, ASKED_TWICE, 4)?;
+    assert_eq!(rt; given_up, (5, 0, 4));
+    let served = replayed(alloc, THREE, ASKED_AGAIN, 5)?;
+    assert_eq!(rt; served, (0, 27, 5));
+    let given_up = replayed(alloc, THREE, ASKED_AGAIN, 4)?;
     assert_eq!(rt; given_up, (5, 0, 4));
     Ok(())
 }

@@ -1,4 +1,5 @@
 pub mod Failures
 pub mod Scripts
 pub mod Inputs
+pub mod Ready
 pub mod Served

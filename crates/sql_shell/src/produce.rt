@@ -1,15 +1,14 @@
 //! A run of scripts, and what is printed of it.
 ghost use Rattle.std.specs.Prelude.{◌≡◌, ◌≢◌, ◌≤◌, ◌+◌, ◌++◌, ℕ, List, [], length, map, All, IfOk, if◌then◌else◌};
-ghost use Rattle.std.specs.List.{AllByRecursion};
 ghost use Rattle.std.specs.declared.vec.Vec.{Vec as VecSeen};
 ghost use Rattle.std.specs.declared.alloc.Global.{Global as GlobalSeen};
 ghost use Rattle.run_log.specs.Events.{log_tree};
 ghost use Rattle.answer_text.specs.Layout.{history_text, log_text, totals_text};
-ghost use Rattle.command_line.specs.Command.{AreFit};
 ghost use Rattle.score_hook.specs.declared.stats.Evict.TheVariants.{Weighted};
 ghost use Rattle.score_hook.specs.Scores.{AreWeights, IsInRange, score_of};
 ghost use Rattle.sql_shell.specs.Scripts.{names_of, pieces_in};
-ghost use Rattle.sql_shell.specs.Served.{IsServed, pool_of, texts_under};
+ghost use Rattle.sql_shell.specs.Ready.{AreReady, IsServedBy};
+ghost use Rattle.sql_shell.specs.Served.{pool_of, texts_under};
 
 use crate::inputs::Inputs;
 use crate::scripts::Script;
@@ -48,11 +47,8 @@ pub fn produce<E: Operate, L: Ledger>(
     kernel: &E,
     steps: &mut Steps<L>,
 ) -> Result<Produced, Memory>
-    requires fit { AreFit options }
-    requires few { length inputs.scripts.items ≤ 16 }
-    requires short { AllByRecursion (λ (pieces : List (List ℕ)). length pieces ≤ 256) (pieces_in inputs.scripts.items) }
-    requires turns { AllByRecursion (λ turn. (1 ≤ turn) × (turn ≤ length inputs.scripts.items)) inputs.turns.items }
-    ensures { IfOk result (λ run. IsServed options (names_of inputs.scripts.items) (pieces_in inputs.scripts.items) inputs.turns.items run.text.items (log_tree run.log) run.work steps.old steps.new) }
+    requires { AreReady options inputs }
+    ensures { IfOk result (λ run. IsServedBy options inputs run.text.items (log_tree run.log) run.work steps.old steps.new) }
 {
     match options.evict {
         Evict::Weighted => produce_weighted(alloc, options, inputs, kernel, steps),
@@ -69,11 +65,8 @@ fn produce_plain<E: Operate, L: Ledger>(
     steps: &mut Steps<L>,
 ) -> Result<Produced, Memory>
     requires plain { options.evict ≢ Weighted }
-    requires fit { AreFit options }
-    requires few { length inputs.scripts.items ≤ 16 }
-    requires short { AllByRecursion (λ (pieces : List (List ℕ)). length pieces ≤ 256) (pieces_in inputs.scripts.items) }
-    requires turns { AllByRecursion (λ turn. (1 ≤ turn) × (turn ≤ length inputs.scripts.items)) inputs.turns.items }
-    ensures { IfOk result (λ run. IsServed options (names_of inputs.scripts.items) (pieces_in inputs.scripts.items) inputs.turns.items run.text.items (log_tree run.log) run.work steps.old steps.new) }
+    requires ready { AreReady options inputs }
+    ensures { IfOk result (λ run. IsServedBy options inputs run.text.items (log_tree run.log) run.work steps.old steps.new) }
 {
     let kind = options.evict;
     let call: ScoreCall = Box::new(
@@ -97,11 +90,8 @@ fn produce_weighted<E: Operate, L: Ledger>(
     steps: &mut Steps<L>,
 ) -> Result<Produced, Memory>
     requires weighted { options.evict ≡ Weighted }
-    requires fit { AreFit options }
-    requires few { length inputs.scripts.items ≤ 16 }
-    requires short { AllByRecursion (λ (pieces : List (List ℕ)). length pieces ≤ 256) (pieces_in inputs.scripts.items) }
-    requires turns { AllByRecursion (λ turn. (1 ≤ turn) × (turn ≤ length inputs.scripts.items)) inputs.turns.items }
-    ensures { IfOk result (λ run. IsServed options (names_of inputs.scripts.items) (pieces_in inputs.scripts.items) inputs.turns.items run.text.items (log_tree run.log) run.work steps.old steps.new) }
+    requires ready { AreReady options inputs }
+    ensures { IfOk result (λ run. IsServedBy options inputs run.text.items (log_tree run.log) run.work steps.old steps.new) }
 {
     let held = Vec::from_slice(alloc, options.weights.as_slice())?;
     let kept = Vec::from_slice(alloc, options.weights.as_slice())?;
@@ -128,11 +118,8 @@ fn play<E: Operate, L: Ledger>(
 ) -> Result<Produced, Memory>
     requires kind { scorer.now.kind ≡ options.evict }
     requires weights { scorer.now.weights.items ≡ options.weights }
-    requires fit { AreFit options }
-    requires few { length inputs.scripts.items ≤ 16 }
-    requires short { AllByRecursion (λ (pieces : List (List ℕ)). length pieces ≤ 256) (pieces_in inputs.scripts.items) }
-    requires turns { AllByRecursion (λ turn. (1 ≤ turn) × (turn ≤ length inputs.scripts.items)) inputs.turns.items }
-    ensures { IfOk result (λ run. IsServed options (names_of inputs.scripts.items) (pieces_in inputs.scripts.items) inputs.turns.items run.text.items (log_tree run.log) run.work steps.old steps.new) }
+    requires ready { AreReady options inputs }
+    ensures { IfOk result (λ run. IsServedBy options inputs run.text.items (log_tree run.log) run.work steps.old steps.new) }
 {
     let events = options.events;
     let Inputs { scripts, turns } = inputs;

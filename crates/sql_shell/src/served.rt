@@ -1,14 +1,13 @@
 //! The run: a command among the words, its scripts and schedule, sessions, and what is written.
 ghost use Rattle.std.specs.Prelude.{◌≡◌, ◌≢◌, ◌≤◌, ◌⊎◌, ℕ, List, [], true, length, IfSome, None};
-ghost use Rattle.std.specs.List.{AllByRecursion};
 ghost use Rattle.std.specs.Io.KnownBytes.{Appends};
 ghost use Rattle.causes.specs.Faults.{AppendsPrefix, Rose};
 ghost use Rattle.run_log.specs.Events.{log_tree};
-ghost use Rattle.command_line.specs.Command.{AreFit, command_named, files_of};
+ghost use Rattle.command_line.specs.Command.{command_named, files_of};
 ghost use Rattle.sql_shell.specs.Failures.{status_of, at_of};
 ghost use Rattle.sql_shell.specs.Inputs.{IsFirstWrong, IsReached, IsToldRight, IsToldWrong};
-ghost use Rattle.sql_shell.specs.Scripts.{names_of, pieces_in};
-ghost use Rattle.sql_shell.specs.Served.{IsRun, IsServed, is_status};
+ghost use Rattle.sql_shell.specs.Ready.{AreReady, IsServedBy};
+ghost use Rattle.sql_shell.specs.Served.{IsRun, is_status};
 
 use crate::inputs::{Inputs, options_of, read_inputs};
 use crate::produce::produce;
@@ -115,14 +114,11 @@ fn serve<K: Sink, E: Operate, L: Ledger>(
     kernel: &E,
     steps: &mut Steps<L>,
 ) -> Served
-    requires fit { AreFit options }
-    requires few { length inputs.scripts.items ≤ 16 }
-    requires short { AllByRecursion (λ (pieces : List (List ℕ)). length pieces ≤ 256) (pieces_in inputs.scripts.items) }
-    requires turns { AllByRecursion (λ turn. (1 ≤ turn) × (turn ≤ length inputs.scripts.items)) inputs.turns.items }
+    requires { AreReady options inputs }
     ensures served { result.status ≡ 0 → (text : List ℕ) × Appends (K.contents out.old) (K.contents out.new) text
-        × IsServed options (names_of inputs.scripts.items) (pieces_in inputs.scripts.items) inputs.turns.items text (log_tree result.log) result.work steps.old steps.new }
+        × IsServedBy options inputs text (log_tree result.log) result.work steps.old steps.new }
     ensures prefix { result.status ≡ 3 → (text : List ℕ) × AppendsPrefix (K.contents out.old) (K.contents out.new) text
-        × IsServed options (names_of inputs.scripts.items) (pieces_in inputs.scripts.items) inputs.turns.items text (log_tree result.log) result.work steps.old steps.new }
+        × IsServedBy options inputs text (log_tree result.log) result.work steps.old steps.new }
     ensures write_fault { result.status ≡ 3 → Rose (K.faults out.old) (K.faults out.new) }
     ensures known { (result.status ≡ 0) ⊎ (result.status ≡ 3) ⊎ (result.status ≡ 5) }
     ensures silent { result.status ≡ 5 → (K.contents out.new ≡ K.contents out.old) × (result.log ≡ []) × (result.work ≡ 0) }

@@ -13,25 +13,17 @@ use Rattle.sql_shell.proofs.InputLemmas.{complete_of, found_of, lifted, read_not
 use Rattle.sql_shell.proofs.PrintLemmas.{run_of}
 use Rattle.sql_shell.proofs.served.top.Goals as goal
 
-pub serve-requires-clause-few : goal.serve-requires-clause-few
-serve-requires-clause-few g c =
+pub serve-requires : goal.serve-requires
+serve-requires g c =
     let many = as_many (g.S.Scripts.bytes_of c.args.scripts.now) (files_of c.in-Ok-Some.command) c.in-Ok.inputs.scripts.items c.in-Ok.ensures.cut in
     let fit = some_of c.in-Ok-Some.field-0 IsFit c.in-Ok-Some.command c.in-Ok-Some.field-0-is c.in-Ok-Some.ensures.limits in
-    let few = fit.few in
-    omega (arith, many, few)
-
-pub serve-requires-clause-short : goal.serve-requires-clause-short
-serve-requires-clause-short g c = all_short (g.S.Scripts.bytes_of c.args.scripts.now) (files_of c.in-Ok-Some.command) c.in-Ok.inputs.scripts.items c.in-Ok.ensures.cut
-
-pub serve-requires-clause-turns : goal.serve-requires-clause-turns
-serve-requires-clause-turns g c =
-    let many = as_many (g.S.Scripts.bytes_of c.args.scripts.now) (files_of c.in-Ok-Some.command) c.in-Ok.inputs.scripts.items c.in-Ok.ensures.cut in
-    subst (λ n. AllByRecursion (λ (turn : ℕ). (1 ≤ turn) × (turn ≤ n)) c.in-Ok.inputs.turns.items) (sym many) c.in-Ok.ensures.each
-
-pub serve-requires-clause-fit : goal.serve-requires-clause-fit
-serve-requires-clause-fit g c =
-    let fit = some_of c.in-Ok-Some.field-0 IsFit c.in-Ok-Some.command c.in-Ok-Some.field-0-is c.in-Ok-Some.ensures.limits in
-    subst AreFit (sym c.options_of.ensures) fit.options
+    let most = fit.few in
+    record {
+      fit = subst AreFit (sym c.options_of.ensures) fit.options;
+      few = omega (arith, many, most);
+      short = all_short (g.S.Scripts.bytes_of c.args.scripts.now) (files_of c.in-Ok-Some.command) c.in-Ok.inputs.scripts.items c.in-Ok.ensures.cut;
+      turns = subst (λ n. AllByRecursion (λ (turn : ℕ). (1 ≤ turn) × (turn ≤ n)) c.in-Ok.inputs.turns.items) (sym many) c.in-Ok.ensures.each;
+    }
 
 pub returns-in-Ok-clause-served : goal.returns-in-Ok-clause-served
 returns-in-Ok-clause-served g c zero =
