@@ -9,14 +9,14 @@ ghost use Rattle.std.specs.Prelude.{◌≡◌, ◌<◌};
 use bat_kernel::Kernel;
 use causes::{FileScripts, OutSink};
 use cell_core::{Steps, Word, word_of};
-use sql_shell::{STATUS_MEMORY, STATUS_SERVED, STATUS_WORDS, top};
+use sql_shell::{STATUS_MEMORY, STATUS_SERVED, STATUS_WORDS, Served, top};
 use std::alloc::Global;
 use std::io::Write;
 use std::marker::Brand;
 use std::process::ExitCode;
 use std::rt::Files;
 use std::sync::ledger::{Blank, Ledger};
-use std::{env, io};
+use std::{env, io, mem};
 
 /// A status, and the file that it is about.
 type Outcome = (u8, u64);
@@ -55,7 +55,15 @@ fn run<L: Ledger, F: Files + Drop, W: Write + Drop>(
     let mut out = OutSink::new(writer);
     let kernel = Kernel::new();
     let served = top(alloc, words, &mut scripts, &mut out, &kernel, &mut steps);
-    (served.status, served.at)
+    let Served {
+        status,
+        at,
+        log,
+        ..
+    } = served;
+    // The process ends next: the system takes back the log at once, not row by row.
+    mem::forget(log);
+    (status, at)
 }
 
 /// The words behind the program's name. Words that the system can't tell as text are outside the
