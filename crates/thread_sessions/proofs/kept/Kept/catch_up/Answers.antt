@@ -1,0 +1,11 @@
+use Rattle.std.proofs.Common.{subst}
+use Rattle.pool_policy.specs.declared.options.PoolOptions.{PoolOptions}
+use Rattle.run_log.specs.Events.{log_tree}
+use Rattle.book_core.specs.Lawful.{IsLawful}
+use Rattle.thread_sessions.proofs.AlongLemmas.{seen_at}
+use Rattle.thread_sessions.proofs.kept.Kept.catch_up.Goals as goal
+
+pub returns : goal.returns
+returns g c =
+    let log = log_tree c.args.self.now.book.log in
+    seen_at g.K.RunOptions.options log c.args.session.now (subst (λ (o : PoolOptions). IsLawful o log) c.args.self.now.optioned c.log.ensures.lawful) c.requires

@@ -1,0 +1,37 @@
+use Rattle.std.proofs.Common.{◌≤◌, length, arith}
+use Rattle.run_log.specs.Events.{log_tree}
+use Rattle.turn_hall.specs.Passes.{seen_by}
+use Rattle.session_run.proofs.StageLemmas.{stage_sound}
+use Rattle.run_sessions.proofs.TurnLemmas.{computed_over, computed_ready}
+use Rattle.thread_sessions.proofs.AlongLemmas.{computed_with}
+use Rattle.thread_sessions.proofs.turn.take_turn.Goals as goal
+
+pub outside-requires : goal.outside-requires
+outside-requires g c = stage_sound g.K.RunOptions.options (log_tree (seen_by c.args.pass.now)) c.args.session.now c.requires.stands.at.stands
+
+pub returns-then-done : goal.returns-then-done
+returns-then-done g c =
+    let options = g.K.RunOptions.options in
+    let computed = c.in_ok-outside.ensures.computed in
+    let all : length c.outside.new.self.pieces ≤ c.outside.new.self.ended = grind (arith, c.done.ensures, c.if-done.true) in
+    let over = computed_over options (log_tree (seen_by c.args.pass.now)) c.args.session.now c.outside.new.self c.requires.stands.at.stands computed all in
+    record {
+      ours = c.requires.ours;
+      number = computed.number;
+      pieces = computed.pieces;
+      stands = computed_with options c.args.pass.now c.args.session.now c.outside.new.self computed c.requires.stands;
+      over = λ same. over;
+    }
+
+pub do_event-requires : goal.do_event-requires
+do_event-requires g c =
+    let options = g.K.RunOptions.options in
+    let computed = c.in_ok-outside.ensures.computed in
+    record {
+      kind = c.requires.kind;
+      weights = c.requires.weights;
+      ours = c.requires.ours;
+      stands = computed_with options c.args.pass.now c.args.session.now c.outside.new.self computed c.requires.stands;
+      more = grind (arith, c.done.ensures, c.if-done.false);
+      ready = computed_ready options (log_tree (seen_by c.args.pass.now)) c.args.session.now c.outside.new.self c.requires.stands.at.stands computed;
+    }

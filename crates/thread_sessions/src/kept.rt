@@ -1,0 +1,124 @@
+//! The book of a run in threads.
+ghost use Rattle.std.specs.Prelude.{◌≡◌, ◌<◌, ◌≤◌, ◌^◌, [], length, IfOk, OnOk, OnErr};
+ghost use Rattle.run_log.specs.declared.event.Event.{Event as EventSeen};
+ghost use Rattle.run_log.specs.Events.{log_tree};
+ghost use Rattle.run_log.specs.Fold.{run_of};
+ghost use Rattle.book_core.specs.Lawful.{IsLawful};
+ghost use Rattle.session_run.specs.Stages.{IsReady};
+ghost use Rattle.thread_sessions.specs.Shown.{shown_log};
+ghost use Rattle.thread_sessions.specs.Runners.{AddsEvent, HasSeen, IsAt, session_of};
+
+use bat_core::Operate;
+use book_core::Book;
+use cell_core::{Memory, Steps};
+use pool_policy::PoolOptions;
+use run_log::{Event, Totals};
+use score_hook::Scorer;
+use session_run::Session;
+use sql_parse::one_reading;
+use std::alloc::Global;
+use std::marker::{Brand, PhantomData};
+use std::sync::ledger::Ledger;
+use turn_hall::Logged;
+
+/// The options of a run, in a type, so that each turn knows them. Whoever makes the book picks them.
+pub trait RunOptions {
+    ghost use Rattle.pool_policy.specs.declared.options.PoolOptions.{PoolOptions};
+
+    ghost options: { PoolOptions };
+}
+
+impl RunOptions for Brand {
+    ghost use Rattle.std.specs.Prelude.{[]};
+    ghost use Rattle.score_hook.specs.declared.stats.Evict.TheVariants.{Lru};
+    ghost use Rattle.pool_policy.specs.declared.options.Admit.TheVariants.{All};
+
+    ghost options = { record { places = 0; budget = 0; evict = Lru; weights = []; admit = All; credits = 0 } };
+}
+
+/// A book, in a type that names its options.
+#[derive(Drop)]
+pub struct Kept<K: RunOptions> {
+    pub(crate) book: Book,
+    of: PhantomData<K>,
+    ghost optioned: { book.options ≡ K.options },
+}
+
+impl<K: RunOptions> Logged for Kept<K> {
+    type Entry = Event;
+
+    ghost entries = { λ kept. shown_log (log_tree kept.book.log) };
+
+    ghost author = { session_of };
+
+    #[tactic(auto, using(crate::proofs::ShownLemmas::shown_long))]
+    fn count(&self) -> u64 {
+        self.book.count()
+    }
+}
+
+impl<K: RunOptions> Kept<K> {
+    /// A book without events.
+    pub fn new(alloc: Global, options: PoolOptions) -> Result<Kept<K>, Memory>
+        requires options { options ≡ K.options }
+        requires places { options.places ≤ 1024 }
+        requires budget { options.budget ≤ 2 ^ 40 }
+        ensures { IfOk result (λ kept. kept.book.log ≡ []) }
+    {
+        let book = Book::new(alloc, options)?;
+        Ok(Kept {
+            book,
+            of: PhantomData,
+        })
+    }
+
+    /// A session that stood where the log was when it saw it stands where the log is now: what came between is of
+    /// others.
+    pub fn catch_up(&self, session: &Session)
+        requires { HasSeen K.options (shown_log (log_tree self.now.book.log)) session.now }
+        ensures { IsAt K.options (log_tree self.now.book.log) session.now }
+    {
+        let _ = self.book.log();
+    }
+
+    /// Does the next event of a session. After Memory the book is as before.
+    pub fn next<E: Operate, L: Ledger>(
+        &mut self,
+        alloc: Global,
+        session: &mut Session,
+        scorer: &Scorer,
+        kernel: &E,
+        steps: &mut Steps<L>,
+    ) -> Result<(), Memory>
+        requires kind { scorer.now.kind ≡ K.options.evict }
+        requires weights { scorer.now.weights.items ≡ K.options.weights }
+        requires at { IsAt K.options (log_tree self.old.book.log) session.old }
+        requires more { session.old.ended < length session.old.pieces }
+        requires ready { IsReady session.old.stage }
+        ensures number { OnOk result (session.new.number ≡ session.old.number) }
+        ensures pieces { OnOk result (session.new.pieces ≡ session.old.pieces) }
+        ensures added { OnOk result (AddsEvent (shown_log (log_tree self.old.book.log)) session.old.number (shown_log (log_tree self.new.book.log))) }
+        ensures at { OnOk result (IsAt K.options (log_tree (shown_log (log_tree self.new.book.log))) session.new) }
+        ensures same { OnErr result (self.new.book ≡ self.old.book) }
+    {
+        one_reading();
+        session.inside(alloc, &mut self.book, scorer, kernel, steps)?;
+        Ok(())
+    }
+
+    /// Its log is lawful under the options.
+    pub fn tell_law(&self)
+        ensures { IsLawful K.options (log_tree self.now.book.log) }
+    {
+        let _ = self.book.log();
+    }
+
+    /// The log and the totals, handed out.
+    pub fn finish(self) -> (Vec<Event>, Totals)
+        ensures log { result.0.items ≡ self.book.log }
+        ensures totals { result.1 ≡ (run_of K.options (log_tree self.book.log)).totals }
+    {
+        let Kept { book, of: _ } = self;
+        book.finish()
+    }
+}

@@ -1,0 +1,82 @@
+//! Turns of a session.
+ghost use Rattle.std.specs.Prelude.{◌≡◌, ◌<◌, false, length, IfOk, OnOk};
+ghost use Rattle.turn_hall.specs.Passes.{IsPassOf};
+ghost use Rattle.session_run.specs.Stages.{IsReady};
+ghost use Rattle.run_sessions.specs.Tables.{IsOver};
+ghost use Rattle.thread_sessions.specs.Runners.{IsWith};
+
+use crate::kept::{Kept, RunOptions};
+use bat_core::Operate;
+use cell_core::{Memory, Steps};
+use score_hook::Scorer;
+use session_run::Session;
+use std::alloc::Global;
+use std::sync::Wait;
+use std::sync::ledger::Ledger;
+use turn_hall::{Hall, Pass};
+
+/// Does the next event of a session in one turn. After Memory the turn is given up.
+fn do_event<K: RunOptions, R: Wait, E: Operate, L: Ledger>(
+    rt: &R,
+    alloc: Global,
+    hall: &Hall<Kept<K>>,
+    pass: &mut Pass<Kept<K>>,
+    session: &mut Session,
+    scorer: &Scorer,
+    kernel: &E,
+    steps: &mut Steps<L>,
+) -> Result<(), Memory>
+    requires kind { scorer.now.kind ≡ K.options.evict }
+    requires weights { scorer.now.weights.items ≡ K.options.weights }
+    requires ours { IsPassOf hall.now pass.old }
+    requires stands { IsWith K.options pass.old session.old }
+    requires more { session.old.ended < length session.old.pieces }
+    requires ready { IsReady session.old.stage }
+    ensures ours { OnOk result (IsPassOf hall.now pass.new) }
+    ensures number { OnOk result (session.new.number ≡ session.old.number) }
+    ensures pieces { OnOk result (session.new.pieces ≡ session.old.pieces) }
+    ensures stands { OnOk result (IsWith K.options pass.new session.new) }
+{
+    let mut turn = hall.turn(rt, pass);
+    let kept = turn.value();
+    kept.catch_up(session);
+    match kept.next(alloc, session, scorer, kernel, steps) {
+        Ok(()) => {
+            hall.leave(turn, pass);
+            Ok(())
+        }
+        Err(memory) => {
+            hall.give_up(turn, pass);
+            Err(memory)
+        }
+    }
+}
+
+/// Lets a session compute outside turns, and then do its next event, and answers whether it had one.
+pub fn take_turn<K: RunOptions, R: Wait, E: Operate, L: Ledger>(
+    rt: &R,
+    alloc: Global,
+    hall: &Hall<Kept<K>>,
+    pass: &mut Pass<Kept<K>>,
+    session: &mut Session,
+    scorer: &Scorer,
+    kernel: &E,
+    steps: &mut Steps<L>,
+) -> Result<bool, Memory>
+    requires kind { scorer.now.kind ≡ K.options.evict }
+    requires weights { scorer.now.weights.items ≡ K.options.weights }
+    requires ours { IsPassOf hall.now pass.old }
+    requires stands { IsWith K.options pass.old session.old }
+    ensures ours { OnOk result (IsPassOf hall.now pass.new) }
+    ensures number { OnOk result (session.new.number ≡ session.old.number) }
+    ensures pieces { OnOk result (session.new.pieces ≡ session.old.pieces) }
+    ensures stands { OnOk result (IsWith K.options pass.new session.new) }
+    ensures over { IfOk result (λ more. more ≡ false → IsOver session.new) }
+{
+    session.outside(alloc, kernel, steps)?;
+    if session.done() {
+        return Ok(false);
+    }
+    do_event(rt, alloc, hall, pass, session, scorer, kernel, steps)?;
+    Ok(true)
+}
