@@ -70,6 +70,18 @@ const ONE_MORE_ROW: Met = (
     carried 6\nwork 41\nevents 25\n",
 );
 
+/// A range that two others cover: it is merged from a piece of each.
+const COVERED: Met = (
+    "",
+    "CREATE TABLE t (a INT); INSERT INTO t VALUES (5), (1), (8), (5), (9), (3); SELECT a FROM t WHERE a BETWEEN 1 AND 6; SELECT a FROM t WHERE a BETWEEN 4 AND 9; SELECT a FROM t WHERE a BETWEEN 2 AND 8;",
+    "",
+    "session 1 a.sql\n1 ok\n2 ok 6\n3 rows 4\n1\n3\n5\n5\n4 rows 4\n5\n5\n8\n9\n5 rows 4\n3\n5\n5\n8\n\
+    history 2\n1 1 1 CREATE TABLE t (a INT);\n2 1 2 INSERT INTO t VALUES (5), (1), (8), (5), (9), (3);\n\
+    pool\nentries 16\nbytes 1792\npeak 1792\nlooks 18\nexact 2\nwithin 0\nacross 1\nmiss 15\ntaken 16\n\
+    there 0\nstale 0\norphan 0\nnocredit 0\nnoroom 0\nevicted 0\ndropped 0\ncarried 0\nwork 156\n\
+    events 42\n",
+);
+
 /// A file and its name.
 fn file(alloc: Global, name: &str, text: &str) -> Result<(Word, Vec<u8>), Memory> {
     Ok((
@@ -98,7 +110,7 @@ fn replayed(alloc: Global, met: Met) -> Result<Vec<u8>, Memory> {
 #[test]
 fn sessions_meet_at_the_pool(rt: HostRuntime) -> Result<(), Fail> {
     let alloc = rt.alloc();
-    for met in [MET, UNDER_WAY, LATE, MADE_AGAIN, ONE_MORE_ROW] {
+    for met in [MET, UNDER_WAY, LATE, MADE_AGAIN, ONE_MORE_ROW, COVERED] {
         let text = replayed(alloc, met)?;
         assert_eq!(rt; text.as_slice(), met.3.as_bytes());
     }
