@@ -45,3 +45,7 @@ module _ {V : Type 0} where
     pub number : x.number ≡ pass_number pass
     pub own : entries_by session_of (pass_number pass) (seen_by pass) ≡ own_entries pass
     pub at : IsAt options (log_tree (seen_by pass)) x
+
+  -- a pass has one entry of its own more than before
+  abbrev pub HasOneMore : Pass V Event → Pass V Event → Type 0
+  HasOneMore old new = (event : Event) × (own_entries new ≡ own_entries old ++ event ∷ [])

@@ -1,9 +1,9 @@
 //! Turns of a session.
-ghost use Rattle.std.specs.Prelude.{◌≡◌, ◌<◌, false, length, IfOk, OnOk};
+ghost use Rattle.std.specs.Prelude.{◌≡◌, ◌<◌, false, length, true, IfOk, OnOk};
 ghost use Rattle.turn_hall.specs.Passes.{IsPassOf};
 ghost use Rattle.session_run.specs.Stages.{IsReady};
 ghost use Rattle.run_sessions.specs.Tables.{IsOver};
-ghost use Rattle.thread_sessions.specs.Runners.{IsWith};
+ghost use Rattle.thread_sessions.specs.Runners.{HasOneMore, IsWith};
 
 use crate::kept::{Kept, RunOptions};
 use bat_core::Operate;
@@ -36,6 +36,7 @@ fn do_event<K: RunOptions, R: Wait, E: Operate, L: Ledger>(
     ensures number { OnOk result (session.new.number ≡ session.old.number) }
     ensures pieces { OnOk result (session.new.pieces ≡ session.old.pieces) }
     ensures stands { OnOk result (IsWith K.options pass.new session.new) }
+    ensures one { OnOk result (HasOneMore pass.old pass.new) }
 {
     let mut turn = hall.turn(rt, pass);
     let kept = turn.value();
@@ -71,6 +72,7 @@ pub fn take_turn<K: RunOptions, R: Wait, E: Operate, L: Ledger>(
     ensures number { OnOk result (session.new.number ≡ session.old.number) }
     ensures pieces { OnOk result (session.new.pieces ≡ session.old.pieces) }
     ensures stands { OnOk result (IsWith K.options pass.new session.new) }
+    ensures one { IfOk result (λ more. more ≡ true → HasOneMore pass.old pass.new) }
     ensures over { IfOk result (λ more. more ≡ false → IsOver session.new) }
 {
     session.outside(alloc, kernel, steps)?;

@@ -1,4 +1,4 @@
-use Rattle.std.proofs.Common.{List, ◌≡◌, rules, sym, subst}
+use Rattle.std.proofs.Common.{List, [], ◌∷◌, ◌++◌, ◌≡◌, ap, ◌∙◌, rules, sym, subst}
 use Rattle.run_log.specs.declared.event.Event.{Event}
 use Rattle.run_log.specs.Events.{log_tree}
 use Rattle.turn_hall.specs.Passes.{seen_by}
@@ -21,3 +21,8 @@ returns-in-Ok-clause-stands g c =
     let number : c.next.new.session.number ≡ c.args.session.now.number = search rules in
     added_with options c.args.pass.now c.turn-turn.new.pass c.leave.new.pass c.args.session.now c.next.new.session _ _ c.leave.ensures.free c.turn-turn.ensures.kept_place c.leave.ensures.kept_place c.turn-turn.ensures.seen
     c.turn-turn.ensures.own c.turn-turn.ensures.kept_own c.leave.ensures.seen c.leave.ensures.one_more c.leave.ensures.own c.requires.stands.number number at
+
+pub returns-in-Ok-clause-one : goal.returns-in-Ok-clause-one
+returns-in-Ok-clause-one g c =
+    let more = c.leave.ensures.one_more in
+    (more.0, c.leave.ensures.own more.0 (sym c.leave.ensures.seen ∙ more.1) ∙ ap (λ (l : List Event). l ++ more.0 ∷ []) c.turn-turn.ensures.kept_own)

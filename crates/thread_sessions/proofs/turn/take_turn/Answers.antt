@@ -1,4 +1,4 @@
-use Rattle.std.proofs.Common.{◌≤◌, length, arith}
+use Rattle.std.proofs.Common.{◌≡◌, ◌≤◌, false, true, length, arith}
 use Rattle.run_log.specs.Events.{log_tree}
 use Rattle.turn_hall.specs.Passes.{seen_by}
 use Rattle.session_run.proofs.StageLemmas.{stage_sound}
@@ -8,6 +8,9 @@ use Rattle.thread_sessions.proofs.turn.take_turn.Goals as goal
 
 pub outside-requires : goal.outside-requires
 outside-requires g c = stage_sound g.K.RunOptions.options (log_tree (seen_by c.args.pass.now)) c.args.session.now c.requires.stands.at.stands
+
+not_more : false ≡ true → ⊥
+not_more e = cc
 
 pub returns-then-done : goal.returns-then-done
 returns-then-done g c =
@@ -20,6 +23,7 @@ returns-then-done g c =
       number = computed.number;
       pieces = computed.pieces;
       stands = computed_with options c.args.pass.now c.args.session.now c.outside.new.self computed c.requires.stands;
+      one = λ same. absurd (not_more same);
       over = λ same. over;
     }
 
