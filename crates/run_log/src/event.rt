@@ -3,10 +3,10 @@ ghost use Rattle.std.specs.Option.{option_copied, option_map};
 ghost use Rattle.sql_tree.specs.Tree.{stmt_tree};
 ghost use Rattle.run_log.specs.Events.{act_tree, committed};
 
+use crate::stmt_text::StmtText;
 use lineage_key::Key;
 use mal_meaning::Plan;
 use pool_policy::Admitted;
-use sql_tree::Stmt;
 
 /// One entry of the log. Positions in the log count from 1.
 #[derive(Debug, Drop)]
@@ -49,8 +49,8 @@ pub enum Act {
     },
     /// A statement that is no query, whole.
     Write {
-        /// The statement; None where its text is refused.
-        stmt: Option<Stmt>,
+        /// The statement, as its text; None where its text is refused.
+        stmt: Option<StmtText>,
         /// 0, or the number of the refusal.
         code: u8,
         /// The rows inserted, deleted or updated; 0 for a refusal, for CREATE, DROP and ALTER.
@@ -78,7 +78,7 @@ pub enum Looked {
 
 impl Act {
     /// The statement of an accepted write.
-    pub fn committed(&self) -> Option<&Stmt>
+    pub fn committed(&self) -> Option<&StmtText>
         ensures { option_map stmt_tree (option_copied result) ≡ committed (act_tree self.now) }
     {
         match self {

@@ -10,7 +10,9 @@
 
 mod event;
 mod laws;
+mod stmt_text;
 mod totals;
 
 pub use event::{Act, Event, Looked, Totals};
 pub use laws::{logs_tell, steps_keep};
+pub use stmt_text::StmtText;
