@@ -7,8 +7,7 @@ ghost use Rattle.run_log.specs.Events.{act_tree, committed, log_tree};
 
 use crate::number::write_number;
 use cell_core::Memory;
-use run_log::Event;
-use sql_tree::{Stmt, print_stmt};
+use run_log::{Event, StmtText};
 use std::alloc::Global;
 
 /// Appends the history of a log: how many changes were accepted, and a line for each. Where memory
@@ -20,7 +19,7 @@ pub fn write_history(alloc: Global, log: &[Event], out: &mut Vec<u8>) -> Result<
     let mut text = Vec::from_slice(alloc, b"history ")?;
     write_number(count_changes(log) as u64, &mut text)?;
     text.extend_from_slice(b"\n")?;
-    write_changes(alloc, log, &mut text)?;
+    write_changes(log, &mut text)?;
     out.extend_from_slice(&text)?;
     Ok(())
 }
@@ -43,7 +42,7 @@ fn is_change(event: &Event) -> bool
 }
 
 /// Appends a line for each accepted change, numbered from 1.
-fn write_changes(alloc: Global, log: &[Event], out: &mut Vec<u8>) -> Result<(), Memory>
+fn write_changes(log: &[Event], out: &mut Vec<u8>) -> Result<(), Memory>
     ensures { OnOk result (out.new.items ≡ out.old.items ++ flat_map (λ (i, change). change_line i change) (enumerate_from 1 (changes_of (log_tree log.now)))) }
 {
     let mut count = 0;
@@ -52,19 +51,13 @@ fn write_changes(alloc: Global, log: &[Event], out: &mut Vec<u8>) -> Result<(), 
             continue;
         };
         count += 1;
-        write_change(alloc, count, event, stmt, out)?;
+        write_change(count, event, stmt, out)?;
     }
     Ok(())
 }
 
 /// Appends the line of an accepted change.
-fn write_change(
-    alloc: Global,
-    count: u64,
-    event: &Event,
-    stmt: &Stmt,
-    out: &mut Vec<u8>,
-) -> Result<(), Memory>
+fn write_change(count: u64, event: &Event, stmt: &StmtText, out: &mut Vec<u8>) -> Result<(), Memory>
     ensures { OnOk result (out.new.items ≡ out.old.items ++ change_line count (record { session = event.now.session; statement = event.now.statement; text = canonical (stmt_tree stmt.now) })) }
 {
     write_number(count, out)?;
@@ -73,7 +66,7 @@ fn write_change(
     out.extend_from_slice(b" ")?;
     write_number(u64::from(event.statement), out)?;
     out.extend_from_slice(b" ")?;
-    out.extend_from_slice(&print_stmt(alloc, stmt)?)?;
+    out.extend_from_slice(stmt.text())?;
     out.extend_from_slice(b";\n")?;
     Ok(())
 }
