@@ -264,11 +264,6 @@ write_counted b known is stmt load before between end_ load_is counts =
 pub logged_tree : (old new : List Event) (event : Event) → new ≡ old ++ event ∷ [] → log_tree new ≡ log_tree old ++ event_tree event ∷ []
 logged_tree old new event is = ap log_tree is ∙ map-append event_tree old (event ∷ [])
 
--- the event of a write whose copy is logged
-pub written_tree : (old new : List Event) (who : Who) (stmt : Stmt) (reply : Reply) → new ≡ old ++ event_of who (act.Write (Some stmt) (reply_code reply) (reply_count reply)) ∷ []
-    → log_tree new ≡ log_tree old ++ written_by who (stmt_tree stmt) reply ∷ []
-written_tree old new who stmt reply is = logged_tree old new (event_of who (act.Write (Some stmt) (reply_code reply) (reply_count reply))) is
-
 -- ## The work that is added
 
 pub both_ok : {T E : Type 0} (r : Result T E) (P Q : T → Type 0) (R : Type 0) → ((x : T) → P x → Q x → R) → IfOk r P → IfOk r Q → IfOk r (λ x. R)
@@ -292,8 +287,9 @@ module _ (s : LogState) (stmt : StmtTree) where
       ∙ ap (λ (r : Reply). s.totals.work + (write_load stmt s.db + cond (reply_code r == 0) (write_of (touched_by stmt s.db) (s.at + 1) s.pool).work 0)) is
 
 -- a write adds its work to the totals
-pub work_added : (old new : BookView) (who : Who) (stmt : StmtTree) (reply : Reply) → new.options ≡ old.options → log_tree new.log ≡ log_tree old.log ++ written_by who stmt reply ∷ [] → reply ≡ (effect stmt (state_of old).db).1
-    → (state_of new).totals.work ≡ (state_of old).totals.work + write_work stmt (state_of old)
+pub work_added : (old new : BookView) (who : Who) (stmt : Stmt) (reply : Reply) → new.options ≡ old.options → new.log ≡ old.log ++ written_by who stmt reply ∷ [] → reply ≡ (effect (stmt_tree stmt) (state_of old).db).1
+    → (state_of new).totals.work ≡ (state_of old).totals.work + write_work (stmt_tree stmt) (state_of old)
 work_added old new who stmt reply options log is =
-    ap (λ (s : LogState). s.totals.work) (ap (λ (o : PoolOptions). run_of o (log_tree new.log)) options ∙ ap (run_of old.options) log ∙ run_more old.options (log_tree old.log) (written_by who stmt reply))
-    ∙ work_after (state_of old) stmt reply is
+    let event : Event = written_by who stmt reply in
+    ap (λ (s : LogState). s.totals.work) (ap (λ (o : PoolOptions). run_of o (log_tree new.log)) options ∙ ap (run_of old.options) (logged_tree old.log new.log event log) ∙ run_more old.options (log_tree old.log) (event_tree event))
+    ∙ work_after (state_of old) (stmt_tree stmt) reply is

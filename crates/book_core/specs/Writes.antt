@@ -1,5 +1,6 @@
 -- What a write comes to, what it logs, and what it costs.
 use Rattle.std.specs.Prelude.{◌≡◌, ℕ, ◌+◌, ◌==◌, List, false, if◌then◌else◌, Some, Result, IfOk}
+use Rattle.sql_tree.specs.declared.tree.Stmt.{Stmt}
 use Rattle.sql_tree.specs.Tree.{StmtTree}
 use Rattle.sql_grammar.specs.Formed.{IsFormed}
 use Rattle.sql_semantics.specs.Effect.{effect}
@@ -11,11 +12,13 @@ use Rattle.pool_policy.specs.declared.entry.Who.{Who}
 use Rattle.pool_policy.specs.Versions.{is_of}
 use Rattle.pool_policy.specs.Writes.{write_of}
 use Rattle.table_store.specs.Content.{version_of}
-use Rattle.run_log.specs.Events.{EventTree, Writes}
+use Rattle.run_log.specs.declared.event.Event.{Event}
+use Rattle.run_log.specs.declared.event.Act.TheVariants.{Write}
 use Rattle.run_log.specs.Fold.{LogState, write_load}
 use Rattle.run_log.specs.Touches.{touched_by}
 use Rattle.store_changes.specs.Outcomes.{outcome_over}
 use Rattle.store_changes.specs.declared.outcome.Ready.{Ready}
+use Rattle.book_core.specs.BookView.{event_of}
 
 -- ## What is logged
 
@@ -29,9 +32,9 @@ abbrev pub reply_count : Reply → ℕ
 reply_count (Rows count) = count
 reply_count _ = 0
 
--- the event of a write, with its statement as a plain tree
-abbrev pub written_by : Who → StmtTree → Reply → EventTree
-written_by who stmt reply = record { session = who.session; statement = who.statement; act = Writes (Some stmt) (reply_code reply) (reply_count reply) }
+-- the event of a write
+abbrev pub written_by : Who → Stmt → Reply → Event
+written_by who stmt reply = event_of who (Write (Some stmt) (reply_code reply) (reply_count reply))
 
 -- ## What it costs
 

@@ -3,7 +3,6 @@ ghost use Rattle.std.specs.Prelude.{◌≡◌, ◌+◌, ◌<◌, ◌≤◌, ◌^
 ghost use Rattle.std.specs.List.{AllByRecursion};
 ghost use Rattle.pool_policy.specs.Writes.{write_of};
 ghost use Rattle.run_log.specs.declared.event.Act.TheVariants as act;
-ghost use Rattle.run_log.specs.Events.{log_tree};
 ghost use Rattle.run_log.specs.Totals.{AreSmall, with_work, with_written};
 ghost use Rattle.run_log.specs.Touches.{touched_by};
 ghost use Rattle.sql_grammar.specs.Formed.{IsFormed};
@@ -20,7 +19,7 @@ use crate::events::{count_event, event, make_room, push_event};
 use bat_core::Operate;
 use cell_core::{Memory, Steps};
 use pool_policy::{PoolEntry, Who};
-use run_log::{Act, Totals};
+use run_log::{Act, StmtText, Totals};
 use score_hook::Scorer;
 use sql_semantics::{Refusal, Reply};
 use sql_tree::Stmt;
@@ -60,7 +59,7 @@ fn reply_to(rows: Option<u64>) -> Reply
 }
 
 /// A change and its reply, as they are logged.
-fn written(stmt: Stmt, reply: &Reply) -> Act
+fn written(stmt: StmtText, reply: &Reply) -> Act
     ensures { result ≡ act.Write (Some stmt) (reply_code reply.now) (reply_count reply.now) }
 {
     Act::Write {
@@ -115,35 +114,31 @@ impl Book {
     /// comes back with the new rows; what goes to make room is scored by the scorer that is lent, which
     /// is of the kind of the options. One event. The counter rises by the work that the write adds to the
     /// totals, in pairs of cells; where the plan of a DELETE or an UPDATE overflows, by at most its load
-    /// more. The log keeps the statement as it is handed in. Where memory runs out, nothing is done.
+    /// more. The log keeps the statement's text. Where memory runs out, nothing is done.
     pub fn write<E: Operate, L: Ledger>(
         &mut self,
         alloc: Global,
         scorer: &Scorer,
         who: Who,
-        stmt: Stmt,
+        stmt: &Stmt,
         kernel: &E,
         steps: &mut Steps<L>,
     ) -> Result<Reply, Memory>
         requires kind { scorer.now.kind ≡ self.old.options.evict }
         requires weights { scorer.now.weights.items ≡ self.old.options.weights }
         requires session { who.session < 17 }
-        requires change { is_change (stmt_tree stmt) ≡ true }
-        requires formed { IsFormed (stmt_tree stmt) }
+        requires change { is_change (stmt_tree stmt.now) ≡ true }
+        requires formed { IsFormed (stmt_tree stmt.now) }
         ensures options { self.new.options ≡ self.old.options }
-        ensures reply { IfOk result (λ reply. reply ≡ (effect (stmt_tree stmt) (state_of self.old).db).1) }
-        ensures logged { IfOk result (λ reply. log_tree self.new.log ≡ log_tree self.old.log ++ written_by who (stmt_tree stmt) reply ∷ []) }
-        ensures work { OnOk result ((state_of self.new).totals.work ≡ (state_of self.old).totals.work + write_work (stmt_tree stmt) (state_of self.old)) }
-        ensures counted { IfOk result (λ reply. Counts steps.old steps.new (write_work (stmt_tree stmt) (state_of self.old)) (write_lost (stmt_tree stmt) (state_of self.old).db)) }
+        ensures reply { IfOk result (λ reply. reply ≡ (effect (stmt_tree stmt.now) (state_of self.old).db).1) }
+        ensures logged { IfOk result (λ reply. self.new.log ≡ self.old.log ++ written_by who stmt.now reply ∷ []) }
+        ensures work { OnOk result ((state_of self.new).totals.work ≡ (state_of self.old).totals.work + write_work (stmt_tree stmt.now) (state_of self.old)) }
+        ensures counted { IfOk result (λ reply. Counts steps.old steps.new (write_work (stmt_tree stmt.now) (state_of self.old)) (write_lost (stmt_tree stmt.now) (state_of self.old).db)) }
         ensures same { OnErr result (self.new ≡ self.old) }
     {
-        match prepare(alloc, &self.store, &stmt, kernel, steps) {
-            Ok(outcome) => self.settle(alloc, scorer, who, stmt, outcome, steps),
-            Err(Memory) => {
-                drop(stmt);
-                Err(Memory)
-            }
-        }
+        let outcome = prepare(alloc, &self.store, stmt, kernel, steps)?;
+        let text = StmtText::of(alloc, stmt)?;
+        self.settle(alloc, scorer, who, text, outcome, steps)
     }
 
     /// What a statement comes to is done, or its refusal is logged.
@@ -152,7 +147,7 @@ impl Book {
         alloc: Global,
         scorer: &Scorer,
         who: Who,
-        stmt: Stmt,
+        stmt: StmtText,
         outcome: Outcome,
         steps: &mut Steps<L>,
     ) -> Result<Reply, Memory>
@@ -161,7 +156,7 @@ impl Book {
         requires outcome { IsOutcome (stmt_tree stmt) outcome.ready outcome.work (state_of self.old) }
         ensures options { self.new.options ≡ self.old.options }
         ensures reply { IfOk result (λ reply. reply ≡ (effect (stmt_tree stmt) (state_of self.old).db).1) }
-        ensures logged { IfOk result (λ reply. log_tree self.new.log ≡ log_tree self.old.log ++ written_by who (stmt_tree stmt) reply ∷ []) }
+        ensures logged { IfOk result (λ reply. self.new.log ≡ self.old.log ++ written_by who stmt reply ∷ []) }
         ensures counted { OnOk result (steps.new ≡ steps.old + return_work (stmt_tree stmt) (state_of self.old)) }
         ensures same { OnErr result (self.new ≡ self.old) }
     {
@@ -176,14 +171,14 @@ impl Book {
     fn refuse_change(
         &mut self,
         who: Who,
-        stmt: Stmt,
+        stmt: StmtText,
         refusal: Refusal,
         load: u128,
     ) -> Result<Reply, Memory>
         requires { IsOutcome (stmt_tree stmt) (Err refusal) load (state_of self.old) }
         ensures options { self.new.options ≡ self.old.options }
         ensures reply { IfOk result (λ reply. reply ≡ answer.Refused refusal) }
-        ensures logged { IfOk result (λ reply. log_tree self.new.log ≡ log_tree self.old.log ++ written_by who (stmt_tree stmt) reply ∷ []) }
+        ensures logged { IfOk result (λ reply. self.new.log ≡ self.old.log ++ written_by who stmt reply ∷ []) }
         ensures same { OnErr result (self.new ≡ self.old) }
     {
         make_room(&mut self.log)?;
@@ -202,7 +197,7 @@ impl Book {
         alloc: Global,
         scorer: &Scorer,
         who: Who,
-        stmt: Stmt,
+        stmt: StmtText,
         ready: Ready,
         load: u128,
         steps: &mut Steps<L>,
@@ -212,7 +207,7 @@ impl Book {
         requires outcome { IsOutcome (stmt_tree stmt) (Ok ready) load (state_of self.old) }
         ensures options { self.new.options ≡ self.old.options }
         ensures reply { IfOk result (λ reply. reply ≡ reply_with ready.rows) }
-        ensures logged { IfOk result (λ reply. log_tree self.new.log ≡ log_tree self.old.log ++ written_by who (stmt_tree stmt) reply ∷ []) }
+        ensures logged { IfOk result (λ reply. self.new.log ≡ self.old.log ++ written_by who stmt reply ∷ []) }
         ensures counted { OnOk result (steps.new ≡ steps.old + (write_of (touched_by (stmt_tree stmt) (state_of self.old).db) ((state_of self.old).at + 1) (state_of self.old).pool).work) }
         ensures same { OnErr result (self.new ≡ self.old) }
     {

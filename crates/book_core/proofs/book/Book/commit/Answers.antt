@@ -11,14 +11,13 @@ use Rattle.run_log.specs.declared.event.Event.{Event}
 use Rattle.run_log.specs.declared.event.Act.{Act}
 use Rattle.run_log.specs.declared.event.Act.TheVariants as act
 use Rattle.run_log.specs.declared.event.Totals.{Totals}
-use Rattle.run_log.specs.Events.{log_tree}
 use Rattle.run_log.specs.Totals.{AreSmall, with_pool}
 use Rattle.book_core.specs.declared.book.Book.TheInside.{Inside}
 use Rattle.book_core.specs.BookView.{BookView, event_of, state_of}
 use Rattle.book_core.specs.Kept.{book_shown}
 use Rattle.book_core.specs.Writes.{IsOutcome, reply_code, reply_count, written_by}
 use Rattle.book_core.proofs.BookLemmas.{small_of}
-use Rattle.book_core.proofs.WriteBook.{back_is, carried_work, change_early, change_fits, change_later, change_prepared, commit_book, few_change, outcome_inside, small_change, written_tree}
+use Rattle.book_core.proofs.WriteBook.{back_is, carried_work, change_early, change_fits, change_later, change_prepared, commit_book, few_change, outcome_inside, small_change}
 use Rattle.book_core.proofs.WriteLemmas.{done_code}
 use Rattle.book_core.proofs.book.Book.commit.Given as Given
 use Rattle.book_core.proofs.book.Book.commit.Goals as goal
@@ -126,8 +125,7 @@ invariant_of-self-2 g c =
 
 pub returns-clause-logged : goal.returns-clause-logged
 returns-clause-logged g c =
-    written_tree c.self.inside.log.items c.push_event.new.log.items c.args.who c.args.stmt c.reply_to-reply.result (logged g (goal.at.returns-clause-logged g c).After-push_event)
-    ∙ ap (λ (v : BookView). log_tree v.log ++ written_by c.args.who (stmt_tree c.args.stmt) c.reply_to-reply.result ∷ []) c.self.view_is
+    logged g (goal.at.returns-clause-logged g c).After-push_event ∙ ap (λ (v : BookView). v.log ++ written_by c.args.who c.args.stmt c.reply_to-reply.result ∷ []) c.self.view_is
 
 pub returns-clause-counted : goal.returns-clause-counted
 returns-clause-counted g c =

@@ -6,13 +6,12 @@ use Rattle.run_log.specs.declared.event.Event.{Event}
 use Rattle.run_log.specs.declared.event.Act.{Act}
 use Rattle.run_log.specs.declared.event.Act.TheVariants as act
 use Rattle.run_log.specs.declared.event.Totals.{Totals}
-use Rattle.run_log.specs.Events.{log_tree}
 use Rattle.run_log.specs.Totals.{AreSmall, with_pool}
 use Rattle.book_core.specs.declared.book.Book.TheInside.{Inside}
 use Rattle.book_core.specs.BookView.{BookView, event_of}
 use Rattle.book_core.specs.Writes.{reply_code, written_by}
 use Rattle.book_core.proofs.BookLemmas.{IsQuiet, small_of}
-use Rattle.book_core.proofs.WriteBook.{outcome_inside, refused_book, written_tree}
+use Rattle.book_core.proofs.WriteBook.{outcome_inside, refused_book}
 use Rattle.book_core.proofs.WriteLemmas.{refused_code}
 use Rattle.book_core.proofs.book.Book.refuse_change.Goals as goal
 
@@ -38,5 +37,5 @@ invariant_of-self-2 c =
 
 pub returns-clause-logged : goal.returns-clause-logged
 returns-clause-logged c =
-    written_tree c.self.inside.log.items c.push_event.new.log.items c.args.who c.args.stmt (Refused c.args.refusal) (c.push_event.ensures.items ∙ (λ i. c.in_ok-make_room.ensures.items i ++ c.event.ensures i ∷ []) ∙ ap (λ (a : Act). c.self.inside.log.items ++ event_of c.args.who a ∷ []) c.written.ensures)
-    ∙ ap (λ (v : BookView). log_tree v.log ++ written_by c.args.who (stmt_tree c.args.stmt) (Refused c.args.refusal) ∷ []) c.self.view_is
+    c.push_event.ensures.items ∙ (λ i. c.in_ok-make_room.ensures.items i ++ c.event.ensures i ∷ []) ∙ ap (λ (a : Act). c.self.inside.log.items ++ event_of c.args.who a ∷ []) c.written.ensures
+    ∙ ap (λ (v : BookView). v.log ++ written_by c.args.who c.args.stmt (Refused c.args.refusal) ∷ []) c.self.view_is
