@@ -1,0 +1,56 @@
+-- The two scripts of a number, made of its draws.
+use Rattle.std.specs.Prelude.{ℕ, zero, suc, ◌+◌, ◌*◌, ◌%◌, List, ◌∷◌, ◌++◌, map, codes, decimal, flat_map}
+use Rattle.std.specs.List.{range_with_len}
+use Rattle.sql_tree.specs.Canon.{enclosed, listed}
+
+-- ## Draws
+
+-- the draw behind x
+abbrev pub next_draw : ℕ → ℕ
+next_draw x = (x * 1103515245 + 12345) % 2147483648
+
+-- the i-th draw behind x, where x itself counts as the 0th
+unfoldable pub draw : ℕ → ℕ → ℕ
+draw x zero = x
+draw x (suc i) = next_draw (draw x i)
+
+-- ## Changes
+
+-- a row that holds a draw, of which the last four digits are kept
+abbrev pub row_text : ℕ → List ℕ
+row_text drawn = enclosed (decimal (drawn % 10000))
+
+-- an INSERT of so many rows, which hold the draws behind x
+unfoldable pub insert_text : ℕ → ℕ → List ℕ
+insert_text rows x = codes "INSERT INTO g VALUES " ++ listed (map (λ i. row_text (draw x i)) (range_with_len 1 rows))
+
+-- so many INSERTs of so many rows, which hold the draws behind x
+unfoldable pub inserts : ℕ → ℕ → ℕ → List (List ℕ)
+inserts count rows x = map (λ k. insert_text rows (draw x (rows * k))) (range_with_len 0 count)
+
+-- the statements of the first script: a table, and 20 INSERTs of 500 rows each
+unfoldable pub changes : ℕ → List (List ℕ)
+changes seed = codes "CREATE TABLE g (a INT)" ∷ inserts 20 500 seed
+
+-- ## Queries
+
+-- a query for a range, of which the next draw gives the low end and the one behind it the width
+abbrev pub range_text : ℕ → ℕ → List ℕ
+range_text low width = codes "SELECT COUNT(*), SUM(a) FROM g WHERE a BETWEEN " ++ decimal low ++ codes " AND " ++ decimal (low + width)
+
+unfoldable pub query_text : ℕ → List ℕ
+query_text x = range_text (draw x 1 % 9000) (draw x 2 % 1000)
+
+-- so many queries by the draws behind x, two for each
+unfoldable pub queries_behind : ℕ → ℕ → List (List ℕ)
+queries_behind count x = map (λ k. query_text (draw x (2 * k))) (range_with_len 0 count)
+
+-- the statements of the second script: 100 queries, by the draws behind those of the first
+unfoldable pub queries : ℕ → List (List ℕ)
+queries seed = queries_behind 100 (draw seed (500 * 20))
+
+-- ## Texts
+
+-- the text of a script: each statement, and `;` behind it
+abbrev pub script_text : List (List ℕ) → List ℕ
+script_text statements = flat_map (λ statement. statement ++ codes ";") statements
