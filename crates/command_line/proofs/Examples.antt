@@ -1,25 +1,24 @@
 -- Worked cases of the grammar.
-use Rattle.std.proofs.Common.{◌≡◌, [], ◌∷◌, ◌++◌, replicate, true, false, Some, None, refl, codes}
-use Rattle.score_hook.specs.declared.stats.Evict.TheVariants.{Lru, Weighted}
-use Rattle.pool_policy.specs.declared.options.Admit.TheVariants.{All, Credit}
-use Rattle.command_line.specs.declared.command.RunOptions.{RunOptions}
-use Rattle.command_line.specs.declared.command.Command.TheVariants.{Run, Replay}
-use Rattle.command_line.specs.Command.{command_named}
+use Rattle.std.proofs.Common.{◌≡◌, [], ◌∷◌, ◌++◌, replicate, true, Some, None, refl, codes}
+use Rattle.score_hook.specs.declared.stats.Evict.TheVariants.{Weighted}
+use Rattle.pool_policy.specs.declared.options.Admit.TheVariants.{Credit}
+use Rattle.command_line.specs.declared.command.Command.TheVariants.{Run, Replay, Generate}
+use Rattle.command_line.specs.Command.{command_named, default_options, options_in}
 use Rattle.command_line.specs.Weights.{operator_named, weights_in, weights_of}
+use Rattle.command_line.specs.Words.{uses_of}
 
-usual : RunOptions
-usual = record { budget = 16777216; evict = Lru; admit = All; credits = 3; weights = []; events = false }
+-- the default options are those of words without one
+default : options_in (uses_of []) ≡ Some default_options
+default = refl
 
 with_events :
-    command_named (codes "run" ∷ codes "--events" ∷ codes "a.sql" ∷ codes "b.sql" ∷ []) ≡ Some (Run (record usual { events = true }) (codes "a.sql" ∷ codes "b.sql" ∷ []))
-unfolding usual
+    command_named (codes "run" ∷ codes "--events" ∷ codes "a.sql" ∷ codes "b.sql" ∷ []) ≡ Some (Run (record default_options { events = true }) (codes "a.sql" ∷ codes "b.sql" ∷ []))
 with_events = refl
 
 -- an option behind a file, and its value behind `=`
 by_credits :
     command_named (codes "replay" ∷ codes "schedule" ∷ codes "--admit=credit" ∷ codes "a.sql" ∷ codes "--credits" ∷ codes "1" ∷ [])
-    ≡ Some (Replay (record usual { admit = Credit; credits = 1 }) (codes "schedule") (codes "a.sql" ∷ []))
-unfolding usual
+    ≡ Some (Replay (record default_options { admit = Credit; credits = 1 }) (codes "schedule") (codes "a.sql" ∷ []))
 by_credits = refl
 
 -- all operators weigh 1, but for the eighth
@@ -35,21 +34,39 @@ by_weights :
     ∷ codes "schedule"
     ∷ codes "a.sql"
     ∷ [])
-    ≡ Some (Replay (record usual { budget = 584; evict = Weighted; weights = replicate 7 1 ++ 100 ∷ replicate 27 1 }) (codes "schedule") (codes "a.sql" ∷ []))
-unfolding usual operator_named weights_of
+    ≡ Some (Replay (record default_options { budget = 584; evict = Weighted; weights = replicate 7 1 ++ 100 ∷ replicate 27 1 }) (codes "schedule") (codes "a.sql" ∷ []))
+unfolding operator_named weights_of
 by_weights = refl
 
 -- without a list all weigh 1
 evenly :
-    command_named (codes "run" ∷ codes "--evict=weighted" ∷ codes "a.sql" ∷ []) ≡ Some (Run (record usual { evict = Weighted; weights = replicate 35 1 }) (codes "a.sql" ∷ []))
-unfolding usual
+    command_named (codes "run" ∷ codes "--evict=weighted" ∷ codes "a.sql" ∷ []) ≡ Some (Run (record default_options { evict = Weighted; weights = replicate 35 1 }) (codes "a.sql" ∷ []))
 evenly = refl
 
 -- behind `--` all are files
 behind_the_end :
-    command_named (codes "run" ∷ codes "-" ∷ codes "--" ∷ codes "--events" ∷ []) ≡ Some (Run usual (codes "-" ∷ codes "--events" ∷ []))
-unfolding usual
+    command_named (codes "run" ∷ codes "-" ∷ codes "--" ∷ codes "--events" ∷ []) ≡ Some (Run default_options (codes "-" ∷ codes "--events" ∷ []))
 behind_the_end = refl
+
+generated : command_named (codes "generate" ∷ codes "0001" ∷ []) ≡ Some (Generate 1)
+generated = refl
+
+-- an `--` with no file behind it
+generated_to_the_end : command_named (codes "generate" ∷ codes "1000000" ∷ codes "--" ∷ []) ≡ Some (Generate 1000000)
+generated_to_the_end = refl
+
+-- what stands behind `--` is a file, of which `generate` has none
+generated_of_a_file : command_named (codes "generate" ∷ codes "--" ∷ codes "1" ∷ []) ≡ None
+generated_of_a_file = refl
+
+generated_with_option : command_named (codes "generate" ∷ codes "1" ∷ codes "--events" ∷ []) ≡ None
+generated_with_option = refl
+
+generated_out_of_range : (command_named (codes "generate" ∷ codes "0" ∷ []) ≡ None) × (command_named (codes "generate" ∷ codes "1000001" ∷ []) ≡ None)
+generated_out_of_range = (refl, refl)
+
+no_number : (command_named (codes "generate" ∷ []) ≡ None) × (command_named (codes "generate" ∷ codes "-" ∷ []) ≡ None)
+no_number = (refl, refl)
 
 no_file : command_named (codes "run" ∷ []) ≡ None
 no_file = refl

@@ -13,10 +13,10 @@ use Rattle.score_hook.specs.Scores.{AreWeights, is_weight}
 use Rattle.pool_policy.specs.declared.options.Admit.TheVariants.{All}
 use Rattle.command_line.specs.declared.weights.Given.{Given}
 use Rattle.command_line.specs.declared.command.Command.{Command}
-use Rattle.command_line.specs.declared.command.Command.TheVariants.{Run, Replay}
+use Rattle.command_line.specs.declared.command.Command.TheVariants.{Run, Replay, Generate}
 use Rattle.command_line.specs.declared.command.RunOptions.{RunOptions}
 use Rattle.command_line.specs.Command as told
-use Rattle.command_line.specs.Command.{AreFit, IsFit, are_files, options_in, one_or, run_in, replay_in, replay_of, weights_for}
+use Rattle.command_line.specs.Command.{AreFit, IsFit, are_files, default_options, ends_here, generate_in, options_in, one_or, run_in, replay_in, replay_of, weights_for}
 use Rattle.command_line.specs.Numbers.{is_number, number_in}
 use Rattle.command_line.specs.Weights.{all_given, even_weights, given_in, given_of, operator_named, weight_for, weights_in, weights_of, weights_once, are_distinct}
 use Rattle.command_line.specs.Words.{Text, Uses, name_and_value, uses_named}
@@ -166,30 +166,36 @@ options_fit uses =
     map_any AreFit _ (told.flag_in uses.events) (λ events. record { budget = small; weighted = fit.0; plain = fit.1 }))))))
 
 -- the command that `make` makes of options, where there are files enough and not too many
-with_files : (files : List Text) (uses : Uses) (make : RunOptions → Command) → ((options : RunOptions) → (told.options_of (make options) ≡ options) × (told.files_of (make options) ≡ files))
+with_files : (files : List Text) (uses : Uses) (make : RunOptions → Command) → ((options : RunOptions) → AreFit options → (1 ≤ length files) × (length files ≤ 16) → IsFit (make options))
     → IfSome (cond (are_files files) (option_map make (options_in uses)) None) IsFit
 with_files files uses make made = by (are_files files) refl
   where
     by : (some : Bool) → are_files files ≡ some → IfSome (cond some (option_map make (options_in uses)) None) IsFit
     by false is = tt
-    by true is = map_known IsFit AreFit make (options_in uses) (options_fit uses) (λ options fit.
-        let few = passed 1 16 (length files) is in
-        let same = made options in
-        record {
-          options = subst AreFit (sym same.0) fit;
-          some = rw same.1 few.0;
-          few = rw same.1 few.1;
-        })
+    by true is = map_known IsFit AreFit make (options_in uses) (options_fit uses) (λ options fit. made options fit (passed 1 16 (length files) is))
 
 run_fit : (uses : Uses) → IfSome (run_in uses) IsFit
-run_fit uses = with_files uses.files uses (λ options. Run options uses.files) (λ options. (refl, refl))
+run_fit uses = with_files uses.files uses (λ options. Run options uses.files) (λ options fit many. record { options = fit; given = many.0; few = many.1 })
 
 replay_fit : (uses : Uses) → IfSome (replay_in uses) IsFit
 replay_fit uses = by uses.files
   where
     by : (files : List Text) → IfSome (replay_of uses files) IsFit
     by [] = tt
-    by (schedule ∷ files) = with_files files uses (λ options. Replay options schedule files) (λ options. (refl, refl))
+    by (schedule ∷ files) = with_files files uses (λ options. Replay options schedule files) (λ options fit many. record { options = fit; given = many.0; few = many.1 })
+
+default_fit : AreFit default_options
+default_fit = record { budget = omega arith; weighted = λ is. absurd (cc); plain = λ other. refl }
+
+-- what words behind `generate` name is fit
+pub generated_fit : (words : List Text) → IfSome (generate_in words) IsFit
+generated_fit [] = tt
+generated_fit (word ∷ words) = by (ends_here words)
+  where
+    by : (ends : Bool) → IfSome (cond ends (option_map Generate (number_in 1 1000000 word)) None) IsFit
+    by false = tt
+    by true = map_known IsFit (λ n. passes 1 1000000 n ≡ true) Generate (number_in 1 1000000 word) (number_passes 1 1000000 word)
+        (λ seed within. record { options = default_fit; given = passed 1 1000000 seed within; few = omega arith })
 
 -- a result that is one of these commands is fit
 pub fit_from : {E : Type 0} (result : Result (Option Command) E) (command : Option Command) → IfOk result (λ got. got ≡ command) → IfSome command IsFit → IfOk result (λ got. IfSome got IsFit)

@@ -8,10 +8,10 @@ use Rattle.pool_policy.specs.declared.options.Admit.{Admit}
 use Rattle.pool_policy.specs.declared.options.Admit.TheVariants.{All, Credit}
 use Rattle.command_line.specs.declared.command.RunOptions.{RunOptions}
 use Rattle.command_line.specs.declared.command.Command.{Command}
-use Rattle.command_line.specs.declared.command.Command.TheVariants.{Run, Replay}
+use Rattle.command_line.specs.declared.command.Command.TheVariants.{Run, Replay, Generate}
 use Rattle.command_line.specs.Numbers.{number_in}
 use Rattle.command_line.specs.Weights.{even_weights, weights_in}
-use Rattle.command_line.specs.Words.{Text, Uses, uses_named}
+use Rattle.command_line.specs.Words.{Text, Uses, is_end, uses_named}
 
 abbrev pub evict_in : Text → Option Evict
 evict_in text =
@@ -75,22 +75,40 @@ replay_of uses (schedule ∷ files) = if are_files files then option_map (λ opt
 abbrev pub replay_in : Uses → Option Command
 replay_in uses = replay_of uses uses.files
 
+-- no further word, but for an `--` that has no file behind it
+abbrev pub ends_here : List Text → Bool
+ends_here [] = true
+ends_here (word ∷ []) = is_end word
+ends_here (word ∷ more ∷ words) = false
+
+-- `generate`: one word, which is a number. It has no options and no files
+abbrev pub generate_in : List Text → Option Command
+generate_in [] = None
+generate_in (word ∷ words) = if ends_here words then option_map Generate (number_in 1 1000000 word) else None
+
 -- the command that words name
 abbrev pub command_named : List Text → Option Command
 command_named [] = None
 command_named (command ∷ words) =
     if bytes_eq command (codes "run") then option_and_then run_in (uses_named words)
-    else (if bytes_eq command (codes "replay") then option_and_then replay_in (uses_named words) else None)
+    else (if bytes_eq command (codes "replay") then option_and_then replay_in (uses_named words)
+    else (if bytes_eq command (codes "generate") then generate_in words else None))
 
 -- ## What is promised of commands
+
+-- the options where no word names one
+abbrev pub default_options : RunOptions
+default_options = record { budget = 16777216; evict = Lru; admit = All; credits = 3; weights = []; events = false }
 
 abbrev pub options_of : Command → RunOptions
 options_of (Run options files) = options
 options_of (Replay options schedule files) = options
+options_of (Generate seed) = default_options
 
 abbrev pub files_of : Command → List Text
 files_of (Run options files) = files
 files_of (Replay options schedule files) = files
+files_of (Generate seed) = []
 
 -- options that a pool and its scorer are made of
 pub record AreFit (options : RunOptions) : Type 0 where
@@ -98,8 +116,14 @@ pub record AreFit (options : RunOptions) : Type 0 where
   pub weighted : options.evict ≡ Weighted → AreWeights options.weights
   pub plain : options.evict ≢ Weighted → options.weights ≡ []
 
--- a command with such options, and 1 to 16 files
+-- a file, or a number from 1 to 1,000,000
+abbrev pub IsGiven : Command → Type 0
+IsGiven (Run options files) = 1 ≤ length files
+IsGiven (Replay options schedule files) = 1 ≤ length files
+IsGiven (Generate seed) = (1 ≤ seed) × (seed ≤ 1000000)
+
+-- a command with such options, which is given something to work on, and at most 16 files
 pub record IsFit (command : Command) : Type 0 where
   pub options : AreFit (options_of command)
-  pub some : 1 ≤ length (files_of command)
+  pub given : IsGiven command
   pub few : length (files_of command) ≤ 16

@@ -1,10 +1,11 @@
 //! The commands, and their options as values.
 ghost use Rattle.std.specs.Prelude.{◌≡◌, IfOk, IfSome};
 ghost use Rattle.std.specs.Option.{option_and_then};
-ghost use Rattle.command_line.specs.Command.{IsFit, are_files, command_named, replay_in, run_in};
+ghost use Rattle.command_line.specs.Command.{IsFit, are_files, command_named, ends_here, generate_in, replay_in, run_in};
 ghost use Rattle.command_line.specs.Told.{AreUtf8, texts_in, uses_in};
 ghost use Rattle.command_line.specs.Words.{uses_named};
 
+use crate::numbers::number_between;
 use crate::options::options_of;
 use crate::told::{found, values};
 use cell_core::{Memory, Sequence, Word, word_of};
@@ -52,6 +53,11 @@ pub enum Command {
         /// The files, 1 to 16.
         files: Sequence<Word>,
     },
+    /// Replays the two sample scripts of a number, one after the other, with the default options.
+    Generate {
+        /// The number, 1 to 1,000,000.
+        seed: u64,
+    },
 }
 
 /// The command that words name; `None` where they are outside the grammar.
@@ -67,6 +73,9 @@ pub fn command_of(alloc: Global, words: &[Word]) -> Result<Option<Command>, Memo
     }
     if command.text() == "replay" {
         return replay_of(alloc, more);
+    }
+    if command.text() == "generate" {
+        return Ok(generate_of(more));
     }
     Ok(None)
 }
@@ -96,6 +105,35 @@ fn replay_of(alloc: Global, words: &[Word]) -> Result<Option<Command>, Memory>
             Ok(command)
         }
         None => Ok(None),
+    }
+}
+
+/// `generate`, of the words behind it.
+fn generate_of(words: &[Word]) -> Option<Command>
+    ensures { result ≡ generate_in words.now }
+{
+    let [word, more @ ..] = words else {
+        return None;
+    };
+    if !ends_here(more) {
+        return None;
+    }
+    match number_between(word.text(), 1, 1_000_000) {
+        Some(seed) => Some(Command::Generate { seed }),
+        None => None,
+    }
+}
+
+/// Whether there is no further word, but for an `--` that has no file behind it.
+fn ends_here(words: &[Word]) -> bool
+    ensures { result ≡ ends_here words.now }
+{
+    match words {
+        [] => true,
+        [word, more @ ..] => match more {
+            [] => word.text() == "--",
+            [_, ..] => false,
+        },
     }
 }
 

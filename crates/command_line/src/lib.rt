@@ -3,7 +3,8 @@
 //! It stands on `cell_core` for words and operators, on `mal_tokens` for the operators' names, on
 //! `score_hook` and `pool_policy` for what the options choose, and on `text_bytes` for numbers.
 //! `specs/Words.antt` is the grammar of options and files in words, `specs/Numbers.antt` and
-//! `specs/Weights.antt` are those of the options' values, and `specs/Command.antt` says what they mean.
+//! `specs/Weights.antt` are those of the options' values, and `specs/Command.antt` says what they mean, and
+//! which word `generate` takes.
 //! `command_of` gives exactly the command that words name, and what it gives is fit for a pool and its
 //! scorer. What clap makes of the words is taken from its own contract: it is told that each option may be
 //! used again, so that it gives all the values under each name, and that each stands at most once is for the
@@ -18,3 +19,4 @@ mod told;
 mod weights;
 
 pub use command::{Command, RunOptions, command_of};
+pub use options::default_options;

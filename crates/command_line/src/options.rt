@@ -15,6 +15,20 @@ use pool_policy::Admit;
 use score_hook::Evict;
 use std::alloc::Global;
 
+/// The options where no word names one.
+pub fn default_options(alloc: Global) -> RunOptions
+    ensures { result ≡ told.default_options }
+{
+    RunOptions {
+        budget: 16_777_216,
+        evict: Evict::Lru,
+        admit: Admit::All,
+        credits: 3,
+        weights: Sequence::new(alloc),
+        events: false,
+    }
+}
+
 /// The options, if each is there at most once and its value is one.
 pub(crate) fn options_of(alloc: Global, matches: &ArgMatches) -> Result<Option<RunOptions>, Memory>
     ensures { IfOk result (λ options. options ≡ told.options_in (uses_in matches.now)) }
