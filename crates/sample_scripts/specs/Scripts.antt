@@ -34,10 +34,11 @@ changes seed = codes "CREATE TABLE g (a INT)" ∷ inserts 20 500 seed
 
 -- ## Queries
 
--- a query for a range, of which the next draw gives the low end and the one behind it the width
+-- a query for the range from a low end on, as wide as this
 abbrev pub range_text : ℕ → ℕ → List ℕ
 range_text low width = codes "SELECT COUNT(*), SUM(a) FROM g WHERE a BETWEEN " ++ decimal low ++ codes " AND " ++ decimal (low + width)
 
+-- a query whose range begins by the next draw behind x, and is as wide as the one after that says
 unfoldable pub query_text : ℕ → List ℕ
 query_text x = range_text (draw x 1 % 9000) (draw x 2 % 1000)
 
