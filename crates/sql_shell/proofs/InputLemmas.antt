@@ -4,7 +4,7 @@ use Rattle.std.specs.Prelude.{IfSome, IsUtf8, ◌==◌, ◌||◌}
 use Rattle.std.proofs.lemmas.Bool.{ne_eqb}
 use Rattle.causes.specs.Limits.{most_bytes}
 use Rattle.command_line.specs.declared.command.Command.{Command}
-use Rattle.command_line.specs.declared.command.Command.TheVariants.{Run, Replay}
+use Rattle.command_line.specs.declared.command.Command.TheVariants.{Run, Replay, Generate}
 use Rattle.command_line.specs.Command.{files_of}
 use Rattle.turn_lines.specs.Schedule.{Bad, Turns}
 use Rattle.sql_shell.specs.Failures.{status_of, at_of, is_by_bytes, is_by_content}
@@ -67,31 +67,38 @@ module _ (bytes now : List ℕ → Option (List ℕ)) (same : (other : List ℕ)
   pub turns_before : (command : Command) (turns : List ℕ) → AreTurns now command turns → AreTurns bytes command turns
   turns_before (Run options files) turns are = are
   turns_before (Replay options schedule files) turns are = (are.0, text_before schedule are.0 are.1, are.2)
+  turns_before (Generate seed) turns are = are
 
   pub wrong_before : (command : Command) (status at : ℕ) → IsWrongSchedule now command status at → IsWrongSchedule bytes command status at
   wrong_before (Run options files) status at is = is
   wrong_before (Replay options schedule files) status at is = (is.0, text_before schedule is.0 is.1, is.2)
+  wrong_before (Generate seed) status at is = is
 
 module _ (bytes : List ℕ → Option (List ℕ)) where
   -- the first script that isn't run is wrong first
   pub scripts_wrong : (command : Command) (status at : ℕ) → (texts : List (List ℕ)) → AreTexts bytes (files_of command) texts → IsFirstUnfit 1 texts status at → IsFirstWrong bytes command status at
   scripts_wrong (Run options files) status at texts told first = (texts, told, first)
   scripts_wrong (Replay options schedule files) status at texts told first = (texts, told, inl first)
+  scripts_wrong (Generate seed) status at [] told first = first
+  scripts_wrong (Generate seed) status at (text ∷ texts) told first = absurd told
 
   -- behind scripts that were read it is the schedule
   pub schedule_wrong : (command : Command) (scripts : List Script) (status at : ℕ) → AreCut bytes (files_of command) scripts → IsWrongSchedule bytes command status at → IsFirstWrong bytes command status at
   schedule_wrong (Run options files) scripts status at are wrong = absurd wrong
   schedule_wrong (Replay options schedule files) scripts status at are wrong = let of = are_of bytes files scripts are in (of.texts, of.told, inr (of.runnable, wrong))
+  schedule_wrong (Generate seed) scripts status at are wrong = absurd wrong
 
   -- a fault at a script, and at the schedule
-  pub scripts_reached : (command : Command) (at : ℕ) → (1 ≤ at) × CanBeRun bytes (take (at - 1) (files_of command)) → IsReached bytes command at
-  scripts_reached (Run options files) at reached = reached
-  scripts_reached (Replay options schedule files) zero reached = absurd (let low = reached.0 in omega (arith, low))
-  scripts_reached (Replay options schedule files) (suc at) reached = let back : suc at - 1 ≡ at = omega arith in subst (λ n. CanBeRun bytes (take n files)) back reached.1
+  pub scripts_reached : (command : Command) (at : ℕ) → at ≤ length (files_of command) → (1 ≤ at) × CanBeRun bytes (take (at - 1) (files_of command)) → IsReached bytes command at
+  scripts_reached (Run options files) at within reached = reached
+  scripts_reached (Replay options schedule files) zero within reached = absurd (let low = reached.0 in omega (arith, low))
+  scripts_reached (Replay options schedule files) (suc at) within reached = let back : suc at - 1 ≡ at = omega arith in subst (λ n. CanBeRun bytes (take n files)) back reached.1
+  scripts_reached (Generate seed) at within reached = absurd (let low = reached.0 in omega (arith, low, within))
 
   pub schedule_reached : (command : Command) (scripts : List Script) (at : ℕ) → AreCut bytes (files_of command) scripts → IsReplay command → at ≡ 0 → IsReached bytes command at
   schedule_reached (Run options files) scripts at are replay none = absurd replay
   schedule_reached (Replay options schedule files) scripts at are replay none = subst (IsReached bytes (Replay options schedule files)) (sym none) (can_be_run bytes files scripts are)
+  schedule_reached (Generate seed) scripts at are replay none = absurd replay
 
   -- ## What is told decides
 
@@ -102,6 +109,7 @@ module _ (bytes : List ℕ → Option (List ℕ)) where
   read_not_wrong (Replay options schedule files) scripts turns status at are of (inr told) =
       good_not_bad (length files) told.1.0 turns status at
       (subst (λ text. IsSchedule (length files) text turns) (told_text (bytes schedule) of.0 told.1.0 told.1.1 of.1) of.2) told.1.2
+  read_not_wrong (Generate seed) scripts turns status at are of told = told
 
   -- what is wrong first is what is told to be
   same_wrong : (command : Command) (s a status at : ℕ) → IsFirstWrong bytes command s a → IsToldWrong bytes command status at → (s ≡ status) × (a ≡ at)
@@ -112,6 +120,7 @@ module _ (bytes : List ℕ → Option (List ℕ)) where
   same_wrong (Replay options schedule files) s a status at (texts, are, inr last) (inr told) =
       one_bad (length files) told.1.0 s a status at
       (subst (λ text. IsBadSchedule (length files) text s a) (told_text (bytes schedule) last.1.0 told.1.0 told.1.1 last.1.1) last.1.2) told.1.2
+  same_wrong (Generate seed) s a status at first told = absurd first
 
   -- where all is told to be right, nothing is wrong
   right_not_wrong : (command : Command) (s a : ℕ) → IsToldRight bytes command → IsFirstWrong bytes command s a → ⊥
@@ -120,6 +129,7 @@ module _ (bytes : List ℕ → Option (List ℕ)) where
   right_not_wrong (Replay options schedule files) s a right (texts, are, inr last) =
       good_not_bad (length files) right.1.0 right.1.1 s a right.1.3
       (subst (λ text. IsBadSchedule (length files) text s a) (told_text (bytes schedule) last.1.0 right.1.0 right.1.2 last.1.1) last.1.2)
+  right_not_wrong (Generate seed) s a right first = first
 
   -- ## What ends a run before its first statement
 

@@ -2,3 +2,5 @@ pub mod TextLemmas
 pub mod ScriptLemmas
 pub mod InputLemmas
 pub mod PrintLemmas
+pub mod AnswerLemmas
+pub mod GeneratedLemmas

@@ -1,8 +1,8 @@
--- What a command reads before its first statement: its scripts, and its schedule.
+-- What a command reads before its first statement: its scripts, and its schedule. A `generate` reads nothing.
 use Rattle.std.specs.Prelude.{◌≡◌, ℕ, zero, suc, ◌-◌, ◌≤◌, ◌<◌, ◌⊎◌, List, [], length, take, Option, Some, IfSome, IsUtf8}
 use Rattle.causes.specs.Limits.{most_bytes}
 use Rattle.command_line.specs.declared.command.Command.{Command}
-use Rattle.command_line.specs.declared.command.Command.TheVariants.{Run, Replay}
+use Rattle.command_line.specs.declared.command.Command.TheVariants.{Run, Replay, Generate}
 use Rattle.turn_lines.specs.Schedule.{Bad, Turns, schedule_of}
 use Rattle.sql_shell.specs.Scripts.{AreRunnable, AreTexts, AreToldFirst, CanBeRun, IsFirstUnfit}
 
@@ -28,6 +28,7 @@ pub data IsBadSchedule (sessions : ℕ) (text : List ℕ) (status at : ℕ) : Ty
 abbrev pub AreTurns : (List ℕ → Option (List ℕ)) → Command → List ℕ → Type 0
 AreTurns bytes (Run options files) turns = turns ≡ []
 AreTurns bytes (Replay options schedule files) turns = (text : List ℕ) × IsText bytes schedule text × IsSchedule (length files) text turns
+AreTurns bytes (Generate seed) turns = turns ≡ []
 
 -- ## What is wrong first
 
@@ -39,17 +40,20 @@ HasBadSchedule bytes schedule sessions status at = (text : List ℕ) × IsText b
 abbrev pub IsReplay : Command → Type 0
 IsReplay (Run options files) = ⊥
 IsReplay (Replay options schedule files) = Unit {0}
+IsReplay (Generate seed) = ⊥
 
 -- it has one that has no turns
 abbrev pub IsWrongSchedule : (List ℕ → Option (List ℕ)) → Command → ℕ → ℕ → Type 0
 IsWrongSchedule bytes (Run options files) status at = ⊥
 IsWrongSchedule bytes (Replay options schedule files) status at = HasBadSchedule bytes schedule (length files) status at
+IsWrongSchedule bytes (Generate seed) status at = ⊥
 
 -- the first of the scripts that isn't run, or behind them the schedule, has this status and place
 abbrev pub IsFirstWrong : (List ℕ → Option (List ℕ)) → Command → ℕ → ℕ → Type 0
 IsFirstWrong bytes (Run options files) status at = (texts : List (List ℕ)) × AreTexts bytes files texts × IsFirstUnfit 1 texts status at
 IsFirstWrong bytes (Replay options schedule files) status at =
     (texts : List (List ℕ)) × AreTexts bytes files texts × (IsFirstUnfit 1 texts status at ⊎ (AreRunnable texts × HasBadSchedule bytes schedule (length files) status at))
+IsFirstWrong bytes (Generate seed) status at = ⊥
 
 -- all of the files are told, and can be run
 abbrev pub AreToldRunnable : (List ℕ → Option (List ℕ)) → List (List ℕ) → Type 0
@@ -61,14 +65,17 @@ IsToldWrong bytes (Run options files) status at = (texts : List (List ℕ)) × A
 IsToldWrong bytes (Replay options schedule files) status at =
     ((texts : List (List ℕ)) × AreToldFirst bytes files texts × IsFirstUnfit 1 texts status at)
     ⊎ (AreToldRunnable bytes files × ((text : List ℕ) × (bytes schedule ≡ Some text) × IsBadSchedule (length files) text status at))
+IsToldWrong bytes (Generate seed) status at = ⊥
 
 -- all is told, and nothing is wrong
 abbrev pub IsToldRight : (List ℕ → Option (List ℕ)) → Command → Type 0
 IsToldRight bytes (Run options files) = AreToldRunnable bytes files
 IsToldRight bytes (Replay options schedule files) = AreToldRunnable bytes files × ((text turns : List ℕ) × (bytes schedule ≡ Some text) × IsSchedule (length files) text turns)
+IsToldRight bytes (Generate seed) = Unit {0}
 
 -- reading came as far as this file, where the schedule is file 0 and comes last: those before it can be run, if bytes are told of them
 abbrev pub IsReached : (List ℕ → Option (List ℕ)) → Command → ℕ → Type 0
 IsReached bytes (Run options files) at = (1 ≤ at) × CanBeRun bytes (take (at - 1) files)
 IsReached bytes (Replay options schedule files) zero = CanBeRun bytes files
 IsReached bytes (Replay options schedule files) (suc at) = CanBeRun bytes (take at files)
+IsReached bytes (Generate seed) at = ⊥

@@ -3,3 +3,5 @@ pub mod Scripts
 pub mod Inputs
 pub mod Ready
 pub mod Served
+pub mod Generated
+pub mod Answered

@@ -2,6 +2,7 @@
 ghost use Rattle.std.specs.Prelude.{◌≡◌, ◌≢◌, ◌≤◌, [], ℕ, List, true, length, IfOk, IfErr, IsUtf8};
 ghost use Rattle.std.specs.List.{AllByRecursion};
 ghost use Rattle.causes.specs.Faults.{Rose};
+ghost use Rattle.sql_shell.specs.Answered as answered;
 ghost use Rattle.sql_shell.specs.Failures.{at_of, is_by_content, status_of};
 ghost use Rattle.sql_shell.specs.Inputs.{AreTurns, HasBadSchedule, IsBadSchedule, IsFirstWrong, IsReached, IsReplay, IsSchedule, IsText, IsWrongSchedule};
 ghost use Rattle.command_line.specs.Command.{files_of as files_in, options_of as options_in};
@@ -10,7 +11,7 @@ ghost use Rattle.sql_shell.specs.Scripts.{AreCut};
 use crate::scripts::{Failure, Script, read_scripts};
 use causes::{ReadError, Scripts, read_all};
 use cell_core::Word;
-use command_line::{Command, RunOptions};
+use command_line::{Command, RunOptions, default_options};
 use std::alloc::Global;
 use turn_lines::{ScheduleError, turns_of};
 
@@ -30,16 +31,29 @@ fn files_of(command: &Command) -> &[Word]
     match command {
         Command::Run { files, .. } => files.as_slice(),
         Command::Replay { files, .. } => files.as_slice(),
+        Command::Generate { .. } => &[],
     }
 }
 
 /// The options of a command.
-pub fn options_of(command: Command) -> RunOptions
+pub fn options_of(alloc: Global, command: Command) -> RunOptions
     ensures { result ≡ options_in command }
 {
     match command {
         Command::Run { options, .. } => options,
         Command::Replay { options, .. } => options,
+        Command::Generate { .. } => default_options(alloc),
+    }
+}
+
+/// The number of a `generate`.
+pub fn seed_of(command: &Command) -> Option<u64>
+    ensures { result ≡ answered.seed_of command.now }
+{
+    match command {
+        Command::Run { .. } => None,
+        Command::Replay { .. } => None,
+        Command::Generate { seed } => Some(*seed),
     }
 }
 
@@ -91,6 +105,7 @@ fn read_turns<S: Scripts>(
             files,
             ..
         } => read_schedule(alloc, source, schedule, files.len() as u32),
+        Command::Generate { .. } => Ok(Vec::new(alloc)),
     }
 }
 

@@ -144,7 +144,7 @@ fn play<E: Operate, L: Ledger>(
 }
 
 /// The pool of a run with these options.
-fn pool_for(options: RunOptions) -> PoolOptions
+pub(crate) fn pool_for(options: RunOptions) -> PoolOptions
     ensures { result ≡ pool_of options }
 {
     PoolOptions {

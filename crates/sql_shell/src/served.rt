@@ -4,13 +4,15 @@ ghost use Rattle.std.specs.Io.KnownBytes.{Appends};
 ghost use Rattle.causes.specs.Faults.{AppendsPrefix, Rose};
 ghost use Rattle.run_log.specs.Events.{log_tree};
 ghost use Rattle.command_line.specs.Command.{command_named, files_of};
+ghost use Rattle.sql_shell.specs.Answered.{IsAnswered};
 ghost use Rattle.sql_shell.specs.Failures.{status_of, at_of};
 ghost use Rattle.sql_shell.specs.Inputs.{IsFirstWrong, IsReached, IsToldRight, IsToldWrong};
 ghost use Rattle.sql_shell.specs.Ready.{AreReady, IsServedBy};
-ghost use Rattle.sql_shell.specs.Served.{IsRun, is_status};
+ghost use Rattle.sql_shell.specs.Served.{is_status};
 
-use crate::inputs::{Inputs, options_of, read_inputs};
-use crate::produce::produce;
+use crate::generate::serve_generated;
+use crate::inputs::{Inputs, options_of, read_inputs, seed_of};
+use crate::produce::{Produced, produce};
 use crate::scripts::{Failure, STATUS_SERVED, STATUS_UNWRITTEN};
 use bat_core::Operate;
 use causes::{Scripts, Sink, write_all};
@@ -39,8 +41,9 @@ pub struct Served {
 /// Does all that the program does: reads the scripts that the words name, and the schedule of a replay, runs
 /// the scripts as sessions that share tables and a pool of results, event by event in the order of the
 /// schedule, and writes the replies, the history of accepted changes, the pool's totals, and the log where
-/// it is asked for. The counter rises by the work, and beyond it by no more than the loads of the plans that
-/// overflow.
+/// it is asked for. For `generate` it reads nothing, runs the sample scripts of the number, and writes the
+/// number and the pool's totals. The counter rises by the work, and beyond it by no more than the loads of
+/// the plans that overflow.
 pub fn top<S: Scripts, K: Sink, E: Operate, L: Ledger>(
     alloc: Global,
     words: &[Word],
@@ -49,11 +52,12 @@ pub fn top<S: Scripts, K: Sink, E: Operate, L: Ledger>(
     kernel: &E,
     steps: &mut Steps<L>,
 ) -> Served
-    // The headline: what is written is the meaning of the scripts, by the log of this run.
+    // The headline: what is written is the meaning of the scripts, by the log of this run; for `generate` it is
+    // the totals of the log.
     ensures served { result.status ≡ 0 → IfSome (command_named words.now) (λ command.
-        (text : List ℕ) × Appends (K.contents out.old) (K.contents out.new) text × IsRun (S.bytes_of scripts.old) command text (log_tree result.log) result.work steps.old steps.new) }
+        (text : List ℕ) × Appends (K.contents out.old) (K.contents out.new) text × IsAnswered (S.bytes_of scripts.old) command text (log_tree result.log) result.work steps.old steps.new) }
     ensures prefix { result.status ≡ 3 → IfSome (command_named words.now) (λ command.
-        (text : List ℕ) × AppendsPrefix (K.contents out.old) (K.contents out.new) text × IsRun (S.bytes_of scripts.old) command text (log_tree result.log) result.work steps.old steps.new) }
+        (text : List ℕ) × AppendsPrefix (K.contents out.old) (K.contents out.new) text × IsAnswered (S.bytes_of scripts.old) command text (log_tree result.log) result.work steps.old steps.new) }
 
     // When each other status comes, and what it is about.
     ensures words { command_named words.now ≡ None → (result.status ≡ 1) × (result.at ≡ 0) ⊎ (result.status ≡ 5) }
@@ -84,14 +88,24 @@ pub fn top<S: Scripts, K: Sink, E: Operate, L: Ledger>(
         Ok(None) => return failed(alloc, Failure::Words),
         Err(Memory) => return failed(alloc, Failure::Memory),
     };
-    match read_inputs(alloc, scripts, &command) {
-        Ok(inputs) => serve(alloc, options_of(command), inputs, out, kernel, steps),
-        Err(failure) => failed(alloc, failure),
+    match seed_of(&command) {
+        Some(seed) => serve_generated(alloc, seed, out, kernel, steps),
+        None => match read_inputs(alloc, scripts, &command) {
+            Ok(inputs) => serve(
+                alloc,
+                options_of(alloc, command),
+                inputs,
+                out,
+                kernel,
+                steps,
+            ),
+            Err(failure) => failed(alloc, failure),
+        },
     }
 }
 
 /// A run that wrote nothing.
-fn failed(alloc: Global, failure: Failure) -> Served
+pub(crate) fn failed(alloc: Global, failure: Failure) -> Served
     ensures status { result.status ≡ status_of failure }
     ensures at { result.at ≡ at_of failure }
     ensures log { result.log ≡ [] }
@@ -126,17 +140,28 @@ fn serve<K: Sink, E: Operate, L: Ledger>(
 {
     match produce(alloc, options, inputs, kernel, steps) {
         Err(Memory) => failed(alloc, Failure::Memory),
-        Ok(produced) => {
-            let status = match write_all(out, produced.text.as_slice()) {
-                Ok(()) => STATUS_SERVED,
-                Err(_) => STATUS_UNWRITTEN,
-            };
-            Served {
-                status,
-                at: 0,
-                log: produced.log,
-                work: produced.work,
-            }
-        }
+        Ok(produced) => hand_out(out, produced),
+    }
+}
+
+/// Writes what is printed of a run, and answers its log and work.
+pub(crate) fn hand_out<K: Sink>(out: &mut K, produced: Produced) -> Served
+    ensures served { result.status ≡ 0 → Appends (K.contents out.old) (K.contents out.new) produced.text.items }
+    ensures prefix { result.status ≡ 3 → AppendsPrefix (K.contents out.old) (K.contents out.new) produced.text.items }
+    ensures write_fault { result.status ≡ 3 → Rose (K.faults out.old) (K.faults out.new) }
+    ensures known { (result.status ≡ 0) ⊎ (result.status ≡ 3) }
+    ensures at { result.at ≡ 0 }
+    ensures log { result.log ≡ produced.log }
+    ensures work { result.work ≡ produced.work }
+{
+    let status = match write_all(out, produced.text.as_slice()) {
+        Ok(()) => STATUS_SERVED,
+        Err(_) => STATUS_UNWRITTEN,
+    };
+    Served {
+        status,
+        at: 0,
+        log: produced.log,
+        work: produced.work,
     }
 }

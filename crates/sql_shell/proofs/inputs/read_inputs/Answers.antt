@@ -1,8 +1,16 @@
-use Rattle.std.proofs.Common.{◌≡◌, ℕ, List, sym, ◌∙◌, subst}
+use Rattle.std.proofs.Common.{◌≡◌, ℕ, ◌-◌, ◌≤◌, List, length, take, sym, ◌∙◌, subst}
 use Rattle.sql_shell.specs.Failures.{at_of, status_of}
-use Rattle.sql_shell.specs.Scripts.{AreCut}
-use Rattle.sql_shell.proofs.InputLemmas.{schedule_reached, schedule_wrong, wrong_before}
+use Rattle.sql_shell.specs.Scripts.{AreCut, CanBeRun}
+use Rattle.sql_shell.proofs.InputLemmas.{schedule_reached, schedule_wrong, scripts_reached, wrong_before}
 use Rattle.sql_shell.proofs.inputs.read_inputs.Goals as goal
+
+pub returns-in-Err-clause-reached : goal.returns-in-Err-clause-reached
+returns-in-Err-clause-reached g c two =
+    let bytes = g.S.Scripts.bytes_of c.args.source.now in
+    let at = at_of c.in-Err.failure in
+    scripts_reached bytes c.args.command.now at
+    (subst (λ (names : List (List ℕ)). at ≤ length names) c.files_of.ensures c.in-Err.ensures.within)
+    (subst (λ (names : List (List ℕ)). (1 ≤ at) × CanBeRun bytes (take (at - 1) names)) c.files_of.ensures (c.in-Err.ensures.reached two))
 
 pub returns-in-Err-read_turns-clause-wrong : goal.returns-in-Err-read_turns-clause-wrong
 returns-in-Err-read_turns-clause-wrong g c by =
