@@ -12,6 +12,7 @@ use std::sync::ledger::{Blank, Ledger};
 use std::test::Fail;
 
 mod closures;
+mod generated;
 mod pooled;
 mod replies;
 
