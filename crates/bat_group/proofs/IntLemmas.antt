@@ -1,6 +1,7 @@
 -- Cells that are numbered by the keys that they are made of.
 use Rattle.std.proofs.Common.{◌≡◌, ℕ, suc, zero, ◌+◌, ◌-◌, ◌<◌, ◌≤◌, Bool, true, false, not, ◌&&◌, cond, List, [], ◌∷◌, ◌++◌, length, get_or, take, drop, map, ℤ, refl, sym, ap, ◌∙◌, arith, nat_eq}
 use Rattle.std.specs.Prelude.{filter}
+use Rattle.std.specs.Borrow.{Bor}
 use Rattle.std.specs.Ordering.{int_eq}
 use Rattle.std.specs.List.{position_or_len, zip}
 use Rattle.std.specs.Cmp.{IsEquivalence, nat_eq_equiv}
@@ -8,10 +9,11 @@ use Rattle.std.proofs.lemmas.Cmp.{int_eq_equiv}
 use Rattle.std.proofs.lemmas.List.{length-append, length-take-le, take-append-drop, get_or_append_left, get_or-append_right}
 use Rattle.cell_core.specs.declared.cell.Cell.{Cell}
 use Rattle.cell_core.specs.declared.cell.Cell.TheVariants.{Int}
-use Rattle.cell_core.specs.Same.{same_cell}
+use Rattle.cell_core.specs.Same.{same_cell, same_equivalence}
 use Rattle.cell_core.specs.Pairs.{Pairs}
 use Rattle.cell_core.specs.Groups.{distinct, same_pair}
 use Rattle.bat_group.specs.Ints.{same_key, key_cells}
+use Rattle.bat_group.specs.CellPairs.{same_lent, lent_cells}
 use Rattle.bat_group.proofs.GroupLemmas.{both_first}
 
 module _ {K X : Type 0} (same_k : K → K → Bool) (same : X → X → Bool) (made : K → X) (agree : (a b : K) → same (made a) (made b) ≡ same_k a b) where
@@ -42,6 +44,17 @@ number_int = number_made int_eq same_cell Int (λ a b. refl)
 
 pub number_key : (n : ℕ × ℤ) (pairs : Pairs) (keys : List (ℕ × ℤ)) → pairs ≡ map key_cells keys → position_or_len (λ k. same_key k n) (distinct same_key keys) ≡ position_or_len (λ y. same_pair y (key_cells n)) (distinct same_pair pairs)
 number_key = number_made same_key same_pair key_cells (λ a b. refl)
+
+pub number_lent : (n : ℕ × Bor Cell) (pairs : Pairs) (keys : List (ℕ × Bor Cell)) → pairs ≡ map lent_cells keys → position_or_len (λ k. same_lent k n) (distinct same_lent keys) ≡ position_or_len (λ y. same_pair y (lent_cells n)) (distinct same_pair pairs)
+number_lent = number_made same_lent same_pair lent_cells (λ a b. refl)
+
+pub same_lent_equivalence : IsEquivalence same_lent
+same_lent_equivalence = record {
+  refl = λ p. ap (λ b. b && same_cell p.1.now p.1.now) (nat_eq_equiv.refl p.0) ∙ same_equivalence.refl p.1.now;
+  symm = λ p q. ap (λ b. b && same_cell p.1.now q.1.now) (nat_eq_equiv.symm p.0 q.0) ∙ ap (λ b. nat_eq q.0 p.0 && b) (same_equivalence.symm p.1.now q.1.now);
+  congr = λ p q r e. both_first (nat_eq p.0 q.0) (same_cell p.1.now q.1.now) (same_lent p r) (same_lent q r)
+      (λ a b. ap (λ x. x && same_cell p.1.now r.1.now) (nat_eq_equiv.congr p.0 q.0 r.0 a) ∙ ap (λ x. nat_eq q.0 r.0 && x) (same_equivalence.congr p.1.now q.1.now r.1.now b)) e;
+}
 
 pub same_key_equivalence : IsEquivalence same_key
 same_key_equivalence = record {

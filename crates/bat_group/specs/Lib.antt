@@ -1,3 +1,5 @@
+pub mod CellPairs
+pub mod Each
 pub mod Heads
 pub mod Ints
 pub mod Members

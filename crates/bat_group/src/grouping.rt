@@ -6,6 +6,8 @@ ghost use Rattle.cell_core.specs.Same.{same_cell};
 ghost use Rattle.cell_core.specs.Pairs.{heads_of};
 ghost use Rattle.cell_core.specs.Groups.{grouped, derived, group_heads_of, group_number, same_pair};
 
+use crate::cell_pairs::number_cell_pairs;
+use crate::each::number_each;
 use crate::heads::first_heads;
 use crate::int_pairs::number_int_pairs;
 use crate::ints::number_ints;
@@ -39,20 +41,6 @@ fn number_cells(alloc: Global, cells: &Cells) -> Result<Cells, Memory>
     }
 }
 
-/// The numbers of the cells, whatever they are.
-fn number_each(alloc: Global, cells: &Cells) -> Result<Cells, Memory>
-    ensures { IfOk result (λ out. out ≡ map (λ c. Cell.Oid (group_number same_cell cells.now c)) cells.now) }
-{
-    let mut numbers = HashMap::new(alloc);
-    let mut count = 0;
-    let mut out = CellsBuilder::new(alloc);
-    for i in 0..cells.len() {
-        let number = number_of(&mut numbers, &mut count, cells.copy(i)?)?;
-        out.push(alloc, Cell::Oid(number))?;
-    }
-    out.finish(alloc)
-}
-
 /// By position, up to the shorter: each head of `g` beside the number of the pair of tails, an oid.
 /// The counter rises by the pairs of both and of the result.
 pub fn group_derive<L: Ledger>(
@@ -76,6 +64,16 @@ fn number_pairs(alloc: Global, left: &Cells, right: &Cells) -> Result<Cells, Mem
     ensures { IfOk result (λ out. out ≡ map (λ p. Cell.Oid (group_number same_pair (zip left.now right.now) p)) (zip left.now right.now)) }
 {
     match number_int_pairs(alloc, left, right)? {
+        Some(numbers) => Ok(numbers),
+        None => number_other_pairs(alloc, left, right),
+    }
+}
+
+/// The numbers of the pairs of cells that stand side by side, where these aren't all numbers.
+fn number_other_pairs(alloc: Global, left: &Cells, right: &Cells) -> Result<Cells, Memory>
+    ensures { IfOk result (λ out. out ≡ map (λ p. Cell.Oid (group_number same_pair (zip left.now right.now) p)) (zip left.now right.now)) }
+{
+    match number_cell_pairs(alloc, left, right)? {
         Some(numbers) => Ok(numbers),
         None => number_each_pair(alloc, left, right),
     }

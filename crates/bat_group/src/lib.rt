@@ -9,6 +9,8 @@
 #![tactic(auto)]
 
 mod both;
+mod cell_pairs;
+mod each;
 mod firsts;
 mod group_totals;
 mod grouping;
