@@ -1,4 +1,5 @@
-//! Functions of two numbers, over parts that hold numbers alone.
+//! Functions of two numbers, over parts that hold numbers alone, and of two cells that lie in parts, each by
+//! a loop of its own.
 ghost use Rattle.std.specs.Prelude.{◌≡◌, ◌++◌, ◌<◌, length, map, slice_index_or, Some, None, OnOk};
 ghost use Rattle.std.specs.List.{zip};
 ghost use Rattle.cell_core.specs.declared.cell.Cell.TheVariants.{Int, Nil};
@@ -11,6 +12,9 @@ ghost use Rattle.bat_calc.specs.Functions.{function_of, applied};
 use crate::function::Function;
 use crate::general::add_one_by_one;
 use bat_core::CellsBuilder;
+use cell_calc::{
+    difference, is_above, is_at_least, is_at_most, is_below, is_equal, is_unequal, product, sum,
+};
 use cell_core::{Cell, RunError};
 use chunk_core::Part;
 use std::alloc::Global;
@@ -23,6 +27,10 @@ pub(crate) trait OfNumbers {
     /// The function's cell; None is an overflow.
     fn of_numbers(x: i64, y: i64) -> Option<Cell>
         ensures { result ≡ function_of named (Int x) (Int y) };
+
+    /// The function's cell of two cells of any kind; None is an overflow.
+    fn of_cells(x: &Cell, y: &Cell) -> Option<Cell>
+        ensures { result ≡ function_of named x.now y.now };
 }
 
 /// The sum.
@@ -37,6 +45,11 @@ impl OfNumbers for Sum {
             Some(sum) => Some(Cell::Int(sum)),
             None => None,
         }
+    }
+
+    #[inline]
+    fn of_cells(x: &Cell, y: &Cell) -> Option<Cell> {
+        sum(x, y)
     }
 }
 
@@ -53,6 +66,11 @@ impl OfNumbers for Difference {
             None => None,
         }
     }
+
+    #[inline]
+    fn of_cells(x: &Cell, y: &Cell) -> Option<Cell> {
+        difference(x, y)
+    }
 }
 
 /// The product.
@@ -68,6 +86,11 @@ impl OfNumbers for Product {
             None => None,
         }
     }
+
+    #[inline]
+    fn of_cells(x: &Cell, y: &Cell) -> Option<Cell> {
+        product(x, y)
+    }
 }
 
 /// Whether both are equal.
@@ -79,6 +102,11 @@ impl OfNumbers for Equal {
     #[inline]
     fn of_numbers(x: i64, y: i64) -> Option<Cell> {
         Some(Cell::Bit(x == y))
+    }
+
+    #[inline]
+    fn of_cells(x: &Cell, y: &Cell) -> Option<Cell> {
+        Some(is_equal(x, y))
     }
 }
 
@@ -92,6 +120,11 @@ impl OfNumbers for Unequal {
     fn of_numbers(x: i64, y: i64) -> Option<Cell> {
         Some(Cell::Bit(x != y))
     }
+
+    #[inline]
+    fn of_cells(x: &Cell, y: &Cell) -> Option<Cell> {
+        Some(is_unequal(x, y))
+    }
 }
 
 /// Whether the first is below the second.
@@ -103,6 +136,11 @@ impl OfNumbers for Below {
     #[inline]
     fn of_numbers(x: i64, y: i64) -> Option<Cell> {
         Some(Cell::Bit(x < y))
+    }
+
+    #[inline]
+    fn of_cells(x: &Cell, y: &Cell) -> Option<Cell> {
+        Some(is_below(x, y))
     }
 }
 
@@ -116,6 +154,11 @@ impl OfNumbers for AtMost {
     fn of_numbers(x: i64, y: i64) -> Option<Cell> {
         Some(Cell::Bit(x <= y))
     }
+
+    #[inline]
+    fn of_cells(x: &Cell, y: &Cell) -> Option<Cell> {
+        Some(is_at_most(x, y))
+    }
 }
 
 /// Whether the first is above the second.
@@ -127,6 +170,11 @@ impl OfNumbers for Above {
     #[inline]
     fn of_numbers(x: i64, y: i64) -> Option<Cell> {
         Some(Cell::Bit(x > y))
+    }
+
+    #[inline]
+    fn of_cells(x: &Cell, y: &Cell) -> Option<Cell> {
+        Some(is_above(x, y))
     }
 }
 
@@ -140,9 +188,15 @@ impl OfNumbers for AtLeast {
     fn of_numbers(x: i64, y: i64) -> Option<Cell> {
         Some(Cell::Bit(x >= y))
     }
+
+    #[inline]
+    fn of_cells(x: &Cell, y: &Cell) -> Option<Cell> {
+        Some(is_at_least(x, y))
+    }
 }
 
-/// Adds the cells of a function over a run, by its form for numbers where both parts hold numbers alone.
+/// Adds the cells of a function over a run, by its form for numbers where both parts hold numbers alone, and
+/// cell by cell where both hold cells.
 pub(crate) fn add_numbers<F: OfNumbers>(
     alloc: Global,
     function: Function,
@@ -157,6 +211,7 @@ pub(crate) fn add_numbers<F: OfNumbers>(
 {
     match (left, right) {
         (Part::Ints(x), Part::Ints(y)) => add_by_number::<F>(alloc, x, y, cells),
+        (Part::Cells(x), Part::Cells(y)) => add_by_cell::<F>(alloc, x, y, cells),
         _ => add_one_by_one(alloc, function, left, right, cells),
     }
 }
@@ -189,6 +244,45 @@ fn number_at<F: OfNumbers>(left: &[i64], right: &[i64], at: usize) -> Option<Cel
     ensures { result ≡ function_of F.named (slice_index_or (map Int left.now) at Nil) (slice_index_or (map Int right.now) at Nil) }
 {
     F::of_numbers(int_at(left, at), int_at(right, at))
+}
+
+/// Adds the cells of a function over cells.
+fn add_by_cell<F: OfNumbers>(
+    alloc: Global,
+    left: &[Cell],
+    right: &[Cell],
+    cells: &mut CellsBuilder,
+) -> Result<(), RunError>
+    requires { length right.now ≡ length left.now }
+    ensures value { OnOk result ((before : Pairs) → applied F.named before ≡ Some cells.old → applied F.named (before ++ zip left.now right.now) ≡ Some cells.new) }
+    ensures overflow { result ≡ Err RunError.Overflow → applied F.named (zip left.now right.now) ≡ None }
+{
+    for i in 0..left.len() {
+        match cell_at::<F>(left, right, i) {
+            Some(cell) => cells.push(alloc, cell)?,
+            None => return Err(RunError::Overflow),
+        }
+    }
+    Ok(())
+}
+
+/// The cell of a function over the cells at a place.
+#[inline]
+fn cell_at<F: OfNumbers>(left: &[Cell], right: &[Cell], at: usize) -> Option<Cell>
+    requires left { at < length left.now }
+    requires right { at < length right.now }
+    ensures { result ≡ function_of F.named (slice_index_or left.now at Nil) (slice_index_or right.now at Nil) }
+{
+    F::of_cells(lent_at(left, at), lent_at(right, at))
+}
+
+/// The cell at a place.
+#[inline]
+fn lent_at(cells: &[Cell], at: usize) -> &Cell
+    requires { at < length cells.now }
+    ensures { result.now ≡ slice_index_or cells.now at Nil }
+{
+    &cells[at]
 }
 
 /// The number at a place.
