@@ -67,26 +67,40 @@ use Rattle.session_run.proofs.TurnLemmas.{query_can_offer, query_looks, query_of
 abbrev pub IsWho : Session → Who → Type 0
 IsWho x who = ◌≡◌ {A = Who} who (record { session = x.number; statement = x.ended + 1 })
 
+-- the entry of what a session does
+abbrev pub entry_by : Session → Act → Event
+entry_by x act = event_of (record { session = x.number; statement = x.ended + 1 }) act
+
 -- a book's log with one event more, by this session
-pub logged : (old new : List Event) (who : Who) (act : Act) (x : Session) → new ≡ old ++ event_of who act ∷ [] → IsWho x who → log_tree new ≡ log_tree old ++ event_by x (act_tree act) ∷ []
-logged old new who act x more is = ap log_tree more ∙ tree_more old (event_of who act) ∙ ap (λ (w : Who). log_tree old ++ event_tree (event_of w act) ∷ []) is
+pub added : (old new : List Event) (who : Who) (act : Act) (x : Session) → new ≡ old ++ event_of who act ∷ [] → IsWho x who → new ≡ old ++ entry_by x act ∷ []
+added old new who act x more is = more ∙ ap (λ (w : Who). old ++ event_of w act ∷ []) is
+
+pub logged : (old new : List Event) (act : Act) (x : Session) → new ≡ old ++ entry_by x act ∷ [] → log_tree new ≡ log_tree old ++ event_by x (act_tree act) ∷ []
+logged old new act x more = ap log_tree more ∙ tree_more old (entry_by x act)
 
 -- an End tells the code of the reply to its statement
 abbrev pub EndsSo : List EventTree → Session → ActTree → Result StmtTree Refusal → Type 0
 EndsSo log x act reading = (code : ℕ) → act ≡ Ends code → code ≡ code_of (shown_over (tables_met log x.number (x.ended + 1)) reading)
 
 -- the session has done it
-pub has_done : (old new : BookView) (before made after : Session) (act : ActTree) → after ≡ made → new.options ≡ old.options → log_tree new.log ≡ log_tree old.log ++ event_by before act ∷ []
-    → (does : IsNext old.options before.pieces before.number (log_tree old.log) (event_by before act) × Stands old.options (log_tree old.log ++ event_by before act ∷ []) made)
-    → IsWorked old.options (log_tree old.log ++ event_by before act ∷ []) made → EndsSo (log_tree old.log) before act does.0.reading → HasDone old new before after
-has_done old new before made after act same options log does worked ends = record {
-  event = event_by before act;
-  log = log;
-  next = does.0;
-  stands = subst (λ (o : PoolOptions). Stands o (log_tree new.log) after) (sym options) (subst (λ (l : List EventTree). Stands old.options l after) (sym log) (subst (λ (y : Session). Stands old.options (log_tree old.log ++ event_by before act ∷ []) y) (sym same) does.1));
-  worked = subst (λ (o : PoolOptions). IsWorked o (log_tree new.log) after) (sym options) (subst (λ (l : List EventTree). IsWorked old.options l after) (sym log) (subst (λ (y : Session). IsWorked old.options (log_tree old.log ++ event_by before act ∷ []) y) (sym same) worked));
-  ends = ends;
-}
+pub has_done : (old new : BookView) (before made after : Session) (act : Act) → after ≡ made → new.options ≡ old.options → new.log ≡ old.log ++ entry_by before act ∷ []
+    → (does : IsNext old.options before.pieces before.number (log_tree old.log) (event_by before (act_tree act)) × Stands old.options (log_tree old.log ++ event_by before (act_tree act) ∷ []) made)
+    → IsWorked old.options (log_tree old.log ++ event_by before (act_tree act) ∷ []) made → EndsSo (log_tree old.log) before (act_tree act) does.0.reading → HasDone old new before after
+has_done old new before made after act same options more does worked ends =
+    let event = event_by before (act_tree act) in
+    let log = logged old.log new.log act before more in
+    record {
+      event = entry_by before act;
+      log = more;
+      next = does.0;
+      stands = subst (λ (o : PoolOptions). Stands o (log_tree new.log) after) (sym options) (subst (λ (l : List EventTree). Stands old.options l after) (sym log) (subst (λ (y : Session). Stands old.options (log_tree old.log ++ event ∷ []) y) (sym same) does.1));
+      worked = subst (λ (o : PoolOptions). IsWorked o (log_tree new.log) after) (sym options) (subst (λ (l : List EventTree). IsWorked old.options l after) (sym log) (subst (λ (y : Session). IsWorked old.options (log_tree old.log ++ event ∷ []) y) (sym same) worked));
+      ends = ends;
+    }
+
+-- the log that it leaves has the event more
+pub done_log : (old new : BookView) (before after : Session) (d : HasDone old new before after) → log_tree new.log ≡ log_tree old.log ++ event_tree d.event ∷ []
+done_log old new before after d = ap log_tree d.log ∙ tree_more old.log d.event
 
 -- and its counter tells so
 abbrev pub DoneSo : BookView → BookView → Session → Session → Type 0
@@ -131,31 +145,36 @@ module _ (old new : BookView) (who : Who) (x after : Session) (s : Stands old.op
 
   pub refused_does : (refusal : Refusal) → Reads piece (Err refusal) → new.log ≡ old.log ++ event_of who (act.Write None (refusal_number refusal) 0) ∷ [] → after ≡ with_reply x (shown.Refused refusal) → DoneSo old new x after
   refused_does refusal read log same =
-      let more = logged old.log new.log who (act.Write None (refusal_number refusal) 0) x log named in (
-        has_done old new x (with_reply x (shown.Refused refusal)) after (Writes None (refusal_number refusal) 0) same options more
+      let write : Act = act.Write None (refusal_number refusal) 0 in
+      let more = added old.log new.log who write x log named in (
+        has_done old new x (with_reply x (shown.Refused refusal)) after write same options more
             (text_refused old.options (log_tree old.log) x s is piece here refusal x.work read)
             (write_worked old.options (log_tree old.log) x w None (refusal_number refusal) 0 (shown.Refused refusal))
             (λ code ends. absurd (writes_apart None (refusal_number refusal) 0 code ends)),
-        refuse_counts old new x after options (refusal_number refusal) 0 is (ap (λ (y : Session). y.work) same) (ap (λ (y : Session). held_in y.stage) same) more,
+        refuse_counts old new x after options (refusal_number refusal) 0 is (ap (λ (y : Session). y.work) same) (ap (λ (y : Session). held_in y.stage) same) (logged old.log new.log write x more),
       )
 
-  module _ (statement : StmtTree) (reply : Reply) (log : log_tree new.log ≡ log_tree old.log ++ written_by who statement reply ∷ []) (same : after ≡ with_reply x (shown_reply reply)) where
-    abbrev change : ActTree
-    change = Writes (Some statement) (reply_code reply) (reply_count reply)
+  module _ (statement : Stmt) (reply : Reply) (log : new.log ≡ old.log ++ written_by who statement reply ∷ []) (same : after ≡ with_reply x (shown_reply reply)) where
+    abbrev tree : StmtTree
+    tree = stmt_tree statement
 
-    change_log : log_tree new.log ≡ log_tree old.log ++ event_by x change ∷ []
-    change_log = log ∙ ap (λ (w : Who). log_tree old.log ++ written_by w statement reply ∷ []) named
+    abbrev change : Act
+    change = act.Write (Some statement) (reply_code reply) (reply_count reply)
 
-    pub change_does : Reads piece (Ok statement) → is_change statement ≡ true → reply ≡ (effect statement now.db).1 → HasDone old new x after
+    change_log : new.log ≡ old.log ++ entry_by x change ∷ []
+    change_log = added old.log new.log who change x log named
+
+    pub change_does : Reads piece (Ok tree) → is_change tree ≡ true → reply ≡ (effect tree now.db).1 → HasDone old new x after
     change_does read is_one effects =
         has_done old new x (with_reply x (shown_reply reply)) after change same options change_log
-        (change_done old.options (log_tree old.log) x s is piece here statement reply x.work read is_one effects)
-        (write_worked old.options (log_tree old.log) x w (Some statement) (reply_code reply) (reply_count reply) (shown_reply reply))
-        (λ code ends. absurd (writes_apart (Some statement) (reply_code reply) (reply_count reply) code ends))
+        (change_done old.options (log_tree old.log) x s is piece here tree reply x.work read is_one effects)
+        (write_worked old.options (log_tree old.log) x w (Some tree) (reply_code reply) (reply_count reply) (shown_reply reply))
+        (λ code ends. absurd (writes_apart (Some tree) (reply_code reply) (reply_count reply) code ends))
 
-    pub change_counts : (steps later : ℕ) → (state_of new).totals.work ≡ now.totals.work + write_work statement now → Counts steps later (write_work statement now) (write_lost statement now.db) → CountsInside old new x after steps later
+    pub change_counts : (steps later : ℕ) → (state_of new).totals.work ≡ now.totals.work + write_work tree now → Counts steps later (write_work tree now) (write_lost tree now.db) → CountsInside old new x after steps later
     change_counts steps later more counts =
-        write_counts old new x after options statement (reply_code reply) (reply_count reply) (write_work statement now) steps later is (ap (λ (y : Session). y.work) same) (ap (λ (y : Session). held_in y.stage) same) change_log more counts
+        write_counts old new x after options tree (reply_code reply) (reply_count reply) (write_work tree now) steps later is (ap (λ (y : Session). y.work) same) (ap (λ (y : Session). held_in y.stage) same)
+        (logged old.log new.log change x change_log) more counts
 
   module _ (query : QueryTree) (outcome : Result Plan Refusal) (next : Stage) (same : after ≡ at_stage x next) where
     -- what a begin tells of its statement
@@ -176,9 +195,10 @@ module _ (old new : BookView) (who : Who) (x after : Session) (s : Stands old.op
     begin_done statement log none does worked =
         let code = code_in outcome in
         let plan = logged_plan statement outcome in
-        let more = logged old.log new.log who (begin_act statement outcome) x log named in (
-          has_done old new x (at_stage x next) after (Begins code plan) same options more does worked (λ last ends. absurd (begins_apart code plan last ends)),
-          begin_counts old new x after options code plan is (ap (λ (y : Session). y.work) same) (ap (λ (y : Session). held_in y.stage) same ∙ none) more,
+        let begins = begin_act statement outcome in
+        let more = added old.log new.log who begins x log named in (
+          has_done old new x (at_stage x next) after begins same options more does worked (λ last ends. absurd (begins_apart code plan last ends)),
+          begin_counts old new x after options code plan is (ap (λ (y : Session). y.work) same) (ap (λ (y : Session). held_in y.stage) same ∙ none) (logged old.log new.log begins x more),
         )
 
     pub query_does : (statement : StmtTree) (snap : Content) (marks : List Bool) → statement ≡ Select query → Tells statement snap marks → BeginsWith snap marks outcome next → DoneSo old new x after
@@ -213,8 +233,9 @@ module _ (old new : BookView) (who : Who) (x after : Session) (s : Stands old.op
   look_does w q key to is lawful later log looked same =
       let found = looked_of (look_of state.pool key) in
       let look : Act = act.Look (length q.values + 1) key found in
-      let more = logged old.log new.log who look x log named in (
-        has_done old new x (at_stage x (stage.Querying to)) after (act_tree look) same options more
+      let grown = added old.log new.log who look x log named in
+      let more = logged old.log new.log look x grown in (
+        has_done old new x (at_stage x (stage.Querying to)) after look same options grown
             (query_looks old.options (log_tree old.log) lawful x s q key is to x.work (lawful_then old new (event_by x (act_tree look)) options more later) looked)
             (look_worked old.options (log_tree old.log) x s w q key found to is looked)
             (λ code ends. absurd (looks_apart (length q.values + 1) key found code ends)),
@@ -232,10 +253,11 @@ module _ (old new : BookView) (who : Who) (x after : Session) (s : Stands old.op
       let said : (admit_of who (now_of old) (key_offer offer.key state) state.pool).0 ≡ (admit_of me (state.at + 1) (key_offer offer.key state) state.pool).0 = λ i. (admit_of (named i) (now_is old i) (key_offer offer.key state) state.pool).0 in
       let answer = (admit_of me (state.at + 1) (key_offer offer.key state) state.pool).0 in
       let admit : Act = act.Admit (length q.values + 1) offer.key answer in
-      let more = logged old.log new.log who admit x (log ∙ ap (λ (a : Admitted). old.log ++ event_of who (act.Admit (length q.values + 1) offer.key a) ∷ []) said) named in
+      let grown = added old.log new.log who admit x (log ∙ ap (λ (a : Admitted). old.log ++ event_of who (act.Admit (length q.values + 1) offer.key a) ∷ []) said) named in
+      let more = logged old.log new.log admit x grown in
       let to_is = gained ∙ ap (λ (a : Admitted). step.Gained q offer.value (id_given a)) said in (
-        has_done old new x (restaged x (x.work + offer.done) (stage.Querying (step.Gained q offer.value (id_given answer)))) after (act_tree admit)
-            (same ∙ ap (λ (t : Step). restaged x (x.work + offer.done) (stage.Querying t)) to_is) options more
+        has_done old new x (restaged x (x.work + offer.done) (stage.Querying (step.Gained q offer.value (id_given answer)))) after admit
+            (same ∙ ap (λ (t : Step). restaged x (x.work + offer.done) (stage.Querying t)) to_is) options grown
             (query_offers old.options (log_tree old.log) lawful x s q offer is (x.work + offer.done) (lawful_then old new (event_by x (act_tree admit)) options more later))
             (offer_worked old.options (log_tree old.log) x w q offer answer offer.value (id_given answer) is)
             (λ code ends. absurd (admits_apart (length q.values + 1) offer.key answer code ends)),
@@ -247,10 +269,10 @@ module _ (old new : BookView) (who : Who) (x after : Session) (s : Stands old.op
 
   pub end_does : Worked → (reply : Shown) (told code : ℕ) → x.stage ≡ stage.Querying (step.Ending reply told) → code ≡ code_of reply → new.log ≡ old.log ++ event_of who (act.End code) ∷ [] → after ≡ replied x (x.work + told) reply → DoneSo old new x after
   end_does w reply told code is coded log same =
-      let more = logged old.log new.log who (act.End (code_of reply)) x (log ∙ ap (λ n. old.log ++ event_of who (act.End n) ∷ []) coded) named in (
-        has_done old new x (replied x (x.work + told) reply) after (Ends (code_of reply)) same options more
+      let grown = added old.log new.log who (act.End (code_of reply)) x (log ∙ ap (λ n. old.log ++ event_of who (act.End n) ∷ []) coded) named in (
+        has_done old new x (replied x (x.work + told) reply) after (act.End (code_of reply)) same options grown
             (statement_ends old.options (log_tree old.log) x s reply told is (x.work + told))
             (end_worked old.options (log_tree old.log) x w reply told is)
             (λ last ends. same_code (code_of reply) last ends ∙ ap code_of (end_shows old.options (log_tree old.log) x s reply told is (x.work + told))),
-        end_counts old new x after options reply told is (ap (λ (y : Session). y.work) same) (ap (λ (y : Session). held_in y.stage) same) more,
+        end_counts old new x after options reply told is (ap (λ (y : Session). y.work) same) (ap (λ (y : Session). held_in y.stage) same) (logged old.log new.log (act.End (code_of reply)) x grown),
       )

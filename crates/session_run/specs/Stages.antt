@@ -6,7 +6,8 @@ use Rattle.table_store.specs.Content.{Content}
 use Rattle.query_run.specs.declared.step.Query.{Query}
 use Rattle.mal_check.specs.Checked.{plan_fault}
 use Rattle.mal_print.specs.Canon.{plan_text}
-use Rattle.run_log.specs.Events.{Ends, EventTree, log_tree}
+use Rattle.run_log.specs.declared.event.Event.{Event}
+use Rattle.run_log.specs.Events.{Ends, act_tree, event_tree, log_tree}
 use Rattle.answer_text.specs.declared.shown.Shown.{Shown}
 use Rattle.answer_text.specs.declared.shown.Shown.TheVariants as shown
 use Rattle.answer_text.specs.Layout.{reply_text}
@@ -65,12 +66,12 @@ with_reply x reply = record x { ended = x.ended + 1; stage = stage.Telling reply
 
 -- a session does its next event, and then stands where the log says, with the work that its events count; an End tells the code of the reply
 pub record HasDone (old new : BookView) (before after : Session) : Type 0 where
-  pub event : EventTree
-  pub log : log_tree new.log ≡ log_tree old.log ++ event ∷ []
-  pub next : IsNext old.options before.pieces before.number (log_tree old.log) event
+  pub event : Event
+  pub log : new.log ≡ old.log ++ event ∷ []
+  pub next : IsNext old.options before.pieces before.number (log_tree old.log) (event_tree event)
   pub stands : Stands new.options (log_tree new.log) after
   pub worked : IsWorked new.options (log_tree new.log) after
-  pub ends : (code : ℕ) → event.act ≡ Ends code → code ≡ code_of (shown_over (tables_met (log_tree old.log) event.session event.statement) next.reading)
+  pub ends : (code : ℕ) → act_tree event.act ≡ Ends code → code ≡ code_of (shown_over (tables_met (log_tree old.log) event.session event.statement) next.reading)
 
 -- ## A query begins
 

@@ -124,7 +124,7 @@ impl Session {
         match &stmt {
             Stmt::Query(query) => self.start_query(alloc, book, &stmt, query),
             Stmt::Explain(query) => self.start_explain(alloc, book, &stmt, query),
-            _ => self.change(alloc, book, scorer, stmt, kernel, steps),
+            _ => self.change(alloc, book, scorer, &stmt, kernel, steps),
         }
     }
 
@@ -134,7 +134,7 @@ impl Session {
         alloc: Global,
         book: &mut Book,
         scorer: &Scorer,
-        stmt: Stmt,
+        stmt: &Stmt,
         kernel: &E,
         steps: &mut Steps<L>,
     ) -> Result<(), Memory>
@@ -143,9 +143,9 @@ impl Session {
         requires between { self.old.stage ≡ stage.Between }
         requires stands { Stands book.old.options (log_tree book.old.log) self.old }
         requires worked { IsWorked book.old.options (log_tree book.old.log) self.old }
-        requires change { is_change (stmt_tree stmt) ≡ true }
-        requires formed { IsFormed (stmt_tree stmt) }
-        requires read { (piece : List ℕ) × (slice_get self.old.pieces self.old.ended ≡ Some piece) × Reads piece (Ok (stmt_tree stmt)) }
+        requires change { is_change (stmt_tree stmt.now) ≡ true }
+        requires formed { IsFormed (stmt_tree stmt.now) }
+        requires read { (piece : List ℕ) × (slice_get self.old.pieces self.old.ended ≡ Some piece) × Reads piece (Ok (stmt_tree stmt.now)) }
         ensures options { book.new.options ≡ book.old.options }
         ensures number { OnOk result (self.new.number ≡ self.old.number) }
         ensures pieces { OnOk result (self.new.pieces ≡ self.old.pieces) }
