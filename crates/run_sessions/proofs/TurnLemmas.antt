@@ -4,7 +4,7 @@ use Rattle.std.specs.Prelude.{slice_get, option_map}
 use Rattle.std.proofs.lemmas.Option.{slice_get-map, slice_get_within}
 use Rattle.pool_policy.specs.declared.options.PoolOptions.{PoolOptions}
 use Rattle.sql_parse.specs.Answered.{EachReadsAsOne}
-use Rattle.run_log.specs.Events.{EventTree, log_tree}
+use Rattle.run_log.specs.Events.{EventTree, event_tree, log_tree}
 use Rattle.book_core.specs.BookView.{BookView}
 use Rattle.book_core.specs.Lawful.{IsLawful}
 use Rattle.table_store.specs.Content.{Content}
@@ -25,7 +25,7 @@ use Rattle.session_run.specs.Progress.{progress_of}
 use Rattle.session_run.specs.Stages.{ComesTo, HasComputed, HasDone, IsReady, IsSoundStage}
 use Rattle.session_run.specs.Works.{IsWorked, done_by}
 use Rattle.session_run.specs.Turns.{IsDone, IsNext, next_event}
-use Rattle.session_run.proofs.DoesLemmas.{lawful_then}
+use Rattle.session_run.proofs.DoesLemmas.{done_log, lawful_then}
 use Rattle.session_run.proofs.OtherLemmas.{others_stay}
 use Rattle.session_run.proofs.RunLemmas.{done_is, next_other}
 use Rattle.session_run.proofs.StageLemmas.{computed_stands, stage_sound}
@@ -132,26 +132,29 @@ module _ (old new : BookView) (sessions : List Session) (place : ℕ) (x y : Ses
   other_stands : HasDone old new x y → (other : ℕ) (z : Session) → other ≢ place → slice_get sessions other ≡ Some z → StandsAt new other z
   other_stands d other z apart there =
       let log = log_tree old.log in
+      let event = event_tree d.event in
+      let more = done_log old new x y d in
       let was = standing other z there in
       let far : x.number ≡ z.number → ⊥ = λ same. apart (let a = was.0 in let b = numbered in omega (arith, a, b, same)) in
-      let none = next_other old.options x.pieces x.number z.number log d.event d.next far in (
+      let none = next_other old.options x.pieces x.number z.number log event d.next far in (
         was.0,
         subst (λ (o : PoolOptions). Stands o (log_tree new.log) z) (sym options)
-            (subst (λ (l : List EventTree). Stands old.options l z) (sym d.log) (others_stay old.options log z d.event (lawful_then old new d.event options d.log lawful) was.1 none)),
+            (subst (λ (l : List EventTree). Stands old.options l z) (sym more) (others_stay old.options log z event (lawful_then old new event options more lawful) was.1 none)),
         subst (λ (o : PoolOptions). IsWorked o (log_tree new.log) z) (sym options)
-            (subst (λ (l : List EventTree). IsWorked old.options l z) (sym d.log) (others_worked old.options log z d.event none was.2)),
-        subst (λ (l : List EventTree). IsInOrder l z) (sym d.log) (others_ordered old.options log z was.1 d.event none was.3),
+            (subst (λ (l : List EventTree). IsWorked old.options l z) (sym more) (others_worked old.options log z event none was.2)),
+        subst (λ (l : List EventTree). IsInOrder l z) (sym more) (others_ordered old.options log z was.1 event none was.3),
       )
 
   -- and the session by its own event
   own_stands : EachReadsAsOne → HasDone old new x y → StandsAt new place y
   own_stands each d =
       let log = log_tree old.log in
-      let ended = sym d.stands.ended ∙ (λ i. (progress_of (number i) (d.log i)).ended) in (
+      let more = done_log old new x y d in
+      let ended = sym d.stands.ended ∙ (λ i. (progress_of (number i) (more i)).ended) in (
         number ∙ numbered,
         d.stands,
         d.worked,
-        subst (λ (l : List EventTree). IsInOrder l y) (sym d.log) (own_ordered old.options log x stood.1 d.event each d.next d.ends stood.3 y number pieces ended),
+        subst (λ (l : List EventTree). IsInOrder l y) (sym more) (own_ordered old.options log x stood.1 (event_tree d.event) each d.next d.ends stood.3 y number pieces ended),
       )
 
   -- where it does none
@@ -167,8 +170,8 @@ module _ (old new : BookView) (sessions : List Session) (place : ℕ) (x y : Ses
     options = options;
     scripts = scripts_stay;
     standing = set_all (StandsAt new) sessions place y (own_stands each d) (other_stands d);
-    played = λ earlier before. subst (IsPlayed old.options (scripts_of sessions) (earlier ++ (place + 1) ∷ [])) (sym d.log)
-        (Does earlier (log_tree old.log) (place + 1) x.pieces d.event before (omega arith) script (subst (λ n. IsNext old.options x.pieces n (log_tree old.log) d.event) numbered d.next));
+    played = λ earlier before. subst (IsPlayed old.options (scripts_of sessions) (earlier ++ (place + 1) ∷ [])) (sym (done_log old new x y d))
+        (Does earlier (log_tree old.log) (place + 1) x.pieces (event_tree d.event) before (omega arith) script (subst (λ n. IsNext old.options x.pieces n (log_tree old.log) (event_tree d.event)) numbered d.next));
   }
   turn_played each false d = record {
     options = options;
