@@ -82,7 +82,7 @@ fn written<L: Ledger>(
 {
     match stmt {
         Stmt::Query(_) | Stmt::Explain(_) => Err(Memory),
-        _ => book.write(alloc, scorer, WHO, stmt.copy(alloc)?, &Kernel::new(), steps),
+        _ => book.write(alloc, scorer, WHO, stmt, &Kernel::new(), steps),
     }
 }
 
