@@ -8,7 +8,9 @@
 //! steps rises by the work that they tell.
 #![tactic(auto)]
 
+mod finish;
 mod replay;
 mod turn;
 
-pub use replay::{Run, play_sessions};
+pub use finish::{Run, finish_run};
+pub use replay::play_sessions;

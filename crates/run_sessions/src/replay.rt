@@ -12,12 +12,12 @@ ghost use Rattle.store_changes.specs.Work.{Counts};
 ghost use Rattle.run_sessions.specs.Played.{IsScheduled};
 ghost use Rattle.run_sessions.specs.Tables.{AreOver, AreStanding, AreTexts, CountsTurns, HasRun, HaveEnded, HavePlayed, IsOver, scripts_of};
 
+use crate::finish::{Run, finish_run};
 use crate::turn::take_turn;
 use bat_core::Operate;
 use book_core::Book;
 use cell_core::{Memory, Sequence, Steps, Word};
 use pool_policy::PoolOptions;
-use run_log::{Event, Totals};
 use score_hook::Scorer;
 use session_run::Session;
 use sql_parse::one_reading;
@@ -26,17 +26,6 @@ use std::sync::ledger::Ledger;
 
 /// No log has so many events: a `Book` has no memory for them.
 const MANY_EVENTS: u32 = 1 << 30;
-
-/// What a run gives.
-#[derive(Drop)]
-pub struct Run {
-    /// The replies of each session, as they are printed.
-    pub texts: Vec<Vec<u8>>,
-    /// The log.
-    pub log: Vec<Event>,
-    /// The totals.
-    pub totals: Totals,
-}
 
 /// Runs sessions, one for each script, by turns: each turn lets a session do its next event, if it has one,
 /// and behind the last turn session 1 runs to its end, then session 2, and so on. The counter rises by the
@@ -76,11 +65,7 @@ pub fn play_sessions<E: Operate, L: Ledger>(
         steps,
     )?;
     run_all(alloc, &mut sessions, &mut book, scorer, kernel, steps)?;
-    let work = work_of(sessions.as_slice())?;
-    let texts = texts_of(alloc, sessions)?;
-    let (log, totals) = book.finish();
-    let totals = with_work(totals, work)?;
-    Ok(Run { texts, log, totals })
+    finish_run(alloc, book, sessions)
 }
 
 /// A session for each script.
@@ -169,42 +154,4 @@ fn run_all<E: Operate, L: Ledger>(
         run_on(alloc, sessions, place, book, scorer, kernel, steps)?;
     }
     Ok(())
-}
-
-/// The work of the sessions. A sum past 128 bits is want of memory.
-fn work_of(sessions: &[Session]) -> Result<u128, Memory>
-    ensures { IfOk result (λ work. work ≡ sum_by (λ (x : SessionSeen). x.work) sessions.now) }
-{
-    let mut work = 0_u128;
-    'sessions: for session in sessions {
-        work = work.checked_add(session.work).ok_or(Memory)?;
-    }
-    Ok(work)
-}
-
-/// Totals with more work. A sum past 128 bits is want of memory.
-fn with_work(totals: Totals, work: u128) -> Result<Totals, Memory>
-    ensures { IfOk result (λ more. more ≡ record totals { work = totals.work + work }) }
-{
-    let work = totals.work.checked_add(work).ok_or(Memory)?;
-    Ok(Totals { work, ..totals })
-}
-
-/// The text of a session.
-fn text_of(session: Session) -> Vec<u8>
-    ensures { result ≡ session.text }
-{
-    let Session { text, .. } = session;
-    text
-}
-
-/// The texts of the sessions.
-fn texts_of(alloc: Global, sessions: Vec<Session>) -> Result<Vec<Vec<u8>>, Memory>
-    ensures { IfOk result (λ texts. texts.items ≡ map (λ (x : SessionSeen). x.text) sessions.items) }
-{
-    let mut texts = Vec::new(alloc);
-    'sessions: for session in sessions {
-        texts.push(text_of(session))?;
-    }
-    Ok(texts)
 }

@@ -4,6 +4,7 @@ use Rattle.std.specs.List.{AllByRecursion}
 use Rattle.std.specs.declared.vec.Vec.{Vec}
 use Rattle.std.specs.declared.alloc.Global.{Global}
 use Rattle.std.proofs.lemmas.List.{length-map}
+use Rattle.std.proofs.lemmas.Result.{IfOk-weaker}
 use Rattle.store_changes.specs.Work.{Counts}
 use Rattle.pool_policy.specs.declared.options.PoolOptions.{PoolOptions}
 use Rattle.run_log.specs.declared.event.Event.{Event}
@@ -15,7 +16,7 @@ use Rattle.session_run.specs.Work.{run_lost, run_totals}
 use Rattle.run_sessions.specs.Played.{IsScheduled}
 use Rattle.run_sessions.specs.Tables.{AreStanding, AreTexts}
 use Rattle.run_sessions.proofs.SumLemmas.{IsOfOne}
-use Rattle.run_sessions.proofs.TotalLemmas.{run_comes}
+use Rattle.run_sessions.proofs.TotalLemmas.{ComesTo, both_ok, run_comes, run_counts, run_follows, run_of_sessions, run_texts, run_totals_are}
 use Rattle.run_sessions.proofs.replay.play_sessions.Goals as goal
 
 pub take_turns-requires : goal.take_turns-requires
@@ -41,24 +42,34 @@ run_all-requires g c =
       standing = played.standing;
     }
 
+pub finish_run-requires : goal.finish_run-requires
+finish_run-requires g c =
+    let ended = c.in_ok-run_all.ensures.ended in
+    let is =
+    run_comes c.in_ok-book.book c.take_turns.new.book c.run_all.new.book c.in_ok-sessions.sessions.items c.take_turns.new.sessions.items c.run_all.new.sessions.items c.args.options c.args.scripts.items c.args.turns.now
+    c.in_ok-book.ensures c.in_ok-sessions.ensures.scripts c.in_ok-take_turns.ensures.played c.in_ok-run_all.ensures.ended c.args.steps.now c.take_turns.new.steps c.run_all.new.steps
+    c.in_ok-sessions.ensures.done c.in_ok-take_turns.ensures.counts c.in_ok-run_all.ensures.counts in
+    record { standing = ended.played.standing; over = ended.over; sessions = is.of_sessions }
+
 pub returns : goal.returns
 returns g c =
     let options = c.args.options in
     let scripts = c.args.scripts.items in
     let turns = c.args.turns.now in
+    let book = c.run_all.new.book in
     let sessions = c.run_all.new.sessions.items in
-    let comes = run_comes c.in_ok-book.book c.take_turns.new.book c.run_all.new.book c.in_ok-sessions.sessions.items c.take_turns.new.sessions.items sessions options scripts turns
-    c.in_ok-book.ensures c.in_ok-sessions.ensures.scripts c.in_ok-take_turns.ensures.played c.in_ok-run_all.ensures.ended c.one_reading.ensures c.args.steps.now c.take_turns.new.steps c.run_all.new.steps
+    let from = c.args.steps.now in
+    let to = c.run_all.new.steps in
+    let is : ComesTo options scripts turns book sessions from to =
+    run_comes c.in_ok-book.book c.take_turns.new.book c.run_all.new.book c.in_ok-sessions.sessions.items c.take_turns.new.sessions.items c.run_all.new.sessions.items c.args.options c.args.scripts.items c.args.turns.now
+    c.in_ok-book.ensures c.in_ok-sessions.ensures.scripts c.in_ok-take_turns.ensures.played c.in_ok-run_all.ensures.ended c.args.steps.now c.take_turns.new.steps c.run_all.new.steps
     c.in_ok-sessions.ensures.done c.in_ok-take_turns.ensures.counts c.in_ok-run_all.ensures.counts in
-    let log = sym c.finish-log.ensures.log in
-    let work = c.in_ok-work.ensures ∙ ap (sum_by (λ (x : Session). x.work)) c.as_slice.ensures.value in
-    let totals = comes.totals c.finish-log.result.1 c.in_ok-totals.totals c.in_ok-work.work c.finish-log.ensures.totals work c.in_ok-totals.ensures in
+    let told = c.finish_run.ensures in
+    let result = c.finish_run.result in
     record {
-      scheduled = subst (λ (events : List Event). IsScheduled options scripts turns (log_tree events)) log comes.follows;
-      sessions = subst (λ (events : List Event). AllByRecursion (IsOfOne (length scripts)) (log_tree events)) log comes.of_sessions;
-      texts = subst (λ (events : List Event). AreTexts (log_tree events) 1 scripts (map (λ (text : Vec ℕ Global). text.items) c.in_ok-texts.texts.items)) log
-          (subst (λ (texts : List (Vec ℕ Global)). AreTexts (log_tree c.run_all.new.book.log) 1 scripts (map (λ (text : Vec ℕ Global). text.items) texts)) (sym c.in_ok-texts.ensures) comes.texts);
-      totals = subst (λ (events : List Event). c.in_ok-totals.totals ≡ run_totals options (log_tree events)) log totals;
-      counted = subst (λ (events : List Event). Counts c.args.steps.now c.run_all.new.steps c.in_ok-totals.totals.work (run_lost options (log_tree events))) log
-          (subst (λ work. Counts c.args.steps.now c.run_all.new.steps work (run_lost options (log_tree c.run_all.new.book.log))) (ap (λ (t : Totals). t.work) (sym totals)) comes.counted);
+      scheduled = IfOk-weaker result _ _ (λ run log. run_follows options scripts turns book sessions from to is run.log.items log) told.log;
+      sessions = IfOk-weaker result _ _ (λ run log. run_of_sessions options scripts turns book sessions from to is run.log.items log) told.log;
+      texts = both_ok result _ _ _ (λ run log texts. run_texts options scripts turns book sessions from to is run.log.items log (map (λ (text : Vec ℕ Global). text.items) run.texts.items) texts) told.log told.texts;
+      totals = both_ok result _ _ _ (λ run log totals. run_totals_are options scripts turns book sessions from to is run.log.items log run.totals totals) told.log told.totals;
+      counted = both_ok result _ _ _ (λ run log totals. run_counts options scripts turns book sessions from to is run.log.items log run.totals totals) told.log told.totals;
     }

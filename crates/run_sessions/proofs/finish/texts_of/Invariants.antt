@@ -1,6 +1,6 @@
 use Rattle.std.proofs.Common.{◌≡◌, ◌++◌, map}
 use Rattle.session_run.specs.declared.session.Session.{Session}
-use Rattle.run_sessions.proofs.replay.texts_of.Given as goal
+use Rattle.run_sessions.proofs.finish.texts_of.Given as goal
 
 -- the texts so far
 abbrev pub invariant-sessions : goal.invariant-sessions

@@ -1,7 +1,7 @@
 use Rattle.std.proofs.Common.{rules, ◌≡◌, ◌++◌, ◌∷◌, [], map, ap, sym, ◌∙◌, append_assoc}
 use Rattle.std.proofs.lemmas.List.{map-append}
 use Rattle.session_run.specs.declared.session.Session.{Session}
-use Rattle.run_sessions.proofs.replay.texts_of.Goals as goal
+use Rattle.run_sessions.proofs.finish.texts_of.Goals as goal
 
 pub sessions-preserved : goal.sessions-preserved
 sessions-preserved c =
