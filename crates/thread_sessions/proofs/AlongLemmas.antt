@@ -19,6 +19,7 @@ use Rattle.session_run.specs.Progress.{progress_of}
 use Rattle.session_run.specs.Stages.{HasComputed, HasDone}
 use Rattle.session_run.specs.Turns.{IsNext}
 use Rattle.session_run.specs.Works.{IsWorked}
+use Rattle.session_run.proofs.DoesLemmas.{done_log}
 use Rattle.session_run.proofs.OtherLemmas.{others_stay}
 use Rattle.session_run.proofs.RunLemmas.{lawful_front}
 use Rattle.session_run.proofs.StageLemmas.{computed_stands}
@@ -27,9 +28,7 @@ use Rattle.session_run.proofs.WorkedLemmas.{computed_worked}
 use Rattle.run_sessions.specs.Ordered.{IsInOrder}
 use Rattle.run_sessions.proofs.OrderLemmas.{ordered_as, others_ordered, own_ordered}
 use Rattle.thread_sessions.specs.Runners.{AddsEvent, DoesNext, HasSeen, IsAt, IsWith, session_of}
-use Rattle.thread_sessions.specs.Shown.{shown_event, shown_log}
 use Rattle.thread_sessions.proofs.ListLemmas.{at_more, by_append, by_own, others_behind}
-use Rattle.thread_sessions.proofs.ShownLemmas.{shown_back}
 
 abbrev Holds : Bool → Type 0
 Holds true = Unit {0}
@@ -78,10 +77,10 @@ along options x log (event ∷ more) lawful others at =
     (along options x (log ++ event ∷ []) more all others.1 (other_at options log x event (lawful_front options (log ++ event ∷ []) more all) others.0 at))
 
 -- a session stands where a lawful log is, of which it saw all that is its own
-pub seen_at : (options : PoolOptions) (log : List EventTree) (x : Session) → IsLawful options log → HasSeen options (shown_log log) x → IsAt options log x
+pub seen_at : (options : PoolOptions) (log : List Event) (x : Session) → IsLawful options (log_tree log) → HasSeen options log x → IsAt options (log_tree log) x
 seen_at options log x lawful s =
     let rest = s.begins.0 in
-    let list : log ≡ log_tree s.seen ++ log_tree rest = sym (shown_back log) ∙ ap log_tree s.begins.1 ∙ map-append event_tree s.seen rest in
+    let list : log_tree log ≡ log_tree s.seen ++ log_tree rest = ap log_tree s.begins.1 ∙ map-append event_tree s.seen rest in
     let others = others_behind x.number s.seen rest (ap (entries_by session_of x.number) (sym s.begins.1) ∙ s.own) in
     subst (λ (events : List EventTree). IsAt options events x) (sym list) (along options x (log_tree s.seen) (log_tree rest) (subst (IsLawful options) list lawful) others s.at)
 
@@ -101,14 +100,16 @@ pub own_at : EachReadsAsOne → (options : PoolOptions) (old new : BookView) (x 
     → IsAt options (log_tree new.log) y
 own_at each options old new x y was is number pieces d at =
     let log = log_tree old.log in
-    let next = subst (λ (o : PoolOptions). IsNext o x.pieces x.number log d.event) was d.next in
-    let ended = sym d.stands.ended ∙ (λ i. (progress_of (number i) (d.log i)).ended) in
+    let event = event_tree d.event in
+    let more = done_log old new x y d in
+    let next = subst (λ (o : PoolOptions). IsNext o x.pieces x.number log event) was d.next in
+    let ended = sym d.stands.ended ∙ (λ i. (progress_of (number i) (more i)).ended) in
     record {
       stands = subst (λ (o : PoolOptions). Stands o (log_tree new.log) y) is d.stands;
       worked = subst (λ (o : PoolOptions). IsWorked o (log_tree new.log) y) is d.worked;
-      ordered = subst (λ (l : List EventTree). IsInOrder l y) (sym d.log)
-          (own_ordered old.options log x (subst (λ (o : PoolOptions). Stands o log x) (sym was) at.stands) d.event each d.next d.ends at.ordered y number pieces ended);
-      does = subst (λ (l : List EventTree). DoesNext options l y) (sym d.log) (does_own options x y number pieces log d.event next at.does);
+      ordered = subst (λ (l : List EventTree). IsInOrder l y) (sym more)
+          (own_ordered old.options log x (subst (λ (o : PoolOptions). Stands o log x) (sym was) at.stands) event each d.next d.ends at.ordered y number pieces ended);
+      does = subst (λ (l : List EventTree). DoesNext options l y) (sym more) (does_own options x y number pieces log event next at.does);
     }
 
 -- ## Its pass

@@ -1,3 +1,2 @@
-pub mod ShownLemmas
 pub mod ListLemmas
 pub mod AlongLemmas

@@ -5,7 +5,6 @@ ghost use Rattle.run_log.specs.Events.{log_tree};
 ghost use Rattle.run_log.specs.Fold.{run_of};
 ghost use Rattle.book_core.specs.Lawful.{IsLawful};
 ghost use Rattle.session_run.specs.Stages.{IsReady};
-ghost use Rattle.thread_sessions.specs.Shown.{shown_log};
 ghost use Rattle.thread_sessions.specs.Runners.{AddsEvent, HasSeen, IsAt, session_of};
 
 use bat_core::Operate;
@@ -47,11 +46,10 @@ pub struct Kept<K: RunOptions> {
 impl<K: RunOptions> Logged for Kept<K> {
     type Entry = Event;
 
-    ghost entries = { λ kept. shown_log (log_tree kept.book.log) };
+    ghost entries = { λ kept. kept.book.log };
 
     ghost author = { session_of };
 
-    #[tactic(auto, using(crate::proofs::ShownLemmas::shown_long))]
     fn count(&self) -> u64 {
         self.book.count()
     }
@@ -75,7 +73,7 @@ impl<K: RunOptions> Kept<K> {
     /// A session that stood where the log was when it saw it stands where the log is now: what came between is of
     /// others.
     pub fn catch_up(&self, session: &Session)
-        requires { HasSeen K.options (shown_log (log_tree self.now.book.log)) session.now }
+        requires { HasSeen K.options self.now.book.log session.now }
         ensures { IsAt K.options (log_tree self.now.book.log) session.now }
     {
         let _ = self.book.log();
@@ -97,8 +95,8 @@ impl<K: RunOptions> Kept<K> {
         requires ready { IsReady session.old.stage }
         ensures number { OnOk result (session.new.number ≡ session.old.number) }
         ensures pieces { OnOk result (session.new.pieces ≡ session.old.pieces) }
-        ensures added { OnOk result (AddsEvent (shown_log (log_tree self.old.book.log)) session.old.number (shown_log (log_tree self.new.book.log))) }
-        ensures at { OnOk result (IsAt K.options (log_tree (shown_log (log_tree self.new.book.log))) session.new) }
+        ensures added { OnOk result (AddsEvent self.old.book.log session.old.number self.new.book.log) }
+        ensures at { OnOk result (IsAt K.options (log_tree self.new.book.log) session.new) }
         ensures same { OnErr result (self.new.book ≡ self.old.book) }
     {
         one_reading();

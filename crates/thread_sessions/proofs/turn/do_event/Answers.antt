@@ -3,7 +3,6 @@ use Rattle.run_log.specs.declared.event.Event.{Event}
 use Rattle.run_log.specs.Events.{log_tree}
 use Rattle.turn_hall.specs.Passes.{seen_by}
 use Rattle.thread_sessions.specs.Runners.{HasSeen, IsAt}
-use Rattle.thread_sessions.specs.Shown.{shown_log}
 use Rattle.thread_sessions.proofs.AlongLemmas.{added_with, turn_seen}
 use Rattle.thread_sessions.proofs.turn.do_event.Goals as goal
 
@@ -11,7 +10,7 @@ pub catch_up-requires : goal.catch_up-requires
 catch_up-requires g c =
     let options = g.K.RunOptions.options in
     let shows = sym c.value-kept.ensures.shows in
-    subst (λ (l : List Event). HasSeen options l c.args.session.now) (λ i. shown_log (log_tree (shows i).book.log))
+    subst (λ (l : List Event). HasSeen options l c.args.session.now) (λ i. (shows i).book.log)
     (turn_seen options c.args.pass.now c.args.session.now _ c.requires.stands c.turn-turn.ensures.begins c.turn-turn.ensures.own)
 
 pub returns-in-Ok-clause-stands : goal.returns-in-Ok-clause-stands

@@ -7,5 +7,5 @@ use Rattle.thread_sessions.proofs.kept.Kept.catch_up.Goals as goal
 
 pub returns : goal.returns
 returns g c =
-    let log = log_tree c.args.self.now.book.log in
-    seen_at g.K.RunOptions.options log c.args.session.now (subst (λ (o : PoolOptions). IsLawful o log) c.args.self.now.optioned c.log.ensures.lawful) c.requires
+    let log = c.args.self.now.book.log in
+    seen_at g.K.RunOptions.options log c.args.session.now (subst (λ (o : PoolOptions). IsLawful o (log_tree log)) c.args.self.now.optioned c.log.ensures.lawful) c.requires

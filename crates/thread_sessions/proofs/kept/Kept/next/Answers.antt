@@ -1,12 +1,9 @@
-use Rattle.std.proofs.Common.{List, ap, sym, ◌∙◌, subst}
+use Rattle.std.proofs.Common.{ap, sym, ◌∙◌, subst}
 use Rattle.pool_policy.specs.declared.options.PoolOptions.{PoolOptions}
 use Rattle.run_log.specs.Events.{EventTree, log_tree}
 use Rattle.session_run.specs.Kept.{Stands}
 use Rattle.session_run.specs.Works.{IsWorked}
-use Rattle.thread_sessions.specs.Runners.{IsAt}
-use Rattle.thread_sessions.specs.Shown.{shown_event}
 use Rattle.thread_sessions.proofs.AlongLemmas.{own_at}
-use Rattle.thread_sessions.proofs.ShownLemmas.{shown_back, shown_more}
 use Rattle.thread_sessions.proofs.kept.Kept.next.Goals as goal
 
 pub inside-requires : goal.inside-requires
@@ -25,11 +22,10 @@ inside-requires g c =
 pub returns-clause-added : goal.returns-clause-added
 returns-clause-added g c =
     let d = c.in_ok-inside.ensures.does in
-    (shown_event d.event, shown_more (log_tree c.args.self.now.book.log) (log_tree c.inside.new.book.log) d.event d.log, ap (λ (e : EventTree). e.session) d.next.is)
+    (d.event, d.log, ap (λ (e : EventTree). e.session) d.next.is)
 
 pub returns-clause-at : goal.returns-clause-at
 returns-clause-at g c =
     let told = c.in_ok-inside.ensures in
     let options = c.args.self.now.optioned in
-    subst (λ (log : List EventTree). IsAt g.K.RunOptions.options log c.inside.new.self) (sym (shown_back (log_tree c.inside.new.book.log)))
-    (own_at c.one_reading.ensures g.K.RunOptions.options c.args.self.now.book c.inside.new.book c.args.session.now c.inside.new.self options (c.inside.ensures.options ∙ options) told.number told.pieces told.does c.requires.at)
+    own_at c.one_reading.ensures g.K.RunOptions.options c.args.self.now.book c.inside.new.book c.args.session.now c.inside.new.self options (c.inside.ensures.options ∙ options) told.number told.pieces told.does c.requires.at
