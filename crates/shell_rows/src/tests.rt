@@ -6,14 +6,18 @@ use causes::{MemScripts, MemSink, SureScripts};
 use cell_core::{Memory, Op, RunError, Steps, Word, word_of};
 use sql_shell::top;
 use std::alloc::Global;
-use std::cell::Cell;
 use std::marker::Brand;
+use std::sync::Wait;
+use std::sync::atomic::{AtomicU64, Ordering};
 use std::sync::ledger::{Blank, Ledger};
 use std::test::Fail;
+use std::thread::Threads;
 
 mod closures;
+mod gates;
 mod generated;
 mod pooled;
+mod pools;
 mod replies;
 
 use replies::Replied;
@@ -22,7 +26,8 @@ use replies::Replied;
 type Outcome = (u8, u64, Vec<u8>);
 
 /// A run of the words over files, with the call of the source and the call of the sink that fail.
-fn run_words<L: Ledger>(
+fn run_words<L: Ledger, R: Threads + Wait + Sync>(
+    rt: &R,
     alloc: Global,
     texts: &[&str],
     files: Vec<(Word, Vec<u8>)>,
@@ -42,6 +47,7 @@ fn run_words<L: Ledger>(
     let mut steps = Steps::<L>::new(blank);
     let kernel = Kernel::new();
     let served = top(
+        rt,
         alloc,
         words.as_slice(),
         &mut scripts,
@@ -54,7 +60,8 @@ fn run_words<L: Ledger>(
 }
 
 /// The same over one script, named `a.sql`.
-fn run(
+fn run<R: Threads + Wait + Sync>(
+    rt: &R,
     alloc: Global,
     texts: &[&str],
     script: &[u8],
@@ -62,7 +69,7 @@ fn run(
 ) -> Result<Outcome, Memory> {
     let script = Vec::from_slice(alloc, script)?;
     let files = vec![in alloc; (word_of(alloc, "a.sql")?, script)]?;
-    run_words::<Brand>(alloc, texts, files, failing, Blank::new(1))
+    run_words::<Brand, _>(rt, alloc, texts, files, failing, Blank::new(1))
 }
 
 const THREE: &str = "CREATE TABLE t (a INT); INSERT INTO t VALUES (3), (1), (2); \
@@ -162,7 +169,7 @@ const SCRIPTS: [(&str, &str); 13] = [
 fn scripts_and_what_is_written(rt: HostRuntime) -> Result<(), Fail> {
     let alloc = rt.alloc();
     for (script, want) in SCRIPTS {
-        let (status, at, text) = run(alloc, &["run", "a.sql"], script.as_bytes(), (0, 0))?;
+        let (status, at, text) = run(&rt, alloc, &["run", "a.sql"], script.as_bytes(), (0, 0))?;
         assert_eq!(rt; (status, at), (0, 0), "{script}");
         assert!(rt; text.as_slice().starts_with(want.as_bytes()), "{script}");
         assert!(rt;
@@ -217,7 +224,7 @@ fn each_statement_has_its_reply(rt: HostRuntime) -> Result<(), Fail> {
     for statements in tables {
         let script = script_of(alloc, statements)?;
         let want = session_of(alloc, statements)?;
-        let (status, _, text) = run(alloc, &["run", "a.sql"], script.as_slice(), (0, 0))?;
+        let (status, _, text) = run(&rt, alloc, &["run", "a.sql"], script.as_slice(), (0, 0))?;
         assert_eq!(rt; status, 0);
         assert!(rt; text.as_slice().starts_with(want.as_bytes()), "{want}");
     }
@@ -254,7 +261,7 @@ fn statuses_and_what_they_are_about(rt: HostRuntime) -> Result<(), Fail> {
         ),
     ] {
         let words: Vec<&str> = words.split_whitespace().collect(alloc)?;
-        let (got, about, text) = run(alloc, words.as_slice(), three, (0, 0))?;
+        let (got, about, text) = run(&rt, alloc, words.as_slice(), three, (0, 0))?;
         assert_eq!(rt; (got, about), (status, at), "{name}");
         assert_eq!(rt; text.len(), 0, "{name}");
     }
@@ -274,11 +281,11 @@ fn statuses_and_what_they_are_about(rt: HostRuntime) -> Result<(), Fail> {
         ("no text", &[0xff], (0, 0), 6, 1, ""),
         ("257 statements", many_pieces.as_slice(), (0, 0), 4, 1, ""),
     ] {
-        let (got, about, text) = run(alloc, &["run", "a.sql"], script, failing)?;
+        let (got, about, text) = run(&rt, alloc, &["run", "a.sql"], script, failing)?;
         assert_eq!(rt; (got, about), (status, at), "{name}");
         assert_eq!(rt; text.as_slice(), written.as_bytes(), "{name}");
     }
-    let (status, at, text) = run(alloc, &["run", "a.sql", "b.sql"], &[0xff], (0, 0))?;
+    let (status, at, text) = run(&rt, alloc, &["run", "a.sql", "b.sql"], &[0xff], (0, 0))?;
     assert_eq!(rt;
         (status, at),
         (6, 1),
@@ -288,22 +295,28 @@ fn statuses_and_what_they_are_about(rt: HostRuntime) -> Result<(), Fail> {
     Ok(())
 }
 
-/// A run of two scripts, and one of as many files as there are names.
-fn run_two(alloc: Global, first: &str, second: &str) -> Result<Outcome, Memory> {
+/// A replay of two scripts by an empty schedule.
+fn run_two<R: Threads + Wait + Sync>(
+    rt: &R,
+    alloc: Global,
+    first: &str,
+    second: &str,
+) -> Result<Outcome, Memory> {
     let first = Vec::from_slice(alloc, first.as_bytes())?;
     let second = Vec::from_slice(alloc, second.as_bytes())?;
     let files = vec![in alloc;
+        (word_of(alloc, "order")?, Vec::new(alloc)),
         (word_of(alloc, "a.sql")?, first),
         (word_of(alloc, "b.sql")?, second),
     ]?;
-    let words = ["run", "a.sql", "b.sql"];
-    run_words::<Brand>(alloc, words.as_slice(), files, (0, 0), Blank::new(1))
+    let words = ["replay", "order", "a.sql", "b.sql"];
+    run_words::<Brand, _>(rt, alloc, words.as_slice(), files, (0, 0), Blank::new(1))
 }
 
 #[test]
 fn sessions_one_after_the_other(rt: HostRuntime) -> Result<(), Fail> {
     let alloc = rt.alloc();
-    let (status, at, text) = run_two(alloc, THREE, ASKED_AGAIN)?;
+    let (status, at, text) = run_two(&rt, alloc, THREE, ASKED_AGAIN)?;
     assert_eq!(rt; (status, at), (0, 0));
     let want = "session 1 a.sql\n1 ok\n2 ok 3\n3 rows 2\n2\n3\nsession 2 b.sql\n1 rows 2\n2\n3\n\
         history 2\n1 1 1 CREATE TABLE t (a INT);\n2 1 2 INSERT INTO t VALUES (3), (1), (2);\n\
@@ -320,7 +333,7 @@ fn at_most_sixteen_files(rt: HostRuntime) -> Result<(), Fail> {
         "run", "a.sql", "a.sql", "a.sql", "a.sql", "a.sql", "a.sql", "a.sql", "a.sql", "a.sql",
         "a.sql", "a.sql", "a.sql", "a.sql", "a.sql", "a.sql", "a.sql",
     ];
-    let (status, _, text) = run(alloc, sixteen.as_slice(), b"", (0, 0))?;
+    let (status, _, text) = run(&rt, alloc, sixteen.as_slice(), b"", (0, 0))?;
     assert_eq!(rt; status, 0);
     let nothing = NOTHING_SERVED.len() - 16;
     assert_eq!(rt; text.len(), 9 * 16 + 7 * 17 + nothing);
@@ -328,7 +341,7 @@ fn at_most_sixteen_files(rt: HostRuntime) -> Result<(), Fail> {
         "run", "a.sql", "a.sql", "a.sql", "a.sql", "a.sql", "a.sql", "a.sql", "a.sql", "a.sql",
         "a.sql", "a.sql", "a.sql", "a.sql", "a.sql", "a.sql", "a.sql", "a.sql",
     ];
-    let (status, at, _) = run(alloc, seventeen.as_slice(), b"", (0, 0))?;
+    let (status, at, _) = run(&rt, alloc, seventeen.as_slice(), b"", (0, 0))?;
     assert_eq!(rt; (status, at), (1, 0));
     Ok(())
 }
@@ -336,7 +349,7 @@ fn at_most_sixteen_files(rt: HostRuntime) -> Result<(), Fail> {
 /// The kernel, which counts its calls and has memory for so many of them.
 #[derive(Drop)]
 struct Counting {
-    calls: Cell<u64>,
+    calls: AtomicU64,
     most: u64,
 }
 
@@ -348,17 +361,17 @@ impl Operate for Counting {
         args: &[Obj],
         steps: &mut Steps<L>,
     ) -> Result<Obj, RunError> {
-        let calls = self.calls.get().saturating_add(1);
-        if self.most < calls {
+        if self.most <= self.calls.load(Ordering::SeqCst) {
             return Err(RunError::Memory);
         }
-        self.calls.set(calls);
+        let _ = self.calls.fetch_add(1, Ordering::SeqCst);
         Kernel::new().run(alloc, op, args, steps)
     }
 }
 
 /// The status and the work of a run of the words over files, and how often the kernel was called.
-fn run_counted<L: Ledger>(
+fn run_counted<L: Ledger, R: Threads + Wait + Sync>(
+    rt: &R,
     alloc: Global,
     texts: &[&str],
     files: &[(&str, &str)],
@@ -384,10 +397,11 @@ fn run_counted<L: Ledger>(
     let mut out = MemSink::new(alloc, 1000, 1000, Vec::new(alloc))?;
     let mut steps = Steps::<L>::new(blank);
     let kernel = Counting {
-        calls: Cell::new(0),
+        calls: AtomicU64::new(0),
         most,
     };
     let served = top(
+        rt,
         alloc,
         words.as_slice(),
         &mut scripts,
@@ -395,12 +409,22 @@ fn run_counted<L: Ledger>(
         &kernel,
         &mut steps,
     );
-    Ok((served.status, served.work, kernel.calls.get()))
+    Ok((
+        served.status,
+        served.work,
+        kernel.calls.load(Ordering::SeqCst),
+    ))
 }
 
 /// The same over one script.
-fn counted(alloc: Global, script: &str, most: u64) -> Result<(u8, u128, u64), Memory> {
-    run_counted::<Brand>(
+fn counted<R: Threads + Wait + Sync>(
+    rt: &R,
+    alloc: Global,
+    script: &str,
+    most: u64,
+) -> Result<(u8, u128, u64), Memory> {
+    run_counted::<Brand, _>(
+        rt,
         alloc,
         &["run", "a.sql"],
         &[("a.sql", script)],
@@ -410,13 +434,15 @@ fn counted(alloc: Global, script: &str, most: u64) -> Result<(u8, u128, u64), Me
 }
 
 /// The same over two scripts, in the order of an empty schedule.
-fn replayed<'a>(
+fn replayed<'a, R: Threads + Wait + Sync>(
+    rt: &R,
     alloc: Global,
     first: &'a str,
     second: &'a str,
     most: u64,
 ) -> Result<(u8, u128, u64), Memory> {
-    run_counted::<Brand>(
+    run_counted::<Brand, _>(
+        rt,
         alloc,
         &["replay", "order", "a.sql", "b.sql"],
         &[("order", ""), ("a.sql", first), ("b.sql", second)],
@@ -436,13 +462,13 @@ fn a_query_runs_as_its_plan_once(rt: HostRuntime) -> Result<(), Fail> {
     let alloc = rt.alloc();
     // select, mirror, markT, reverse and join, once each: the bind is no call of the kernel, and all is
     // found the second time
-    let served = counted(alloc, ASKED_TWICE, 5)?;
+    let served = counted(&rt, alloc, ASKED_TWICE, 5)?;
     assert_eq!(rt; served, (0, 27, 5));
-    let given_up = counted(alloc, ASKED_TWICE, 4)?;
+    let given_up = counted(&rt, alloc, ASKED_TWICE, 4)?;
     assert_eq!(rt; given_up, (5, 0, 4));
-    let served = replayed(alloc, THREE, ASKED_AGAIN, 5)?;
+    let served = replayed(&rt, alloc, THREE, ASKED_AGAIN, 5)?;
     assert_eq!(rt; served, (0, 27, 5));
-    let given_up = replayed(alloc, THREE, ASKED_AGAIN, 4)?;
+    let given_up = replayed(&rt, alloc, THREE, ASKED_AGAIN, 4)?;
     assert_eq!(rt; given_up, (5, 0, 4));
     Ok(())
 }
@@ -455,9 +481,9 @@ fn changes_run_as_their_plans(rt: HostRuntime) -> Result<(), Fail> {
     let alloc = rt.alloc();
     // DELETE: a bind of 3 pairs, then select, mirror, markT and reverse: 3 + 5 + 4 + 4 + 4 of work;
     // UPDATE: a bind of 1 pair, then mirror, markT, reverse, join and +: 1 + 2 + 2 + 2 + 3 + 2
-    let served = counted(alloc, DELETE_AND_UPDATE, 9)?;
+    let served = counted(&rt, alloc, DELETE_AND_UPDATE, 9)?;
     assert_eq!(rt; served, (0, 32, 9));
-    let given_up = counted(alloc, DELETE_AND_UPDATE, 8)?;
+    let given_up = counted(&rt, alloc, DELETE_AND_UPDATE, 8)?;
     assert_eq!(rt; given_up, (5, 0, 8));
     Ok(())
 }

@@ -15,7 +15,9 @@ use std::io::Write;
 use std::marker::Brand;
 use std::process::ExitCode;
 use std::rt::Files;
+use std::sync::Wait;
 use std::sync::ledger::{Blank, Ledger};
+use std::thread::Threads;
 use std::{env, io, mem};
 
 /// A status, and the file that it is about.
@@ -23,7 +25,8 @@ type Outcome = (u8, u64);
 
 fn main(rt: HostRuntime) -> ExitCode {
     let (status, at) = match words_of(&rt) {
-        Ok(words) => run::<Brand, _, _>(
+        Ok(words) => run::<Brand, _, _, _>(
+            &rt,
             rt.alloc(),
             words.as_slice(),
             &rt,
@@ -39,7 +42,8 @@ fn main(rt: HostRuntime) -> ExitCode {
 }
 
 /// Runs the program over the files of the system, with a writer for its output.
-fn run<L: Ledger, F: Files + Drop, W: Write + Drop>(
+fn run<L: Ledger, R: Threads + Wait + Sync, F: Files + Drop, W: Write + Drop>(
+    rt: &R,
     alloc: Global,
     words: &[Word],
     files: F,
@@ -54,7 +58,7 @@ fn run<L: Ledger, F: Files + Drop, W: Write + Drop>(
     let mut scripts = FileScripts::new(files);
     let mut out = OutSink::new(writer);
     let kernel = Kernel::new();
-    let served = top(alloc, words, &mut scripts, &mut out, &kernel, &mut steps);
+    let served = top(rt, alloc, words, &mut scripts, &mut out, &kernel, &mut steps);
     let Served {
         status,
         at,

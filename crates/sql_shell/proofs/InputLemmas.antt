@@ -8,9 +8,10 @@ use Rattle.command_line.specs.declared.command.Command.TheVariants.{Run, Replay,
 use Rattle.command_line.specs.Command.{files_of}
 use Rattle.turn_lines.specs.Schedule.{Bad, Turns}
 use Rattle.sql_shell.specs.Failures.{status_of, at_of, is_by_bytes, is_by_content}
-use Rattle.sql_shell.specs.Inputs.{AreTurns, IsBadSchedule, IsFirstWrong, IsReached, IsReplay, IsSchedule, IsText, IsToldRight, IsToldWrong, IsWrongSchedule}
+use Rattle.sql_shell.specs.Inputs.{IsBadSchedule, IsCourse, IsFirstWrong, IsReached, IsReplay, IsSchedule, IsText, IsToldRight, IsToldWrong, IsWrongSchedule}
 use Rattle.sql_shell.specs.Inputs.{TooLong, NotText, BadLine}
 use Rattle.sql_shell.specs.Scripts.{AreCut, AreTexts, CanBeRun, IsFirstUnfit}
+use Rattle.sql_shell.specs.declared.inputs.Course.{Course}
 use Rattle.sql_shell.specs.declared.scripts.Failure.{Failure}
 use Rattle.sql_shell.specs.declared.scripts.Failure.TheVariants.{Words, Fault, Memory}
 use Rattle.sql_shell.specs.declared.scripts.Failure.TheVariants as failure
@@ -64,10 +65,10 @@ module _ (bytes now : List ℕ → Option (List ℕ)) (same : (other : List ℕ)
   text_before name text is = subst (λ o. IfSome o (λ told. text ≡ told)) (same name) is
 
   -- what is told of the schedule's file stays as the scripts are read
-  pub turns_before : (command : Command) (turns : List ℕ) → AreTurns now command turns → AreTurns bytes command turns
-  turns_before (Run options files) turns are = are
-  turns_before (Replay options schedule files) turns are = (are.0, text_before schedule are.0 are.1, are.2)
-  turns_before (Generate seed) turns are = are
+  pub course_before : (command : Command) (course : Course) → IsCourse now command course → IsCourse bytes command course
+  course_before (Run options files) course is = is
+  course_before (Replay options schedule files) course (text, turns, is, told, of) = (text, turns, is, text_before schedule text told, of)
+  course_before (Generate seed) course is = is
 
   pub wrong_before : (command : Command) (status at : ℕ) → IsWrongSchedule now command status at → IsWrongSchedule bytes command status at
   wrong_before (Run options files) status at is = is
@@ -103,13 +104,13 @@ module _ (bytes : List ℕ → Option (List ℕ)) where
   -- ## What is told decides
 
   -- what was read isn't told to be wrong
-  pub read_not_wrong : (command : Command) (scripts : List Script) (turns : List ℕ) (status at : ℕ) → AreCut bytes (files_of command) scripts → AreTurns bytes command turns → IsToldWrong bytes command status at → ⊥
-  read_not_wrong (Run options files) scripts turns status at are of told = none_unfit bytes 1 files told.0 scripts status at are told.1 told.2
-  read_not_wrong (Replay options schedule files) scripts turns status at are of (inl told) = none_unfit bytes 1 files told.0 scripts status at are told.1 told.2
-  read_not_wrong (Replay options schedule files) scripts turns status at are of (inr told) =
+  pub read_not_wrong : (command : Command) (scripts : List Script) (course : Course) (status at : ℕ) → AreCut bytes (files_of command) scripts → IsCourse bytes command course → IsToldWrong bytes command status at → ⊥
+  read_not_wrong (Run options files) scripts course status at are of told = none_unfit bytes 1 files told.0 scripts status at are told.1 told.2
+  read_not_wrong (Replay options schedule files) scripts course status at are of (inl told) = none_unfit bytes 1 files told.0 scripts status at are told.1 told.2
+  read_not_wrong (Replay options schedule files) scripts course status at are (text, turns, is, said, of) (inr told) =
       good_not_bad (length files) told.1.0 turns status at
-      (subst (λ text. IsSchedule (length files) text turns) (told_text (bytes schedule) of.0 told.1.0 told.1.1 of.1) of.2) told.1.2
-  read_not_wrong (Generate seed) scripts turns status at are of told = told
+      (subst (λ (t : List ℕ). IsSchedule (length files) t turns) (told_text (bytes schedule) text told.1.0 told.1.1 said) of) told.1.2
+  read_not_wrong (Generate seed) scripts course status at are of told = told
 
   -- what is wrong first is what is told to be
   same_wrong : (command : Command) (s a status at : ℕ) → IsFirstWrong bytes command s a → IsToldWrong bytes command status at → (s ≡ status) × (a ≡ at)

@@ -13,16 +13,16 @@ use Rattle.run_log.specs.Events.{EventTree}
 use Rattle.answer_text.specs.Log.{AreStatements, logged_of}
 use Rattle.answer_text.specs.Layout.{history_text, log_text, replies_text, session_line, session_text, sessions_text, totals_text}
 use Rattle.command_line.specs.declared.command.RunOptions.{RunOptions}
-use Rattle.store_changes.specs.Work.{Counts}
-use Rattle.session_run.specs.Work.{run_lost, run_totals}
-use Rattle.run_sessions.specs.Played.{IsScheduled}
+use Rattle.session_run.specs.Work.{run_totals}
 use Rattle.run_sessions.specs.Tables.{AreTexts, IsText}
 use Rattle.sql_tree.specs.Pieces.{pieces_of}
 use Rattle.command_line.specs.declared.command.Command.{Command}
 use Rattle.command_line.specs.Command.{files_of, options_of}
-use Rattle.sql_shell.specs.Inputs.{AreTurns}
-use Rattle.sql_shell.specs.Scripts.{AreCut, names_of, pieces_in}
-use Rattle.sql_shell.specs.Served.{AreAllRead, IsRun, IsServed, pool_of, texts_under}
+use Rattle.sql_shell.specs.Inputs.{IsCourse}
+use Rattle.sql_shell.specs.Ready.{IsServedBy}
+use Rattle.sql_shell.specs.Scripts.{AreCut, names_of}
+use Rattle.sql_shell.specs.Served.{AreAllRead, IsMade, IsRun, IsServed, pool_of, texts_under}
+use Rattle.sql_shell.specs.declared.inputs.Inputs.{Inputs}
 use Rattle.sql_shell.specs.declared.scripts.Script.{Script}
 use Rattle.sql_shell.proofs.ScriptLemmas.{are_of}
 
@@ -89,12 +89,12 @@ texts_many log session (p ∷ ps) [] are = absurd are
 texts_many log session (p ∷ ps) (t ∷ ts) are = omega (arith, texts_many log (session + 1) ps ts are.1)
 
 -- a run of these sessions is served, where this is printed of it
-pub served_of : (options : RunOptions) (names : List (List ℕ)) (scripts : List (List (List ℕ))) (turns text : List ℕ) (texts : List (List ℕ)) (log : List EventTree) (totals : Totals) (before after : ℕ)
-    → length names ≡ length texts → IsScheduled (pool_of options) scripts turns log → AllByRecursion (λ (event : EventTree). (1 ≤ event.session) × (event.session ≤ length scripts)) log → AreTexts log 1 scripts texts
-    → totals ≡ run_totals (pool_of options) log → Counts before after totals.work (run_lost (pool_of options) log)
+pub served_of : (options : RunOptions) (names : List (List ℕ)) (scripts : List (List (List ℕ))) (text : List ℕ) (texts : List (List ℕ)) (log : List EventTree) (totals : Totals)
+    → length names ≡ length texts → AllByRecursion (λ (event : EventTree). (1 ≤ event.session) × (event.session ≤ length scripts)) log → AreTexts log 1 scripts texts
+    → totals ≡ run_totals (pool_of options) log
     → text ≡ ((texts_under 1 names texts ++ history_text log) ++ totals_text totals) ++ (if options.events then log_text log else [])
-    → IsServed options names scripts turns text log totals.work before after
-served_of options names scripts turns text texts log totals before after same scheduled sessions are is counted printed =
+    → IsServed options names scripts text log totals.work
+served_of options names scripts text texts log totals same sessions are is printed =
     let of = read_as log 1 scripts texts are in
     record {
       readings = of.readings;
@@ -103,28 +103,29 @@ served_of options names scripts turns text texts log totals before after same sc
         sessions = subst (λ n. AllByRecursion (λ (event : EventTree). (1 ≤ event.session) × (event.session ≤ n)) log) (sym of.count) sessions;
         statements = of.statements;
       };
-      scheduled = scheduled;
       printed_is = printed ∙ ap (λ front. ((front ++ history_text log) ++ totals_text totals) ++ (if options.events then log_text log else [])) (of.under names same)
           ∙ ap (λ (t : Totals). ((sessions_text names of.readings log ++ history_text log) ++ totals_text t) ++ (if options.events then log_text log else [])) is;
       work_is = ap (λ (t : Totals). t.work) is;
-      counted = counted;
     }
 
 -- the run of scripts that were read is that of the command
-pub run_of : (bytes : List ℕ → Option (List ℕ)) (command : Command) (options : RunOptions) (scripts : List Script) (turns text : List ℕ) (log : List EventTree) (work before after : ℕ)
-    → AreCut bytes (files_of command) scripts → AreTurns bytes command turns → options ≡ options_of command → IsServed options (names_of scripts) (pieces_in scripts) turns text log work before after
+pub run_of : (bytes : List ℕ → Option (List ℕ)) (command : Command) (options : RunOptions) (inputs : Inputs) (text : List ℕ) (log : List EventTree) (work before after : ℕ)
+    → AreCut bytes (files_of command) inputs.scripts.items → IsCourse bytes command inputs.course → options ≡ options_of command → IsServedBy options inputs text log work before after
     → IsRun bytes command text log work before after
-run_of bytes command options scripts turns text log work before after are turns_are same served =
+run_of bytes command options inputs text log work before after are course same (served, made) =
+    let scripts = inputs.scripts.items in
     let of = are_of bytes (files_of command) scripts are in
     record {
       scripts = of.texts;
       told = of.told;
       runnable = of.runnable;
-      turns = turns;
-      turns_are = turns_are;
-      served = subst (λ (o : RunOptions). IsServed o (files_of command) (map pieces_of of.texts) turns text log work before after) same
-          (subst (λ (names : List (List ℕ)). IsServed options names (map pieces_of of.texts) turns text log work before after) of.named
-          (subst (λ (pieces : List (List (List ℕ))). IsServed options (names_of scripts) pieces turns text log work before after) of.cut served));
+      course = inputs.course;
+      course_is = course;
+      served = subst (λ (o : RunOptions). IsServed o (files_of command) (map pieces_of of.texts) text log work) same
+          (subst (λ (names : List (List ℕ)). IsServed options names (map pieces_of of.texts) text log work) of.named
+          (subst (λ (pieces : List (List (List ℕ))). IsServed options (names_of scripts) pieces text log work) of.cut served));
+      made = subst (λ (o : RunOptions). IsMade (pool_of o) (map pieces_of of.texts) inputs.course log before after) same
+          (subst (λ (pieces : List (List (List ℕ))). IsMade (pool_of options) pieces inputs.course log before after) of.cut made);
     }
 
 -- ## Texts under names, one after the other

@@ -1,9 +1,12 @@
 -- What a command reads before its first statement: its scripts, and its schedule. A `generate` reads nothing.
 use Rattle.std.specs.Prelude.{◌≡◌, ℕ, zero, suc, ◌-◌, ◌≤◌, ◌<◌, ◌⊎◌, List, [], length, take, Option, Some, IfSome, IsUtf8}
+use Rattle.std.specs.List.{AllByRecursion}
 use Rattle.causes.specs.Limits.{most_bytes}
 use Rattle.command_line.specs.declared.command.Command.{Command}
 use Rattle.command_line.specs.declared.command.Command.TheVariants.{Run, Replay, Generate}
 use Rattle.turn_lines.specs.Schedule.{Bad, Turns, schedule_of}
+use Rattle.sql_shell.specs.declared.inputs.Course.{Course}
+use Rattle.sql_shell.specs.declared.inputs.Course.TheVariants.{InThreads, ByTurns}
 use Rattle.sql_shell.specs.Scripts.{AreRunnable, AreTexts, AreToldFirst, CanBeRun, IsFirstUnfit}
 
 -- ## Schedules
@@ -24,11 +27,16 @@ pub data IsBadSchedule (sessions : ℕ) (text : List ℕ) (status at : ℕ) : Ty
   NotText : length text ≤ most_bytes → (IsUtf8 text → ⊥) → status ≡ 6 → at ≡ 0 → IsBadSchedule sessions text status at
   BadLine : length text ≤ most_bytes → IsUtf8 text → schedule_of sessions text ≡ Bad at → status ≡ 7 → IsBadSchedule sessions text status at
 
--- the turns of a command: those of its schedule; without one there are none
-abbrev pub AreTurns : (List ℕ → Option (List ℕ)) → Command → List ℕ → Type 0
-AreTurns bytes (Run options files) turns = turns ≡ []
-AreTurns bytes (Replay options schedule files) turns = (text : List ℕ) × IsText bytes schedule text × IsSchedule (length files) text turns
-AreTurns bytes (Generate seed) turns = turns ≡ []
+-- how a command's sessions go: in threads under `run`, by the turns of its schedule under `replay`, and by none under `generate`
+abbrev pub IsCourse : (List ℕ → Option (List ℕ)) → Command → Course → Type 0
+IsCourse bytes (Run options files) course = course ≡ InThreads
+IsCourse bytes (Replay options schedule files) course = (text turns : List ℕ) × (course ≡ ByTurns turns) × IsText bytes schedule text × IsSchedule (length files) text turns
+IsCourse bytes (Generate seed) course = course ≡ ByTurns []
+
+-- turns are of so many sessions
+abbrev pub AreTurnsOf : ℕ → Course → Type 0
+AreTurnsOf sessions InThreads = Unit {0}
+AreTurnsOf sessions (ByTurns turns) = AllByRecursion (λ turn. (1 ≤ turn) × (turn ≤ sessions)) turns
 
 -- ## What is wrong first
 

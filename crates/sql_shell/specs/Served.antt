@@ -14,7 +14,10 @@ use Rattle.session_run.specs.Readings.{AreReadings}
 use Rattle.session_run.specs.Work.{run_lost, run_totals, run_work}
 use Rattle.run_sessions.specs.Played.{IsScheduled}
 use Rattle.command_line.specs.Command.{files_of, options_of}
-use Rattle.sql_shell.specs.Inputs.{AreTurns}
+use Rattle.thread_sessions.specs.Runs.{IsRunOut}
+use Rattle.sql_shell.specs.declared.inputs.Course.{Course}
+use Rattle.sql_shell.specs.declared.inputs.Course.TheVariants.{InThreads, ByTurns}
+use Rattle.sql_shell.specs.Inputs.{IsCourse}
 use Rattle.sql_shell.specs.Scripts.{AreRunnable, AreTexts}
 
 -- ## Runs
@@ -33,24 +36,28 @@ AreAllRead [] [] = Unit {0}
 AreAllRead (pieces ∷ scripts) (readings ∷ others) = AreReadings pieces readings × AreAllRead scripts others
 AreAllRead _ _ = ⊥
 
--- a run of scripts with these names and statements, by these turns, has this log, and this is what is printed of it: the log has each statement once and in its session's order, each reply is the meaning of its statement over the tables after exactly the commits before its place, the history is the commits, and the pool, its totals and each event are those of this schedule; while the counter goes from here to there
-pub record IsServed (options : RunOptions) (names : List (List ℕ)) (scripts : List (List (List ℕ))) (turns text : List ℕ) (log : List EventTree) (work before after : ℕ) : Type 0 where
+-- a run of scripts with these names and statements has this log, and this is what is printed of it: the log has each statement once and in its session's order, each reply is the meaning of its statement over the tables after exactly the commits before its place, the history is the commits, and the pool, its totals and each event are those of this log
+pub record IsServed (options : RunOptions) (names : List (List ℕ)) (scripts : List (List (List ℕ))) (text : List ℕ) (log : List EventTree) (work : ℕ) : Type 0 where
   pub readings : List (List (Result StmtTree Refusal))
   pub read : AreAllRead scripts readings
   pub ordered : IsOrdered readings log
-  pub scheduled : IsScheduled (pool_of options) scripts turns log
   pub printed_is : text ≡ printed options.events names readings log (run_totals (pool_of options) log)
   pub work_is : work ≡ run_work (pool_of options) log
-  pub counted : Counts before after work (run_lost (pool_of options) log)
+
+-- how such a log comes about, event by event: in threads by some turns, until all sessions are done; else by given turns, while the counter goes from here to there
+abbrev pub IsMade : PoolOptions → List (List (List ℕ)) → Course → List EventTree → ℕ → ℕ → Type 0
+IsMade pool scripts InThreads log before after = IsRunOut pool scripts log
+IsMade pool scripts (ByTurns turns) log before after = IsScheduled pool scripts turns log × Counts before after (run_work pool log) (run_lost pool log)
 
 -- a command's run: each of its files has a text, which is what is told of it where it is told; these texts can be run, and what is printed, logged and counted is theirs
 pub record IsRun (bytes : List ℕ → Option (List ℕ)) (command : Command) (text : List ℕ) (log : List EventTree) (work before after : ℕ) : Type 0 where
   pub scripts : List (List ℕ)
   pub told : AreTexts bytes (files_of command) scripts
   pub runnable : AreRunnable scripts
-  pub turns : List ℕ
-  pub turns_are : AreTurns bytes command turns
-  pub served : IsServed (options_of command) (files_of command) (map pieces_of scripts) turns text log work before after
+  pub course : Course
+  pub course_is : IsCourse bytes command course
+  pub served : IsServed (options_of command) (files_of command) (map pieces_of scripts) text log work
+  pub made : IsMade (pool_of (options_of command)) (map pieces_of scripts) course log before after
 
 -- a status: served, words, read fault, write fault, too long, memory, not text, bad line
 abbrev pub is_status : ℕ → Bool

@@ -4,24 +4,33 @@ ghost use Rattle.std.specs.List.{AllByRecursion};
 ghost use Rattle.causes.specs.Faults.{Rose};
 ghost use Rattle.sql_shell.specs.Answered as answered;
 ghost use Rattle.sql_shell.specs.Failures.{at_of, is_by_content, status_of};
-ghost use Rattle.sql_shell.specs.Inputs.{AreTurns, HasBadSchedule, IsBadSchedule, IsFirstWrong, IsReached, IsReplay, IsSchedule, IsText, IsWrongSchedule};
+ghost use Rattle.sql_shell.specs.Inputs.{AreTurnsOf, HasBadSchedule, IsBadSchedule, IsCourse, IsFirstWrong, IsReached, IsReplay, IsSchedule, IsText, IsWrongSchedule};
 ghost use Rattle.command_line.specs.Command.{files_of as files_in, options_of as options_in};
 ghost use Rattle.sql_shell.specs.Scripts.{AreCut};
 
 use crate::scripts::{Failure, Script, read_scripts};
 use causes::{ReadError, Scripts, read_all};
-use cell_core::Word;
+use cell_core::{Sequence, Word};
 use command_line::{Command, RunOptions, default_options};
 use std::alloc::Global;
 use turn_lines::{ScheduleError, turns_of};
+
+/// How sessions go.
+#[derive(Debug, Drop)]
+pub enum Course {
+    /// Each on a thread of its own.
+    InThreads,
+    /// On one thread, by the turns of a schedule.
+    ByTurns(Sequence<u32>),
+}
 
 /// What a command has read.
 #[derive(Debug, Drop)]
 pub struct Inputs {
     /// The scripts of its files.
     pub scripts: Vec<Script>,
-    /// The turns of its schedule; none without one.
-    pub turns: Vec<u32>,
+    /// How their sessions go.
+    pub course: Course,
 }
 
 /// The files of a command's scripts.
@@ -66,8 +75,8 @@ pub fn read_inputs<S: Scripts>(
 ) -> Result<Inputs, Failure>
     requires { length (files_in command.now) ≤ 16 }
     ensures cut { IfOk result (λ inputs. AreCut (S.bytes_of source.old) (files_in command.now) inputs.scripts.items) }
-    ensures turns { IfOk result (λ inputs. AreTurns (S.bytes_of source.old) command.now inputs.turns.items) }
-    ensures each { IfOk result (λ inputs. AllByRecursion (λ turn. (1 ≤ turn) × (turn ≤ length (files_in command.now))) inputs.turns.items) }
+    ensures course { IfOk result (λ inputs. IsCourse (S.bytes_of source.old) command.now inputs.course) }
+    ensures each { IfOk result (λ inputs. AreTurnsOf (length (files_in command.now)) inputs.course) }
     ensures wrong { IfErr result (λ e. is_by_content (status_of e) ≡ true → IsFirstWrong (S.bytes_of source.old) command.now (status_of e) (at_of e)) }
     ensures fault { IfErr result (λ e. status_of e ≡ 2 → Rose (S.faults source.old) (S.faults source.new)) }
     ensures reached { IfErr result (λ e. status_of e ≡ 2 → IsReached (S.bytes_of source.old) command.now (at_of e)) }
@@ -78,34 +87,37 @@ pub fn read_inputs<S: Scripts>(
         Ok(scripts) => scripts,
         Err(failure) => return Err(failure),
     };
-    match read_turns(alloc, source, command) {
-        Ok(turns) => Ok(Inputs { scripts, turns }),
+    match read_course(alloc, source, command) {
+        Ok(course) => Ok(Inputs { scripts, course }),
         Err(failure) => Err(failure),
     }
 }
 
-/// Reads the turns of a command's schedule; without one there are none.
-fn read_turns<S: Scripts>(
+/// How a command's sessions go: by its schedule, which is read, or in threads.
+fn read_course<S: Scripts>(
     alloc: Global,
     source: &mut S,
     command: &Command,
-) -> Result<Vec<u32>, Failure>
+) -> Result<Course, Failure>
     requires { length (files_in command.now) ≤ 16 }
-    ensures turns { IfOk result (λ turns. AreTurns (S.bytes_of source.old) command.now turns.items) }
-    ensures each { IfOk result (λ turns. AllByRecursion (λ turn. (1 ≤ turn) × (turn ≤ length (files_in command.now))) turns.items) }
+    ensures course { IfOk result (λ course. IsCourse (S.bytes_of source.old) command.now course) }
+    ensures each { IfOk result (λ course. AreTurnsOf (length (files_in command.now)) course) }
     ensures wrong { IfErr result (λ e. is_by_content (status_of e) ≡ true → IsWrongSchedule (S.bytes_of source.old) command.now (status_of e) (at_of e)) }
     ensures fault { IfErr result (λ e. status_of e ≡ 2 → Rose (S.faults source.old) (S.faults source.new) × IsReplay command.now) }
     ensures words { IfErr result (λ e. status_of e ≢ 1) }
     ensures schedule { IfErr result (λ e. status_of e ≢ 7 → at_of e ≡ 0) }
 {
     match command {
-        Command::Run { .. } => Ok(Vec::new(alloc)),
+        Command::Run { .. } => Ok(Course::InThreads),
         Command::Replay {
             schedule,
             files,
             ..
-        } => read_schedule(alloc, source, schedule, files.len() as u32),
-        Command::Generate { .. } => Ok(Vec::new(alloc)),
+        } => match read_schedule(alloc, source, schedule, files.len() as u32) {
+            Ok(turns) => Ok(Course::ByTurns(Sequence::from_vec(turns))),
+            Err(failure) => Err(failure),
+        },
+        Command::Generate { .. } => Ok(Course::ByTurns(Sequence::new(alloc))),
     }
 }
 

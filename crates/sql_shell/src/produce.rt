@@ -1,16 +1,20 @@
 //! A run of scripts, and what is printed of it.
-ghost use Rattle.std.specs.Prelude.{◌≡◌, ◌≢◌, ◌≤◌, ◌+◌, ◌++◌, ℕ, List, [], length, map, All, IfOk, if◌then◌else◌};
+ghost use Rattle.std.specs.Prelude.{◌≡◌, ◌≢◌, ◌≤◌, ◌+◌, ◌^◌, ◌++◌, ℕ, List, [], length, map, All, IfOk, if◌then◌else◌};
 ghost use Rattle.std.specs.declared.vec.Vec.{Vec as VecSeen};
 ghost use Rattle.std.specs.declared.alloc.Global.{Global as GlobalSeen};
-ghost use Rattle.run_log.specs.Events.{log_tree};
+ghost use Rattle.std.specs.List.{AllByRecursion};
+ghost use Rattle.run_log.specs.Events.{EventTree, log_tree};
+ghost use Rattle.session_run.specs.Work.{run_totals};
+ghost use Rattle.run_sessions.specs.Tables.{AreTexts};
 ghost use Rattle.answer_text.specs.Layout.{history_text, log_text, totals_text};
 ghost use Rattle.score_hook.specs.declared.stats.Evict.TheVariants.{Weighted};
 ghost use Rattle.score_hook.specs.Scores.{AreWeights, IsInRange, score_of};
 ghost use Rattle.sql_shell.specs.Scripts.{names_of, pieces_in};
 ghost use Rattle.sql_shell.specs.Ready.{AreReady, IsServedBy};
-ghost use Rattle.sql_shell.specs.Served.{pool_of, texts_under};
+ghost use Rattle.sql_shell.specs.Inputs.{AreTurnsOf};
+ghost use Rattle.sql_shell.specs.Served.{IsMade, pool_of, texts_under};
 
-use crate::inputs::Inputs;
+use crate::inputs::{Course, Inputs};
 use crate::scripts::Script;
 use answer_text::{write_history, write_log, write_session_line, write_totals};
 use bat_core::Operate;
@@ -21,7 +25,10 @@ use run_log::Event;
 use run_sessions::{Run, play_sessions};
 use score_hook::{Evict, Score, ScoreCall, Scorer, Stats, formula, weighted_formula};
 use std::alloc::Global;
+use std::sync::Wait;
 use std::sync::ledger::Ledger;
+use std::thread::Threads;
+use thread_sessions::serve_sessions;
 
 /// The most entries of a pool.
 const MOST_ENTRIES: u64 = 1_024;
@@ -37,10 +44,11 @@ pub struct Produced {
     pub work: u128,
 }
 
-/// Runs the scripts by turns as sessions that share a pool of these options: their log, what is printed of
-/// it, and their work, by which the counter rises, and by no more than that of the plans that overflow
-/// beside it.
-pub fn produce<E: Operate, L: Ledger>(
+/// Runs the scripts as sessions that share a pool of these options, in threads or by turns: their log, what
+/// is printed of it, and their work. By turns the counter rises by it, and by no more than that of the plans
+/// that overflow beside it.
+pub fn produce<R: Threads + Wait + Sync, E: Operate + Sync, L: Ledger>(
+    rt: &R,
     alloc: Global,
     options: RunOptions,
     inputs: Inputs,
@@ -51,13 +59,14 @@ pub fn produce<E: Operate, L: Ledger>(
     ensures { IfOk result (λ run. IsServedBy options inputs run.text.items (log_tree run.log) run.work steps.old steps.new) }
 {
     match options.evict {
-        Evict::Weighted => produce_weighted(alloc, options, inputs, kernel, steps),
-        _ => produce_plain(alloc, options, inputs, kernel, steps),
+        Evict::Weighted => produce_weighted(rt, alloc, options, inputs, kernel, steps),
+        _ => produce_plain(rt, alloc, options, inputs, kernel, steps),
     }
 }
 
 /// The same where entries are scored by a rule that knows no weights of operators.
-fn produce_plain<E: Operate, L: Ledger>(
+fn produce_plain<R: Threads + Wait + Sync, E: Operate + Sync, L: Ledger>(
+    rt: &R,
     alloc: Global,
     options: RunOptions,
     inputs: Inputs,
@@ -78,11 +87,12 @@ fn produce_plain<E: Operate, L: Ledger>(
         { formula(kind, stats, now) },
     )?;
     let scorer = Scorer::new(alloc, kind, call);
-    play(alloc, options, inputs, &scorer, kernel, steps)
+    play(rt, alloc, options, inputs, &scorer, kernel, steps)
 }
 
 /// The same where they are scored by weights of operators, of which the closure has a list of its own.
-fn produce_weighted<E: Operate, L: Ledger>(
+fn produce_weighted<R: Threads + Wait + Sync, E: Operate + Sync, L: Ledger>(
+    rt: &R,
     alloc: Global,
     options: RunOptions,
     inputs: Inputs,
@@ -104,11 +114,12 @@ fn produce_weighted<E: Operate, L: Ledger>(
         { weighted_formula(held.as_slice(), stats, now) },
     )?;
     let scorer = Scorer::weighted(kept, call);
-    play(alloc, options, inputs, &scorer, kernel, steps)
+    play(rt, alloc, options, inputs, &scorer, kernel, steps)
 }
 
 /// The same with a scorer that is lent.
-fn play<E: Operate, L: Ledger>(
+fn play<R: Threads + Wait + Sync, E: Operate + Sync, L: Ledger>(
+    rt: &R,
     alloc: Global,
     options: RunOptions,
     inputs: Inputs,
@@ -122,18 +133,10 @@ fn play<E: Operate, L: Ledger>(
     ensures { IfOk result (λ run. IsServedBy options inputs run.text.items (log_tree run.log) run.work steps.old steps.new) }
 {
     let events = options.events;
-    let Inputs { scripts, turns } = inputs;
+    let Inputs { scripts, course } = inputs;
     let Parts { names, scripts } = split(alloc, scripts)?;
     let pool = pool_for(options);
-    let run = play_sessions(
-        alloc,
-        scripts,
-        turns.as_slice(),
-        pool,
-        scorer,
-        kernel,
-        steps,
-    )?;
+    let run = run_scripts(rt, alloc, course, scripts, pool, scorer, kernel, steps)?;
     let text = print_run(alloc, events, names.as_slice(), &run)?;
     let Run { log, totals, .. } = run;
     Ok(Produced {
@@ -141,6 +144,43 @@ fn play<E: Operate, L: Ledger>(
         text,
         work: totals.work,
     })
+}
+
+/// Runs sessions, one for each script, in threads or by turns.
+fn run_scripts<R: Threads + Wait + Sync, E: Operate + Sync, L: Ledger>(
+    rt: &R,
+    alloc: Global,
+    course: Course,
+    scripts: Vec<Sequence<Word>>,
+    pool: PoolOptions,
+    scorer: &Scorer,
+    kernel: &E,
+    steps: &mut Steps<L>,
+) -> Result<Run, Memory>
+    requires few { length scripts.items ≤ 16 }
+    requires short { AllByRecursion (λ (pieces : List (List ℕ)). length pieces ≤ 256) scripts.items }
+    requires turns { AreTurnsOf (length scripts.items) course }
+    requires kind { scorer.now.kind ≡ pool.evict }
+    requires weights { scorer.now.weights.items ≡ pool.weights }
+    requires places { pool.places ≤ 1024 }
+    requires budget { pool.budget ≤ 2 ^ 40 }
+    ensures made { IfOk result (λ run. IsMade pool scripts.items course (log_tree run.log.items) steps.old steps.new) }
+    ensures sessions { IfOk result (λ run. AllByRecursion (λ (event : EventTree). (1 ≤ event.session) × (event.session ≤ length scripts.items)) (log_tree run.log.items)) }
+    ensures texts { IfOk result (λ run. AreTexts (log_tree run.log.items) 1 scripts.items (map (λ (text : VecSeen ℕ GlobalSeen). text.items) run.texts.items)) }
+    ensures totals { IfOk result (λ run. run.totals ≡ run_totals pool (log_tree run.log.items)) }
+{
+    match course {
+        Course::InThreads => serve_sessions(rt, alloc, scripts, pool, scorer, kernel),
+        Course::ByTurns(turns) => play_sessions(
+            alloc,
+            scripts,
+            turns.as_slice(),
+            pool,
+            scorer,
+            kernel,
+            steps,
+        ),
+    }
 }
 
 /// The pool of a run with these options.

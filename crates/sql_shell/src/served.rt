@@ -20,7 +20,9 @@ use cell_core::{Memory, Sequence, Steps, Word};
 use command_line::{RunOptions, command_of};
 use run_log::Event;
 use std::alloc::Global;
+use std::sync::Wait;
 use std::sync::ledger::Ledger;
+use std::thread::Threads;
 
 /// What the program answers.
 #[derive(Debug, Drop)]
@@ -39,12 +41,14 @@ pub struct Served {
 }
 
 /// Does all that the program does: reads the scripts that the words name, and the schedule of a replay, runs
-/// the scripts as sessions that share tables and a pool of results, event by event in the order of the
-/// schedule, and writes the replies, the history of accepted changes, the pool's totals, and the log where
-/// it is asked for. For `generate` it reads nothing, runs the sample scripts of the number, and writes the
-/// number and the pool's totals. The counter rises by the work, and beyond it by no more than the loads of
-/// the plans that overflow.
-pub fn top<S: Scripts, K: Sink, E: Operate, L: Ledger>(
+/// the scripts as sessions that share tables and a pool of results, and writes the replies, the history of
+/// accepted changes, the pool's totals, and the log where it is asked for. Under `run` each session has a
+/// thread, as far as threads can be made, and takes turns with the others at the log; nothing is said of the
+/// counter. Under `replay` the sessions do their events in the order of the schedule, and the counter rises
+/// by the work, and beyond it by no more than the loads of the plans that overflow. `generate` replays the
+/// sample scripts of a number without turns, and writes the totals alone.
+pub fn top<R: Threads + Wait + Sync, S: Scripts, K: Sink, E: Operate + Sync, L: Ledger>(
+    rt: &R,
     alloc: Global,
     words: &[Word],
     scripts: &mut S,
@@ -92,6 +96,7 @@ pub fn top<S: Scripts, K: Sink, E: Operate, L: Ledger>(
         Some(seed) => serve_generated(alloc, seed, out, kernel, steps),
         None => match read_inputs(alloc, scripts, &command) {
             Ok(inputs) => serve(
+                rt,
                 alloc,
                 options_of(alloc, command),
                 inputs,
@@ -120,7 +125,8 @@ pub(crate) fn failed(alloc: Global, failure: Failure) -> Served
 }
 
 /// Runs scripts that were read, and writes what is printed of their run.
-fn serve<K: Sink, E: Operate, L: Ledger>(
+fn serve<R: Threads + Wait + Sync, K: Sink, E: Operate + Sync, L: Ledger>(
+    rt: &R,
     alloc: Global,
     options: RunOptions,
     inputs: Inputs,
@@ -138,7 +144,7 @@ fn serve<K: Sink, E: Operate, L: Ledger>(
     ensures silent { result.status ≡ 5 → (K.contents out.new ≡ K.contents out.old) × (result.log ≡ []) × (result.work ≡ 0) }
     ensures at { result.at ≡ 0 }
 {
-    match produce(alloc, options, inputs, kernel, steps) {
+    match produce(rt, alloc, options, inputs, kernel, steps) {
         Err(Memory) => failed(alloc, Failure::Memory),
         Ok(produced) => hand_out(out, produced),
     }

@@ -10,7 +10,7 @@ const OF_ONE: &str =
 
 #[test]
 fn the_scripts_of_one(rt: HostRuntime) -> Result<(), Fail> {
-    let (status, at, text) = run(rt.alloc(), &["generate", "1"], b"", (0, 0))?;
+    let (status, at, text) = run(&rt, rt.alloc(), &["generate", "1"], b"", (0, 0))?;
     assert_eq!(rt; (status, at), (0, 0));
     assert_eq!(rt; text.as_slice(), OF_ONE.as_bytes());
     Ok(())
@@ -19,11 +19,11 @@ fn the_scripts_of_one(rt: HostRuntime) -> Result<(), Fail> {
 #[test]
 fn a_failing_write_and_words_outside_the_grammar(rt: HostRuntime) -> Result<(), Fail> {
     let alloc = rt.alloc();
-    let (status, at, text) = run(alloc, &["generate", "1", "--"], b"", (0, 2))?;
+    let (status, at, text) = run(&rt, alloc, &["generate", "1", "--"], b"", (0, 2))?;
     assert_eq!(rt; (status, at), (3, 0));
     assert_eq!(rt; text.as_slice(), b"generated ".as_slice());
     for words in [["generate", "0"], ["generate", "--"], ["generate", "a.sql"]] {
-        let (status, at, text) = run(alloc, &words, b"", (0, 0))?;
+        let (status, at, text) = run(&rt, alloc, &words, b"", (0, 0))?;
         assert_eq!(rt; (status, at), (1, 0));
         assert_eq!(rt; text.len(), 0);
     }

@@ -4,8 +4,10 @@ use super::run_words;
 use cell_core::{Memory, Word, word_of};
 use std::alloc::Global;
 use std::marker::Brand;
+use std::sync::Wait;
 use std::sync::ledger::Blank;
 use std::test::Fail;
+use std::thread::Threads;
 
 /// The order of turns, two scripts, of which the second may be empty, and what is written.
 type Met = (&'static str, &'static str, &'static str, &'static str);
@@ -91,7 +93,7 @@ fn file(alloc: Global, name: &str, text: &str) -> Result<(Word, Vec<u8>), Memory
 }
 
 /// What is written of a replay of one script or of two.
-fn replayed(alloc: Global, met: Met) -> Result<Vec<u8>, Memory> {
+fn replayed<R: Threads + Wait + Sync>(rt: &R, alloc: Global, met: Met) -> Result<Vec<u8>, Memory> {
     let (order, first, second, _) = met;
     let files = vec![in alloc;
         file(alloc, "order", order)?,
@@ -103,7 +105,7 @@ fn replayed(alloc: Global, met: Met) -> Result<Vec<u8>, Memory> {
     } else {
         &["replay", "order", "a.sql", "b.sql"]
     };
-    let (_, _, text) = run_words::<Brand>(alloc, words, files, (0, 0), Blank::new(1))?;
+    let (_, _, text) = run_words::<Brand, _>(rt, alloc, words, files, (0, 0), Blank::new(1))?;
     Ok(text)
 }
 
@@ -111,7 +113,7 @@ fn replayed(alloc: Global, met: Met) -> Result<Vec<u8>, Memory> {
 fn sessions_meet_at_the_pool(rt: HostRuntime) -> Result<(), Fail> {
     let alloc = rt.alloc();
     for met in [MET, UNDER_WAY, LATE, MADE_AGAIN, ONE_MORE_ROW, COVERED] {
-        let text = replayed(alloc, met)?;
+        let text = replayed(&rt, alloc, met)?;
         assert_eq!(rt; text.as_slice(), met.3.as_bytes());
     }
     Ok(())

@@ -1,11 +1,10 @@
-use Rattle.std.proofs.Common.{◌≡◌, ℕ, ◌≤◌, ◌⊎◌, List, sym, subst, ◌∙◌, arith}
-use Rattle.std.specs.List.{AllByRecursion}
+use Rattle.std.proofs.Common.{◌≡◌, ℕ, ◌⊎◌, List, sym, subst, ◌∙◌, arith}
 use Rattle.std.specs.Io.KnownBytes.{Appends}
 use Rattle.run_log.specs.Events.{log_tree}
 use Rattle.causes.specs.Faults.{AppendsPrefix, Rose}
 use Rattle.command_line.specs.declared.command.Command.{Command}
 use Rattle.command_line.specs.Command.{AreFit, IsFit, command_named, files_of}
-use Rattle.sql_shell.specs.Inputs.{IsToldRight, IsToldWrong}
+use Rattle.sql_shell.specs.Inputs.{AreTurnsOf, IsToldRight, IsToldWrong}
 use Rattle.sql_shell.specs.Answered.{IsAnswered}
 use Rattle.sql_shell.specs.Failures.{status_of}
 use Rattle.sql_shell.proofs.ScriptLemmas.{all_short, as_many, some_of}
@@ -23,7 +22,7 @@ serve-requires g c =
       fit = subst AreFit (sym c.options_of.ensures) fit.options;
       few = omega (arith, many, most);
       short = all_short (g.S.Scripts.bytes_of c.args.scripts.now) (files_of c.in-Ok-Some.command) c.in-Ok.inputs.scripts.items c.in-Ok.ensures.cut;
-      turns = subst (λ n. AllByRecursion (λ (turn : ℕ). (1 ≤ turn) × (turn ≤ n)) c.in-Ok.inputs.turns.items) (sym many) c.in-Ok.ensures.each;
+      turns = subst (λ n. AreTurnsOf n c.in-Ok.inputs.course) (sym many) c.in-Ok.ensures.each;
     }
 
 pub serve_generated-requires : goal.serve_generated-requires
@@ -76,8 +75,8 @@ returns-in-Ok-clause-served g c zero =
       served.0,
       served.1,
       run_answers bytes served.0 (log_tree c.serve.result.log) c.serve.result.work c.args.steps.now c.serve.new.steps c.in-Ok-Some.command (sym c.seed_of.ensures ∙ c.in-None.is)
-          (run_of bytes c.in-Ok-Some.command c.options_of.result c.in-Ok.inputs.scripts.items c.in-Ok.inputs.turns.items served.0 (log_tree c.serve.result.log) c.serve.result.work c.args.steps.now c.serve.new.steps
-          c.in-Ok.ensures.cut c.in-Ok.ensures.turns c.options_of.ensures served.2),
+          (run_of bytes c.in-Ok-Some.command c.options_of.result c.in-Ok.inputs served.0 (log_tree c.serve.result.log) c.serve.result.work c.args.steps.now c.serve.new.steps
+          c.in-Ok.ensures.cut c.in-Ok.ensures.course c.options_of.ensures served.2),
     )
 
 pub returns-in-Ok-clause-prefix : goal.returns-in-Ok-clause-prefix
@@ -90,8 +89,8 @@ returns-in-Ok-clause-prefix g c three =
       served.0,
       served.1,
       run_answers bytes served.0 (log_tree c.serve.result.log) c.serve.result.work c.args.steps.now c.serve.new.steps c.in-Ok-Some.command (sym c.seed_of.ensures ∙ c.in-None.is)
-          (run_of bytes c.in-Ok-Some.command c.options_of.result c.in-Ok.inputs.scripts.items c.in-Ok.inputs.turns.items served.0 (log_tree c.serve.result.log) c.serve.result.work c.args.steps.now c.serve.new.steps
-          c.in-Ok.ensures.cut c.in-Ok.ensures.turns c.options_of.ensures served.2),
+          (run_of bytes c.in-Ok-Some.command c.options_of.result c.in-Ok.inputs served.0 (log_tree c.serve.result.log) c.serve.result.work c.args.steps.now c.serve.new.steps
+          c.in-Ok.ensures.cut c.in-Ok.ensures.course c.options_of.ensures served.2),
     )
 
 pub returns-in-Ok-clause-found : goal.returns-in-Ok-clause-found
@@ -101,7 +100,7 @@ returns-in-Ok-clause-found g c =
     lifted (command_named c.args.words.now) c.in-Ok-Some.command
     (λ (command : Command). (status at : ℕ) → IsToldWrong bytes command status at → (Rises → ⊥) → ((c.serve.result.status ≡ status) × (c.serve.result.at ≡ at)) ⊎ (c.serve.result.status ≡ 5))
     (sym c.in-Ok-Some.ensures.named ∙ c.in-Ok-Some.field-0-is)
-    (λ status at told calm. absurd (read_not_wrong bytes c.in-Ok-Some.command c.in-Ok.inputs.scripts.items c.in-Ok.inputs.turns.items status at c.in-Ok.ensures.cut c.in-Ok.ensures.turns told))
+    (λ status at told calm. absurd (read_not_wrong bytes c.in-Ok-Some.command c.in-Ok.inputs.scripts.items c.in-Ok.inputs.course status at c.in-Ok.ensures.cut c.in-Ok.ensures.course told))
 
 pub returns-in-Err-read_inputs-clause-found : goal.returns-in-Err-read_inputs-clause-found
 returns-in-Err-read_inputs-clause-found g c =
