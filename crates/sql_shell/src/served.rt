@@ -134,7 +134,7 @@ fn serve<R: Threads + Wait + Sync, K: Sink, E: Operate + Sync, L: Ledger>(
     kernel: &E,
     steps: &mut Steps<L>,
 ) -> Served
-    requires { AreReady options inputs }
+    requires ready { AreReady options inputs }
     ensures served { result.status ≡ 0 → (text : List ℕ) × Appends (K.contents out.old) (K.contents out.new) text
         × IsServedBy options inputs text (log_tree result.log) result.work steps.old steps.new }
     ensures prefix { result.status ≡ 3 → (text : List ℕ) × AppendsPrefix (K.contents out.old) (K.contents out.new) text

@@ -19,16 +19,16 @@ use Rattle.sql_shell.proofs.PrintLemmas.{all_items, served_of, texts_many}
 use Rattle.sql_shell.proofs.produce.play.Goals as goal
 
 pub run_scripts-requires-clause-turns : goal.run_scripts-requires-clause-turns
-run_scripts-requires-clause-turns g c =
+run_scripts-requires-clause-turns g c κs within =
     let scripts = c.args.inputs.scripts.items in
     let many : length c.in_ok-names.field-0.scripts.items ≡ length scripts = ap length c.in_ok-names.ensures.scripts ∙ length-map scripts (λ (s : Script). s.pieces) in
     subst (λ n. AreTurnsOf n c.args.inputs.course) (sym many) c.requires.ready.turns
 
 pub run_scripts-requires-clause-kind : goal.run_scripts-requires-clause-kind
-run_scripts-requires-clause-kind g c = c.requires.kind ∙ ap (λ (o : PoolOptions). o.evict) (sym c.pool_for-pool.ensures)
+run_scripts-requires-clause-kind g c κs within = c.requires.kind ∙ ap (λ (o : PoolOptions). o.evict) (sym c.pool_for-pool.ensures)
 
 pub run_scripts-requires-clause-weights : goal.run_scripts-requires-clause-weights
-run_scripts-requires-clause-weights g c = c.requires.weights ∙ ap (λ (o : PoolOptions). o.weights) (sym c.pool_for-pool.ensures)
+run_scripts-requires-clause-weights g c κs within = c.requires.weights ∙ ap (λ (o : PoolOptions). o.weights) (sym c.pool_for-pool.ensures)
 
 pub print_run-requires-clause-each : goal.print_run-requires-clause-each
 print_run-requires-clause-each g c =

@@ -13,8 +13,8 @@ use Rattle.sql_shell.proofs.AnswerLemmas.{generated_answers, nothing_wrong, run_
 use Rattle.sql_shell.proofs.PrintLemmas.{run_of}
 use Rattle.sql_shell.proofs.served.top.Goals as goal
 
-pub serve-requires : goal.serve-requires
-serve-requires g c =
+pub serve-requires-clause-ready : goal.serve-requires-clause-ready
+serve-requires-clause-ready g c κs within =
     let many = as_many (g.S.Scripts.bytes_of c.args.scripts.now) (files_of c.in-Ok-Some.command) c.in-Ok.inputs.scripts.items c.in-Ok.ensures.cut in
     let fit = some_of c.in-Ok-Some.field-0 IsFit c.in-Ok-Some.command c.in-Ok-Some.field-0-is c.in-Ok-Some.ensures.limits in
     let most = fit.few in
