@@ -26,7 +26,8 @@ use Rattle.session_run.proofs.StageLemmas.{computed_stands}
 use Rattle.session_run.proofs.WorkLemmas.{others_worked}
 use Rattle.session_run.proofs.WorkedLemmas.{computed_worked}
 use Rattle.run_sessions.specs.Ordered.{IsInOrder}
-use Rattle.run_sessions.proofs.OrderLemmas.{ordered_as, others_ordered, own_ordered}
+use Rattle.run_sessions.proofs.OrderLemmas.{new_ordered, ordered_as, others_ordered, own_ordered}
+use Rattle.run_sessions.proofs.PlaceLemmas.{none_there}
 use Rattle.thread_sessions.specs.Runners.{AddsEvent, DoesNext, HasSeen, IsAt, IsWith, session_of}
 use Rattle.thread_sessions.proofs.ListLemmas.{at_more, by_append, by_own, others_behind}
 
@@ -85,6 +86,15 @@ seen_at options log x lawful s =
     subst (λ (events : List EventTree). IsAt options events x) (sym list) (along options x (log_tree s.seen) (log_tree rest) (subst (IsLawful options) list lawful) others s.at)
 
 -- ## Its own
+
+-- a session that has not begun
+pub new_at : (options : PoolOptions) (x : Session) → Stands options [] x → IsWorked options [] x → IsAt options [] x
+new_at options x stands worked = record {
+  stands = stands;
+  worked = worked;
+  ordered = new_ordered options x stands;
+  does = λ place event there own. none_there place event there;
+}
 
 -- a session that has computed
 pub computed_at : (options : PoolOptions) (log : List EventTree) (x new : Session) → HasComputed x new → IsAt options log x → IsAt options log new

@@ -78,3 +78,8 @@ module _ {X : Type 0} where
           let long = length-append xs (y ∷ []) in
           let is : n ≡ length xs = omega (arith, high, within, long) in
           last is (ap (λ (o : Option X). unwrap_or o y) (sym (get_last xs y) ∙ ap (slice_get (xs ++ y ∷ [])) (sym is) ∙ there))
+
+  -- the element at the seam of two lists
+  pub get_seam : (xs : List X) (y : X) (ys : List X) → slice_get (xs ++ y ∷ ys) (length xs) ≡ Some y
+  get_seam [] y ys = refl
+  get_seam (x ∷ xs) y ys = get_seam xs y ys

@@ -2,7 +2,6 @@
 ghost use Rattle.std.specs.Prelude.{◌≡◌, ◌<◌, ◌≤◌, ◌^◌, [], length, IfOk, OnOk, OnErr};
 ghost use Rattle.run_log.specs.declared.event.Event.{Event as EventSeen};
 ghost use Rattle.run_log.specs.Events.{log_tree};
-ghost use Rattle.run_log.specs.Fold.{run_of};
 ghost use Rattle.book_core.specs.Lawful.{IsLawful};
 ghost use Rattle.session_run.specs.Stages.{IsReady};
 ghost use Rattle.thread_sessions.specs.Runners.{AddsEvent, HasSeen, IsAt, session_of};
@@ -11,7 +10,7 @@ use bat_core::Operate;
 use book_core::Book;
 use cell_core::{Memory, Steps};
 use pool_policy::PoolOptions;
-use run_log::{Event, Totals};
+use run_log::Event;
 use score_hook::Scorer;
 use session_run::Session;
 use sql_parse::one_reading;
@@ -111,12 +110,12 @@ impl<K: RunOptions> Kept<K> {
         let _ = self.book.log();
     }
 
-    /// The log and the totals, handed out.
-    pub fn finish(self) -> (Vec<Event>, Totals)
-        ensures log { result.0.items ≡ self.book.log }
-        ensures totals { result.1 ≡ (run_of K.options (log_tree self.book.log)).totals }
+    /// The book.
+    pub fn into_book(self) -> Book
+        ensures options { result.options ≡ K.options }
+        ensures log { result.log ≡ self.book.log }
     {
         let Kept { book, of: _ } = self;
-        book.finish()
+        book
     }
 }

@@ -1,0 +1,80 @@
+-- Sessions in threads, each of which runs to its end over one log.
+use Rattle.std.specs.Prelude.{◌≡◌, ℕ, ◌+◌, ◌-◌, ◌<◌, ◌≤◌, List, [], length, map, IsSome, None, Some, slice_get}
+use Rattle.pool_policy.specs.declared.options.PoolOptions.{PoolOptions}
+use Rattle.run_log.specs.declared.event.Event.{Event}
+use Rattle.run_log.specs.Events.{EventTree, log_tree}
+use Rattle.turn_hall.specs.declared.hall.Hall.{Hall}
+use Rattle.turn_hall.specs.declared.hall.Pass.{Pass}
+use Rattle.turn_hall.specs.Entries.{StartsWith, entries_by, kept_under}
+use Rattle.turn_hall.specs.Passes.{IsFree, IsPassOf, joined_passes, own_entries, pass_number, seen_by, split_count}
+use Rattle.session_run.specs.declared.session.Session.{Session}
+use Rattle.session_run.specs.Turns.{IsDone}
+use Rattle.run_sessions.specs.Played.{IsPlayed}
+use Rattle.run_sessions.specs.Tables.{IsOver}
+use Rattle.thread_sessions.specs.declared.runner.Runner.{Runner}
+use Rattle.thread_sessions.specs.Runners.{HasSeen, IsAt, IsWith, session_of}
+
+-- ## The run
+
+-- sessions with these scripts take turns, in some order, which give this log, and then each is done
+pub record IsRunOut (options : PoolOptions) (scripts : List (List (List ℕ))) (log : List EventTree) : Type 0 where
+  pub turns : List ℕ
+  pub played : IsPlayed options scripts turns log
+  pub done : (session : ℕ) (pieces : List (List ℕ)) → 1 ≤ session → slice_get scripts (session - 1) ≡ Some pieces → IsDone pieces session log
+
+-- ## Sessions with their passes
+
+module _ {V : Type 0} where
+  -- the pass is of this hall, and its session stands where all says that it has seen
+  pub record IsRunner (options : PoolOptions) (hall : Hall V Event) (runner : Runner V Event) : Type 0 where
+    pub ours : IsPassOf hall runner.pass
+    pub stands : IsWith options runner.pass runner.session
+
+  -- so each, and the sessions are numbered from 1
+  abbrev pub AreRunners : PoolOptions → Hall V Event → List (Runner V Event) → Type 0
+  AreRunners options hall runners = (place : ℕ) (runner : Runner V Event) → slice_get runners place ≡ Some runner → (runner.session.number ≡ place + 1) × IsRunner options hall runner
+
+  -- a session has run to its end, with its number and its script as before
+  pub record HasRunOut (options : PoolOptions) (hall : Hall V Event) (before after : Runner V Event) : Type 0 where
+    pub runner : IsRunner options hall after
+    pub number : after.session.number ≡ before.session.number
+    pub pieces : after.session.pieces ≡ before.session.pieces
+    pub over : IsOver after.session
+
+  -- their sessions
+  abbrev pub sessions_of : List (Runner V Event) → List Session
+  sessions_of runners = map (λ (runner : Runner V Event). runner.session) runners
+
+-- ## The first pass
+
+module _ {V : Type 0} where
+  -- the hall's first pass, from which so many passes were split, and to which those up to a number were joined
+  pub record IsFirst (hall : Hall V Event) (pass : Pass V Event) (splits joined : ℕ) : Type 0 where
+    pub ours : IsPassOf hall pass
+    pub free : IsFree pass
+    pub number : pass_number pass ≡ 0
+    pub splits_are : split_count pass ≡ splits
+    pub own : own_entries pass ≡ []
+    pub under : (k : ℕ) → 0 < k → k ≤ joined → IsSome (kept_under k (joined_passes pass))
+    pub beyond : (k : ℕ) → joined < k → kept_under k (joined_passes pass) ≡ None
+
+  -- a session stands where all says that its pass had seen, which is a beginning of what the first pass has seen, and the first pass keeps its entries
+  pub record IsJoined (options : PoolOptions) (first : Pass V Event) (x : Session) : Type 0 where
+    pub seen : List Event
+    pub begins : StartsWith (seen_by first) seen
+    pub kept : kept_under x.number (joined_passes first) ≡ Some (entries_by session_of x.number seen)
+    pub at : IsAt options (log_tree seen) x
+
+  -- so each, and they are numbered from 1
+  abbrev pub AreJoined : PoolOptions → Pass V Event → List Session → Type 0
+  AreJoined options first sessions = (place : ℕ) (x : Session) → slice_get sessions place ≡ Some x → (x.number ≡ place + 1) × IsJoined options first x
+
+-- ## The end
+
+-- each session saw a beginning of the list, behind which all is of others, and they are numbered from 1
+abbrev pub HaveSeen : PoolOptions → List Event → List Session → Type 0
+HaveSeen options list sessions = (place : ℕ) (x : Session) → slice_get sessions place ≡ Some x → (x.number ≡ place + 1) × HasSeen options list x
+
+-- no entry is of a number beside these, which count from 1
+abbrev pub HasNoneBeside : ℕ → List Event → Type 0
+HasNoneBeside many list = (entries_by session_of 0 list ≡ []) × ((number : ℕ) → many < number → entries_by session_of number list ≡ [])
