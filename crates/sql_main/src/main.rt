@@ -58,7 +58,15 @@ fn run<L: Ledger, R: Threads + Wait + Sync, F: Files + Drop, W: Write + Drop>(
     let mut scripts = FileScripts::new(files);
     let mut out = OutSink::new(writer);
     let kernel = Kernel::new();
-    let served = top(rt, alloc, words, &mut scripts, &mut out, &kernel, &mut steps);
+    let served = top(
+        rt,
+        alloc,
+        words,
+        &mut scripts,
+        &mut out,
+        &kernel,
+        &mut steps,
+    );
     let Served {
         status,
         at,
