@@ -14,7 +14,7 @@ type Case = (
     &'static str,
     &'static str,
     &'static [&'static str],
-    [u64; 19],
+    &'static [u64],
 );
 
 /// The lines of the pool's section.
@@ -44,7 +44,7 @@ const CASES: [Case; 13] = [
         &[
             "CREATE TABLE t (a INT); INSERT INTO t VALUES (4), (5), (6); SELECT a FROM t WHERE a < 5; SELECT a FROM t WHERE a > 5; SELECT a FROM t WHERE a BETWEEN 4 AND 6;",
         ],
-        [
+        &[
             16, 1224, 1224, 18, 2, 0, 0, 16, 16, 0, 0, 0, 0, 0, 0, 0, 0, 66, 42,
         ],
     ),
@@ -54,7 +54,7 @@ const CASES: [Case; 13] = [
         &[
             "CREATE TABLE t (a INT); INSERT INTO t VALUES (1), (4), (6); SELECT a FROM t WHERE a < 5; SELECT a FROM t WHERE a < 3;",
         ],
-        [
+        &[
             11, 824, 824, 12, 1, 1, 0, 10, 11, 0, 0, 0, 0, 0, 0, 0, 0, 41, 29,
         ],
     ),
@@ -64,7 +64,7 @@ const CASES: [Case; 13] = [
         &[
             "CREATE TABLE t (a INT); INSERT INTO t VALUES (3), (4), (6), (9); SELECT a FROM t WHERE a BETWEEN 5 AND 8; SELECT a FROM t WHERE a BETWEEN 1 AND 5; SELECT a FROM t WHERE a BETWEEN 4 AND 9; SELECT a FROM t WHERE a BETWEEN 2 AND 8;",
         ],
-        [
+        &[
             21, 1704, 1704, 24, 3, 0, 1, 20, 21, 0, 0, 0, 0, 0, 0, 0, 0, 119, 55,
         ],
     ),
@@ -75,7 +75,7 @@ const CASES: [Case; 13] = [
             "CREATE TABLE t (a INT); INSERT INTO t VALUES (3), (1), (2); SELECT a FROM t WHERE a BETWEEN 2 AND 3;",
             "SELECT a FROM t WHERE a BETWEEN 2 AND 3;",
         ],
-        [
+        &[
             6, 512, 512, 12, 6, 0, 0, 6, 6, 0, 0, 0, 0, 0, 0, 0, 0, 27, 24,
         ],
     ),
@@ -83,7 +83,7 @@ const CASES: [Case; 13] = [
         "the least recently used go",
         "--budget 584",
         &[COUNTS],
-        [
+        &[
             8, 584, 584, 16, 0, 0, 0, 16, 16, 0, 0, 0, 0, 0, 8, 0, 0, 48, 46,
         ],
     ),
@@ -91,7 +91,7 @@ const CASES: [Case; 13] = [
         "the least benefit goes",
         "--budget 584 --evict benefit",
         &[COUNTS],
-        [
+        &[
             8, 584, 584, 16, 4, 0, 0, 12, 12, 0, 0, 0, 0, 0, 4, 0, 0, 34, 42,
         ],
     ),
@@ -99,7 +99,7 @@ const CASES: [Case; 13] = [
         "even weights are benefit",
         "--budget 584 --evict weighted",
         &[COUNTS],
-        [
+        &[
             8, 584, 584, 16, 4, 0, 0, 12, 12, 0, 0, 0, 0, 0, 4, 0, 0, 34, 42,
         ],
     ),
@@ -107,7 +107,7 @@ const CASES: [Case; 13] = [
         "a heavy mark outlives its child",
         "--budget 584 --evict weighted --weights markT=100",
         &[COUNTS],
-        [
+        &[
             8, 584, 584, 16, 3, 0, 0, 13, 13, 0, 0, 0, 0, 0, 5, 0, 0, 38, 43,
         ],
     ),
@@ -117,7 +117,7 @@ const CASES: [Case; 13] = [
         &[
             "CREATE TABLE t (a INT); INSERT INTO t VALUES (3), (1), (2); SELECT a FROM t WHERE a BETWEEN 2 AND 3;",
         ],
-        [0, 0, 0, 6, 0, 0, 0, 6, 0, 0, 0, 5, 0, 1, 0, 0, 0, 27, 16],
+        &[0, 0, 0, 6, 0, 0, 0, 6, 0, 0, 0, 5, 0, 1, 0, 0, 0, 27, 16],
     ),
     (
         "a bind alone fits",
@@ -125,7 +125,7 @@ const CASES: [Case; 13] = [
         &[
             "CREATE TABLE t (a INT); INSERT INTO t VALUES (3), (1), (2); SELECT a FROM t WHERE a BETWEEN 2 AND 3;",
         ],
-        [1, 64, 64, 6, 0, 0, 0, 6, 1, 0, 0, 4, 0, 1, 0, 0, 0, 27, 16],
+        &[1, 64, 64, 6, 0, 0, 0, 6, 1, 0, 0, 4, 0, 1, 0, 0, 0, 27, 16],
     ),
     (
         "credits decide",
@@ -133,7 +133,7 @@ const CASES: [Case; 13] = [
         &[
             "CREATE TABLE t (a INT); INSERT INTO t VALUES (4), (6); SELECT a FROM t WHERE a < 5; SELECT a FROM t WHERE a > 5; SELECT a FROM t WHERE a < 5; SELECT a FROM t WHERE a > 5;",
         ],
-        [
+        &[
             11, 784, 784, 24, 8, 0, 0, 16, 11, 0, 0, 4, 1, 0, 0, 0, 0, 41, 50,
         ],
     ),
@@ -145,7 +145,7 @@ const CASES: [Case; 13] = [
             "SELECT COUNT(*) FROM u; SELECT COUNT(*) FROM v; SELECT COUNT(*) FROM w;",
             "SELECT COUNT(*) FROM v; SELECT COUNT(*) FROM u; SELECT COUNT(*) FROM v;",
         ],
-        [
+        &[
             8, 584, 584, 28, 12, 0, 0, 16, 16, 0, 0, 0, 0, 0, 8, 0, 0, 52, 64,
         ],
     ),
@@ -158,7 +158,7 @@ const CASES: [Case; 13] = [
             "SELECT COUNT(*) FROM v; SELECT COUNT(*) FROM u; SELECT COUNT(*) FROM v;",
             "SELECT COUNT(*) FROM w;",
         ],
-        [
+        &[
             8, 584, 584, 32, 12, 0, 0, 20, 16, 0, 0, 3, 1, 0, 8, 0, 0, 60, 74,
         ],
     ),
@@ -209,7 +209,7 @@ fn what_runs_leave_in_their_pools(rt: HostRuntime) -> Result<(), Fail> {
     let alloc = rt.alloc();
     for (name, options, scripts, numbers) in CASES {
         let text = replayed(&rt, alloc, options, scripts)?;
-        let want = section_of(alloc, &numbers)?;
+        let want = section_of(alloc, numbers)?;
         assert!(rt;
             text.as_slice().ends_with(want.as_bytes()),
             "{name}: {want}"
