@@ -4,6 +4,7 @@ use Rattle.std.specs.Prelude.{◌&&◌, ◌==◌, slice_get, IsSome, is_some}
 use Rattle.std.specs.Option.{option_map, option_and_then}
 use Rattle.std.specs.Cmp.{first_so, second_so}
 use Rattle.std.proofs.lemmas.Option.{same_Some}
+use Rattle.std.proofs.lemmas.Bool.{and_from}
 use Rattle.cell_core.specs.declared.cell.Cell.TheVariants.{Text}
 use Rattle.cell_core.specs.declared.cell.Kind.{Kind}
 use Rattle.cell_core.specs.declared.cell.Kind.TheVariants as kind
@@ -24,12 +25,9 @@ use Rattle.mal_emit.specs.Machines.{over, typing, counted_type, arg_in, args_in,
 use Rattle.mal_opt.proofs.Runs.{both_found, both_from, was_given, first_ran, result_from}
 use Rattle.mal_opt.proofs.Shapes.{has_shape, are_shaped, result_shaped, made}
 
-both_true : (a b : Bool) → a ≡ true → b ≡ true → (a && b) ≡ true
-both_true a b e f = ap (λ x. x && b) e ∙ f
-
 pub shaped_snoc : (vs : List Value) (ts : List ValueType) (v : Value) (t : ValueType) → are_shaped vs ts ≡ true → has_shape v t ≡ true → are_shaped (vs ++ v ∷ []) (ts ++ t ∷ []) ≡ true
-shaped_snoc [] [] v t ok h = both_true (has_shape v t) true h refl
-shaped_snoc (x ∷ vs) (s ∷ ts) v t ok h = both_true (has_shape x s) (are_shaped (vs ++ v ∷ []) (ts ++ t ∷ [])) (first_so (has_shape x s) (are_shaped vs ts) ok) (shaped_snoc vs ts v t (second_so (has_shape x s) (are_shaped vs ts) ok) h)
+shaped_snoc [] [] v t ok h = and_from (has_shape v t) true h refl
+shaped_snoc (x ∷ vs) (s ∷ ts) v t ok h = and_from (has_shape x s) (are_shaped (vs ++ v ∷ []) (ts ++ t ∷ [])) (first_so (has_shape x s) (are_shaped vs ts) ok) (shaped_snoc vs ts v t (second_so (has_shape x s) (are_shaped vs ts) ok) h)
 shaped_snoc [] (s ∷ ts) v t ok h = cc
 shaped_snoc (x ∷ vs) [] v t ok h = cc
 
@@ -58,7 +56,7 @@ module _ (db : Db) where
       let rest = args_there vs ts args parts.1 ok parts.3 in (
         first.0 ∷ rest.0,
         both_from first.0 rest.0 first.1 rest.1,
-        subst (λ ys. are_shaped (first.0 ∷ rest.0) ys ≡ true) parts.4 (both_true (has_shape first.0 parts.0) (are_shaped rest.0 parts.1) first.2 rest.2),
+        subst (λ ys. are_shaped (first.0 ∷ rest.0) ys ≡ true) parts.4 (and_from (has_shape first.0 parts.0) (are_shaped rest.0 parts.1) first.2 rest.2),
       )
 
   -- ## One instruction

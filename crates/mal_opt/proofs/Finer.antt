@@ -5,6 +5,7 @@ use Rattle.std.specs.Bool.{then_some}
 use Rattle.std.specs.Option.{option_or, option_map, option_and_then}
 use Rattle.std.specs.Cmp.{first_so, second_so}
 use Rattle.std.proofs.lemmas.Option.{same_Some}
+use Rattle.std.proofs.lemmas.Bool.{and_from}
 use Rattle.cell_core.specs.declared.cell.Cell.{Cell}
 use Rattle.cell_core.specs.declared.cell.Cell.TheVariants as cell
 use Rattle.cell_core.specs.declared.cell.Kind.{Kind}
@@ -80,11 +81,8 @@ agrees_finer a a' b b' e f h = finer_cases (λ x. agrees x b ≡ true) a a' e re
 agrees_first : (a a' b : Option Kind) → finer a a' ≡ true → agrees a' b ≡ true → agrees a b ≡ true
 agrees_first a a' b e h = finer_cases (λ x. agrees x b ≡ true) a a' e refl h
 
-both_true : (a b : Bool) → a ≡ true → b ≡ true → (a && b) ≡ true
-both_true a b e f = ap (λ x. x && b) e ∙ f
-
 both_finer : (x y x' y' : Bool) → (x' ≡ true → x ≡ true) → (y' ≡ true → y ≡ true) → (x' && y') ≡ true → (x && y) ≡ true
-both_finer x y x' y' f g e = both_true x y (f (first_so x' y' e)) (g (second_so x' y' e))
+both_finer x y x' y' f g e = and_from x y (f (first_so x' y' e)) (g (second_so x' y' e))
 
 numeric_finer : (a a' : Option Kind) → finer a a' ≡ true → is_numeric a' ≡ true → is_numeric a ≡ true
 numeric_finer a a' e h = finer_cases (λ x. is_numeric x ≡ true) a a' e refl h

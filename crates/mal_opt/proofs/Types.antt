@@ -5,6 +5,7 @@ use Rattle.std.specs.List.{list_all}
 use Rattle.std.specs.Option.{option_map, option_map_or, option_and_then}
 use Rattle.std.specs.Cmp.{first_so, second_so}
 use Rattle.std.proofs.lemmas.Option.{same_Some}
+use Rattle.std.proofs.lemmas.Bool.{and_from}
 use Rattle.cell_core.specs.declared.cell.Cell.{Cell}
 use Rattle.cell_core.specs.declared.cell.Cell.TheVariants.{Text, Nil}
 use Rattle.cell_core.specs.declared.cell.Kind.TheVariants as kind
@@ -36,9 +37,6 @@ use Rattle.mal_opt.proofs.Checks.{IsFine, IsTyped}
 use Rattle.mal_opt.proofs.Finer.{IsFiner, finer, type_itself, type_along, AllFiner, result_finer, cell_finer_kind, finer_cases}
 use Rattle.mal_opt.proofs.Follows.{from_none, IsSound, keeping_sound, folding_sound, sharing_sound, Follows, starts, AreFine, arg_follows, all_follow}
 use Rattle.mal_opt.proofs.Meanings.{constant_parts, IsClosed}
-
-both_true : (a b : Bool) → a ≡ true → b ≡ true → (a && b) ≡ true
-both_true a b e f = ap (λ x. x && b) e ∙ f
 
 false_true : false ≡ true → ⊥
 false_true e = cc
@@ -85,7 +83,7 @@ constants_typed ts (Const c ∷ args) values types e f =
     let v = both_found (Some (One c)) (arg_values [] args) values e in
     let t = both_found (Some (OneOf (kind_of c))) (args_in typing ts args) types f in
     let first : is_of_type v.0 t.0 ≡ true = ap (λ x. is_of_type x t.0) (sym (same_Some (One c) v.0 v.2)) ∙ ap (is_of_type (One c)) (sym (same_Some (OneOf (kind_of c)) t.0 t.2)) ∙ constant_is c in
-    ap (λ vs. are_of_types vs types) (sym v.4) ∙ ap (are_of_types (v.0 ∷ v.1)) (sym t.4) ∙ both_true (is_of_type v.0 t.0) (are_of_types v.1 t.1) first (constants_typed ts args v.1 t.1 v.3 t.3)
+    ap (λ vs. are_of_types vs types) (sym v.4) ∙ ap (are_of_types (v.0 ∷ v.1)) (sym t.4) ∙ and_from (is_of_type v.0 t.0) (are_of_types v.1 t.1) first (constants_typed ts args v.1 t.1 v.3 t.3)
 constants_typed ts (Var n ∷ args) values types e f =
     let v = both_found (arg_value [] (Var n)) (arg_values [] args) values e in
     absurd (clash v.0 (sym (no_value n) ∙ v.2))
@@ -153,7 +151,7 @@ module _ (alive : ℕ → Bool) (types : List ValueType) (so : Passed) (h : Foll
   all_known : (args : List Arg) → list_all (is_known types) args ≡ true → ((n : ℕ) → uses n args ≡ true → alive n ≡ true) → list_all (is_known h.values) (map (renamed so.places) args) ≡ true
   all_known [] known a = refl
   all_known (arg ∷ args) known a =
-      both_true (is_known h.values (renamed so.places arg)) (list_all (is_known h.values) (map (renamed so.places) args))
+      and_from (is_known h.values (renamed so.places arg)) (list_all (is_known h.values) (map (renamed so.places) args))
       (known_kept arg (first_so (is_known types arg) (list_all (is_known types) args) known) (λ n u. a n (ap (λ b. b || uses n args) u)))
       (all_known args (second_so (is_known types arg) (list_all (is_known types) args) known) (λ n u. a n (or_right (is_result n arg) (uses n args) u)))
 
@@ -198,8 +196,8 @@ abbrev pub KeepsAll : (Instr → Bool) → (Instr → Bool) → Step → Type 0
 KeepsAll given test step = (so : Passed) (instr : Instr) → given instr ≡ true → list_all test so.instrs ≡ true → list_all test (step so instr).instrs ≡ true
 
 pub all_snoc : (test : Instr → Bool) (is : List Instr) (i : Instr) → list_all test is ≡ true → test i ≡ true → list_all test (is ++ i ∷ []) ≡ true
-all_snoc test [] i e f = both_true (test i) true f refl
-all_snoc test (x ∷ is) i e f = both_true (test x) (list_all test (is ++ i ∷ [])) (first_so (test x) (list_all test is) e) (all_snoc test is i (second_so (test x) (list_all test is) e) f)
+all_snoc test [] i e f = and_from (test i) true f refl
+all_snoc test (x ∷ is) i e f = and_from (test x) (list_all test (is ++ i ∷ [])) (first_so (test x) (list_all test is) e) (all_snoc test is i (second_so (test x) (list_all test is) e) f)
 
 pub keeping_all : (test : Instr → Bool) → KeepsAll test test keeping
 keeping_all test so instr e h = all_snoc test so.instrs instr h e

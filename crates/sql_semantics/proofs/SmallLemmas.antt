@@ -4,6 +4,7 @@ use Rattle.std.specs.Prelude.{filter, flat_map}
 use Rattle.std.specs.List.{enumerate_from, list_all}
 use Rattle.std.proofs.lemmas.Bool.{ltb-true, lt-ltb}
 use Rattle.std.proofs.lemmas.List.Folds.{list_all-append}
+use Rattle.std.proofs.lemmas.Bool.{and_from}
 use Rattle.cell_core.specs.declared.table.Column.{Column}
 use Rattle.sql_tree.specs.declared.tree.ColRef.{ColRef}
 use Rattle.sql_semantics.specs.declared.called.Found.TheVariants.{At}
@@ -15,10 +16,6 @@ use Rattle.sql_semantics.specs.Small.{is_small, are_small}
 -- both numbers are below b
 abbrev is_below : ℕ → ℕ × ℕ → Bool
 is_below b place = nat_lt place.0 b && nat_lt place.1 b
-
-both_true : (x y : Bool) → x ≡ true → y ≡ true → (x && y) ≡ true
-both_true true y h g = g
-both_true false y h g = cc
 
 first_true : (x y : Bool) → (x && y) ≡ true → x ≡ true
 first_true true y h = refl
@@ -33,7 +30,7 @@ one_more : (b n k : ℕ) (test : Bool) (column : Column) (rest : List (ℕ × Co
     → list_all (is_below b) (map (λ (at : ℕ × Column). (n, at.0)) rest) ≡ true
     → list_all (is_below b) (map (λ (at : ℕ × Column). (n, at.0)) (cond test ((k, column) ∷ rest) rest)) ≡ true
 one_more b n k false column rest h g e = e
-one_more b n k true column rest h g e = both_true (is_below b (n, k)) _ (both_true (nat_lt n b) (nat_lt k b) (lt-ltb n b h) (lt-ltb k b g)) e
+one_more b n k true column rest h g e = and_from (is_below b (n, k)) _ (and_from (nat_lt n b) (nat_lt k b) (lt-ltb n b h) (lt-ltb k b g)) e
 
 in_one : (b n k : ℕ) (test : ℕ × Column → Bool) (columns : List Column) → n < b → k + length columns ≤ b
     → list_all (is_below b) (map (λ (at : ℕ × Column). (n, at.0)) (filter test (enumerate_from k columns))) ≡ true
@@ -54,7 +51,7 @@ in_all b k ref (name ∷ names) (source ∷ sources) h g =
     let fit : 0 + length source.columns ≤ b = omega arith in
     let more : k + 1 + length sources ≤ b = omega arith in
     list_all-append (is_below b) (places_in ref (k, record { name = name; columns = source.columns })) (flat_map (places_in ref) (enumerate_from (k + 1) (called_sources names sources)))
-    ∙ both_true _ _ (in_one b k 0 (λ (at : ℕ × Column). means ref (record { name = name; columns = source.columns }) at.1) source.columns here fit)
+    ∙ and_from _ _ (in_one b k 0 (λ (at : ℕ × Column). means ref (record { name = name; columns = source.columns }) at.1) source.columns here fit)
     (in_all b (k + 1) ref names sources (second_true (nat_lt (length source.columns) b) _ h) more)
 
 at_below : (b : ℕ) (places : List (ℕ × ℕ)) (table column : ℕ) → list_all (is_below b) places ≡ true → found_of places ≡ At table column → (table < b) × (column < b)
