@@ -17,7 +17,7 @@ pub(crate) fn number_between(text: &str, low: u64, high: u64) -> Option<u64>
     if !is_number(text.as_bytes()) {
         return None;
     }
-    match number_64(text) {
+    match number_64(text.as_bytes()) {
         Some(number) if low <= number && number <= high => Some(number),
         _ => None,
     }

@@ -7,7 +7,7 @@ ghost use Rattle.sql_reader.specs.Reader as reader;
 
 use crate::reading::TreeError;
 use cell_core::Word;
-use sql_tree::{AggOp, ArithOp, CmpOp, Keyword, Placed, Symbol, Token};
+use sql_tree::{AggOp, ArithOp, CmpOp, Digits, Keyword, Placed, Symbol, Token};
 
 /// The tokens that are still to be read.
 #[derive(Drop)]
@@ -142,7 +142,7 @@ pub(crate) fn is_dot(token: Option<&Token>) -> bool
 }
 
 /// The digits that the token is.
-pub fn digits<'a>(token: Option<&'a Token>) -> Option<&'a Word>
+pub fn digits<'a>(token: Option<&'a Token>) -> Option<&'a Digits>
     ensures { option_copied result ≡ reader.digits_in (option_copied token.entry) }
 {
     match token {

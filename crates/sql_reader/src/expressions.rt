@@ -125,7 +125,7 @@ fn inner_factor(alloc: Global, tokens: &mut Cursor<'_>, depth: usize) -> Result<
         ≡ None }
 {
     match tokens.next() {
-        Some(Token::Digits(digits)) => Ok(Expr::Lit(plain_number(digits.text()))),
+        Some(Token::Digits(digits)) => Ok(Expr::Lit(plain_number(digits.bytes()))),
         Some(Token::Text(text)) => Ok(Expr::Lit(Cell::Text(text.share()?))),
         Some(Token::Key(Keyword::Date)) => date(tokens),
         Some(Token::Key(Keyword::Null)) => Ok(Expr::Lit(Cell::Nil)),
@@ -152,7 +152,7 @@ fn negative(alloc: Global, tokens: &mut Cursor<'_>, depth: usize) -> Result<Expr
         (tokens_in tokens.old.rest.now) ≡ None }
 {
     if let Some(digits) = digits(tokens.peek()) {
-        let literal = negative_number(digits.text());
+        let literal = negative_number(digits.bytes());
         tokens.advance();
         return Ok(Expr::Lit(literal));
     }

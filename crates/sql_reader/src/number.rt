@@ -9,7 +9,7 @@ use text_bytes::number_64;
 
 /// The cell of the number that digits write; a Huge where it leaves the signed 64-bit range.
 #[tactic(auto, using(crate::proofs::NumberLemmas::signed_plain, crate::proofs::NumberLemmas::great_plain))]
-pub fn plain_number(digits: &str) -> Cell
+pub fn plain_number(digits: &[u8]) -> Cell
     ensures { result ≡ number_cell (pos (number_of digits.now)) }
 {
     match number_64(digits) {
@@ -20,7 +20,7 @@ pub fn plain_number(digits: &str) -> Cell
 
 /// The same with a `-` before the digits.
 #[tactic(auto, using(crate::proofs::NumberLemmas::signed_negative, crate::proofs::NumberLemmas::great_negative))]
-pub fn negative_number(digits: &str) -> Cell
+pub fn negative_number(digits: &[u8]) -> Cell
     ensures { result ≡ number_cell (negative_of digits.now) }
 {
     match number_64(digits) {

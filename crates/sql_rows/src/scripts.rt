@@ -383,3 +383,22 @@ pub(crate) const WIDE_TOLD: &str = "1 ok\n\
     7 refused 11 limit columns\n\
     8 rows 1\n\
     1,1,0\n";
+
+/// Numbers of twenty digits and of more: most of them zeros in front, which count for nothing.
+pub(crate) const DIGITS: &str = "CREATE TABLE n (a INT);\n\
+    INSERT INTO n VALUES (00000000000000000007), (000000000000000000008), (0000000000000000000009223372036854775807), (-0000000000000000000009223372036854775808);\n\
+    SELECT a FROM n WHERE a >= 0000000000000000000000000000000000000000000000008;\n\
+    SELECT MIN(a) FROM n LIMIT 000000000000000000001;\n\
+    SELECT a FROM n WHERE a = 0000000000000000000009223372036854775808;\n\
+    INSERT INTO n VALUES (10000000000000000000000000000000000000000000007);\n";
+
+/// What is told of them.
+pub(crate) const DIGITS_TOLD: &str = "1 ok\n\
+    2 ok 4\n\
+    3 rows 2\n\
+    8\n\
+    9223372036854775807\n\
+    4 rows 1\n\
+    -9223372036854775808\n\
+    5 refused 11 limit literal\n\
+    6 refused 11 limit literal\n";

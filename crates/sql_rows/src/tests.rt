@@ -5,7 +5,8 @@ ghost use Rattle.sql_tree.specs.Tree.{stmt_tree};
 use crate::made::{columns, named, not_one, one, row, times_largest};
 use crate::run::{Way, told};
 use crate::scripts::{
-    DEFAULTS, DEFAULTS_TOLD, NULLS, NULLS_TOLD, REFUSED, REFUSED_TOLD, WIDE, WIDE_TOLD,
+    DEFAULTS, DEFAULTS_TOLD, DIGITS, DIGITS_TOLD, NULLS, NULLS_TOLD, REFUSED, REFUSED_TOLD, WIDE,
+    WIDE_TOLD,
 };
 use cell_core::{Cell, Memory, Word, word_of};
 use sql_check::{CheckError, check};
@@ -29,6 +30,7 @@ fn scripts_show_what_is_told_of_them(rt: HostRuntime) -> Result<(), Fail> {
         (DEFAULTS, DEFAULTS_TOLD),
         (REFUSED, REFUSED_TOLD),
         (WIDE, WIDE_TOLD),
+        (DIGITS, DIGITS_TOLD),
     ] {
         assert!(rt; told(alloc, Way::Meaning, script)?.as_slice() == want.as_bytes());
         assert!(rt; told(alloc, Way::Plan, script)?.as_slice() == want.as_bytes());

@@ -10,9 +10,9 @@ ghost use Rattle.sql_statements.specs.Reader as reader;
 
 use crate::part::{Part, enclosed, name, takes};
 use crate::values::literal;
-use cell_core::{Cell, Column, Kind, Word};
+use cell_core::{Cell, Column, Kind};
 use sql_reader::{Cursor, TreeError, digits, is_key};
-use sql_tree::{Keyword, Stmt, Symbol, Token};
+use sql_tree::{Digits, Keyword, Stmt, Symbol, Token};
 use std::alloc::Global;
 use text_bytes::number_64;
 
@@ -120,10 +120,10 @@ fn varchar(tokens: &mut Cursor<'_>) -> Result<(Kind, u32), TreeError>
 
 /// The width that digits write; the most of its type where they write more.
 #[tactic(auto, using(crate::proofs::NumberLemmas::great_length, crate::proofs::NumberLemmas::small_length))]
-fn width(digits: &Word) -> u32
+fn width(digits: &Digits) -> u32
     ensures { result ≡ length_32 (length_of (number_of digits.now)) }
 {
-    match number_64(digits.text()) {
+    match number_64(digits.bytes()) {
         Some(0) => PAST_WIDTHS,
         Some(length) => narrow(length),
         None => u32::MAX,

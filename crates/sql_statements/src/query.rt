@@ -11,9 +11,9 @@ ghost use Rattle.sql_statements.specs.Reader as reader;
 use crate::change::where_cond;
 use crate::from::{alias, also, sources};
 use crate::part::{Part, column, listed_by, takes};
-use cell_core::{Sequence, Word};
+use cell_core::Sequence;
 use sql_reader::{Cursor, TreeError, comma, digits, is_key, is_symbol, value, whole_cond};
-use sql_tree::{Cond, Item, Keyword, Place, Query, SortKey, Symbol};
+use sql_tree::{Cond, Digits, Item, Keyword, Place, Query, SortKey, Symbol};
 use std::alloc::Global;
 use text_bytes::number_64;
 
@@ -227,10 +227,10 @@ fn ascending(tokens: &mut Cursor<'_>) -> bool
 }
 
 /// The number that digits write, or the most of 64 bits.
-fn count(digits: &Word) -> u64
+fn count(digits: &Digits) -> u64
     ensures { result ≡ count_64 (number_of digits.now) }
 {
-    match number_64(digits.text()) {
+    match number_64(digits.bytes()) {
         Some(number) => number,
         None => u64::MAX,
     }

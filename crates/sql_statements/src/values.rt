@@ -64,7 +64,7 @@ pub(crate) fn literal(tokens: &mut Cursor<'_>) -> Result<Cell, TreeError>
         reader.literal bounded (tokens_in tokens.old.rest.now) ≡ None }
 {
     match tokens.next() {
-        Some(Token::Digits(digits)) => Ok(plain_number(digits.text())),
+        Some(Token::Digits(digits)) => Ok(plain_number(digits.bytes())),
         Some(Token::Text(text)) => Ok(Cell::Text(text.share()?)),
         Some(Token::Key(Keyword::Null)) => Ok(Cell::Nil),
         Some(Token::Key(Keyword::Date)) => day_literal(tokens),
@@ -84,7 +84,7 @@ fn negative_literal(tokens: &mut Cursor<'_>) -> Result<Cell, TreeError>
     let Some(digits) = digits(tokens.next()) else {
         return Err(TreeError::Syntax);
     };
-    Ok(negative_number(digits.text()))
+    Ok(negative_number(digits.bytes()))
 }
 
 /// What follows DATE: a string that names a day.

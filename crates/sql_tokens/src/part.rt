@@ -10,7 +10,7 @@ use crate::quoted::quoted;
 use crate::reading::TokensError;
 use crate::symbols::{pair, single};
 use cell_core::{Memory, Word, word_of};
-use sql_tree::{Token, is_unsupported, keyword};
+use sql_tree::{Token, digits_of, is_unsupported, keyword};
 use std::alloc::Global;
 use text_bytes::{
     begins_with, begins_word_byte, digits_length, is_blank, is_digit, is_letter, line_length,
@@ -68,9 +68,7 @@ fn word_token(word: Word) -> Token
 }
 
 /// Digits, which no letter and no `_` follows.
-#[tactic(auto, using(text_bytes::proofs::ByteLemmas::digits_front))]
 fn digits(alloc: Global, first: u8, after: &[u8]) -> Result<(Option<Token>, usize), TokensError>
-    requires { classes.is_digit first ≡ true }
     ensures part { IfOk result (λ part. reader.digits_at first after.now ≡ Some (part.0, part.1)) }
     ensures within { IfOk result (λ part. part.1 ≤ length after.now) }
     ensures none { IsErrOf result TokensError.Syntax → reader.digits_at first after.now ≡ None }
@@ -79,7 +77,7 @@ fn digits(alloc: Global, first: u8, after: &[u8]) -> Result<(Option<Token>, usiz
     if begins_word_byte(&after[length..]) {
         return Err(TokensError::Syntax);
     }
-    let digits = digits_word(alloc, first, &after[..length])?;
+    let digits = digits_of(alloc, first, &after[..length])?;
     Ok((Some(Token::Digits(digits)), length))
 }
 
@@ -150,15 +148,6 @@ fn low_word(alloc: Global, first: u8, more: &[u8]) -> Result<Word, Memory>
 {
     let letters = whole(alloc, first, more)?;
     let bytes = lowered(alloc, letters.as_slice())?;
-    ascii_word(alloc, bytes.as_slice())
-}
-
-/// The word of these digits.
-fn digits_word(alloc: Global, first: u8, more: &[u8]) -> Result<Word, Memory>
-    requires { IsTrue (list_all classes.is_digit (first ∷ more.now)) }
-    ensures { IfOk result (λ word. word ≡ first ∷ more.now) }
-{
-    let bytes = whole(alloc, first, more)?;
     ascii_word(alloc, bytes.as_slice())
 }
 

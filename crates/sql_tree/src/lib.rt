@@ -4,12 +4,13 @@
 //! It stands on `cell_core`. The definitions in `specs/` are what a reader has to believe: where a
 //! script is cut (`Pieces`), how a text is cut into tokens with their places (`Tokens`), which words
 //! are reserved (`Words`, over the two lists of `words.rt`), how the code's statements are seen as
-//! plain trees (`Tree`), and how a tree is printed (`Canon`, `Names`). It promises that `print_stmt`
-//! gives the canonical text of every tree and `copy` an equal one. Pieces and tokens are found by
-//! `sql_tokens`.
+//! plain trees (`Tree`) and its digits as their bytes (`Kept`), and how a tree is printed (`Canon`,
+//! `Names`). It promises that `print_stmt` gives the canonical text of every tree and `copy` an equal
+//! one. Pieces and tokens are found by `sql_tokens`.
 #![tactic(auto)]
 
 mod copy;
+mod digits;
 mod inside;
 mod names;
 mod print;
@@ -19,6 +20,7 @@ mod token;
 mod tree;
 mod words;
 
+pub use digits::{Digits, digits_of};
 pub use inside::Inside;
 pub use names::printed_name;
 pub use print::print_stmt;

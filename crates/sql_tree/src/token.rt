@@ -1,3 +1,4 @@
+use crate::digits::Digits;
 use cell_core::Word;
 
 /// A token of SQL text.
@@ -10,7 +11,7 @@ pub enum Token {
     /// A string, without its quotes; a doubled quote is one.
     Text(Word),
     /// Decimal digits.
-    Digits(Word),
+    Digits(Digits),
     /// A reserved word that the profile reads.
     Key(Keyword),
     /// A reserved word that the profile leaves out, folded to lower case.

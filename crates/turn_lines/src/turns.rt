@@ -75,7 +75,7 @@ fn turn_in(sessions: u32, line: &str) -> Option<u32>
     if !is_plain(line.as_bytes()) {
         return None;
     }
-    match number_64(line) {
+    match number_64(line.as_bytes()) {
         Some(number) if 1 <= number && number <= u64::from(sessions) => Some(number as u32),
         _ => None,
     }
