@@ -10,6 +10,7 @@ mod flags;
 mod heads;
 mod mark;
 mod merge;
+mod ordered;
 mod places;
 mod product;
 mod range;

@@ -1,11 +1,12 @@
 //! Chunks of cells, each kept in the smallest form that holds it.
-ghost use Rattle.std.specs.Prelude.{◌≡◌, [], ◌∷◌, ◌++◌, ◌+◌, ◌^◌, ◌<◌, ◌≤◌, length, drop, map, pos, IfOk, OnOk, OnErr};
+ghost use Rattle.std.specs.Prelude.{◌≡◌, [], ◌∷◌, ◌++◌, ◌+◌, ◌^◌, ◌<◌, ◌≤◌, length, drop, map, IfOk, OnOk, OnErr};
 ghost use Rattle.cell_core.specs.declared.cell.Cell.TheVariants.{Nil, Oid};
 ghost use Rattle.chunk_core.specs.Parts.{part_cells};
 ghost use Rattle.chunk_core.specs.Picked.{picked, AreWithin};
 ghost use Rattle.chunk_core.specs.Chunks.{chunk_cells};
 
 use crate::count::Count;
+use crate::kept::{Kept, kept_at};
 use crate::part::Part;
 use cell_core::{Cell, Memory};
 use std::alloc::Global;
@@ -15,6 +16,8 @@ use std::alloc::Global;
 pub enum Chunk {
     /// The cells of kind Int with these numbers.
     Ints(Vec<i64>),
+    /// The cells of kind Day with these numbers.
+    Days(Vec<i32>),
     /// The cells of kind Oid with these numbers.
     Oids(Vec<u64>),
     /// Oids that rise by one each.
@@ -40,6 +43,7 @@ impl Chunk {
     {
         match self {
             Chunk::Ints(numbers) => numbers.len(),
+            Chunk::Days(numbers) => numbers.len(),
             Chunk::Oids(numbers) => numbers.len(),
             Chunk::Rising(count) => count.len,
             Chunk::Bits(bits) => bits.len(),
@@ -55,6 +59,7 @@ impl Chunk {
     {
         match self {
             Chunk::Ints(numbers) => Part::Ints(&numbers[from..]),
+            Chunk::Days(numbers) => Part::Days(&numbers[from..]),
             Chunk::Oids(numbers) => Part::Oids(&numbers[from..]),
             Chunk::Rising(all) => Part::Rising(Count {
                 first: all.first + from as u64,
@@ -73,6 +78,10 @@ impl Chunk {
     {
         match (&mut *self, &cell) {
             (Chunk::Ints(numbers), Cell::Int(number)) => {
+                numbers.push(*number)?;
+                Ok(())
+            }
+            (Chunk::Days(numbers), Cell::Day(number)) => {
                 numbers.push(*number)?;
                 Ok(())
             }
@@ -100,8 +109,9 @@ impl Chunk {
     {
         make_ready(self, alloc, part, places.len())?;
         match (&mut *self, part) {
-            (Chunk::Ints(numbers), Part::Ints(from)) => pick_ints(numbers, from, places),
-            (Chunk::Oids(numbers), Part::Oids(from)) => pick_oids(numbers, from, places),
+            (Chunk::Ints(numbers), Part::Ints(from)) => pick_kept(numbers, from, places),
+            (Chunk::Days(numbers), Part::Days(from)) => pick_kept(numbers, from, places),
+            (Chunk::Oids(numbers), Part::Oids(from)) => pick_kept(numbers, from, places),
             (Chunk::Oids(numbers), Part::Rising(from)) => pick_rising(numbers, from, places),
             _ => pick_cells(self, alloc, part, places),
         }
@@ -113,6 +123,7 @@ impl Chunk {
     {
         match part {
             Part::Ints(_) => Ok(Chunk::Ints(Vec::with_capacity(alloc, count)?)),
+            Part::Days(_) => Ok(Chunk::Days(Vec::with_capacity(alloc, count)?)),
             Part::Oids(_) | Part::Rising(_) => Ok(Chunk::Oids(Vec::with_capacity(alloc, count)?)),
             Part::Bits(_) => Ok(Chunk::Bits(Vec::with_capacity(alloc, count)?)),
             Part::Cells(_) => Ok(Chunk::Cells(Vec::with_capacity(alloc, count)?)),
@@ -130,26 +141,14 @@ fn make_ready(chunk: &mut Chunk, alloc: Global, part: Part<'_>, count: usize) ->
     Ok(())
 }
 
-/// Adds the numbers at these places.
-fn pick_ints(numbers: &mut Vec<i64>, from: &[i64], places: &[u32]) -> Result<(), Memory>
+/// Adds what is kept at these places.
+fn pick_kept<K: Kept>(numbers: &mut Vec<K>, from: &[K], places: &[u32]) -> Result<(), Memory>
     requires { AreWithin places.now (length from.now) }
-    ensures { OnOk result (numbers.new.items ≡ numbers.old.items ++ picked (pos 0) from.now places.now) }
+    ensures { OnOk result (map K.cell_of numbers.new.items ≡ map K.cell_of numbers.old.items ++ picked Nil (map K.cell_of from.now) places.now) }
 {
     numbers.reserve(places.len())?;
     for place in places {
-        numbers.push(from[*place as usize])?;
-    }
-    Ok(())
-}
-
-/// Adds the oids at these places.
-fn pick_oids(numbers: &mut Vec<u64>, from: &[u64], places: &[u32]) -> Result<(), Memory>
-    requires { AreWithin places.now (length from.now) }
-    ensures { OnOk result (numbers.new.items ≡ numbers.old.items ++ picked 0 from.now places.now) }
-{
-    numbers.reserve(places.len())?;
-    for place in places {
-        numbers.push(from[*place as usize])?;
+        numbers.push(kept_at(from, *place as usize))?;
     }
     Ok(())
 }
@@ -211,6 +210,11 @@ fn chunk_of(alloc: Global, cell: Cell) -> Result<Chunk, Memory>
             let mut numbers = Vec::new(alloc);
             numbers.push(number)?;
             Ok(Chunk::Ints(numbers))
+        }
+        Cell::Day(number) => {
+            let mut numbers = Vec::new(alloc);
+            numbers.push(number)?;
+            Ok(Chunk::Days(numbers))
         }
         Cell::Oid(oid) => {
             let mut oids = Vec::new(alloc);

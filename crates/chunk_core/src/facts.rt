@@ -3,12 +3,12 @@ ghost use Rattle.std.specs.Prelude.{◌≡◌, ◌+◌, ◌*◌, ◌∷◌, ◌+
 ghost use Rattle.std.specs.Option.{option_copied};
 ghost use Rattle.cell_core.specs.Order.{cell_bytes};
 ghost use Rattle.cell_core.specs.declared.cell.Cell.{Cell};
-ghost use Rattle.cell_core.specs.declared.cell.Cell.TheVariants.{Int, Oid, Bit};
 ghost use Rattle.chunk_core.specs.Filled.{oids_from};
 ghost use Rattle.chunk_core.specs.Parts.{part_cells};
 ghost use Rattle.chunk_core.specs.Facts.{AreToldOf, is_dense, is_below, is_next_oid, neighbours_from, last_cell, rises_with_all, dense_with_all, cells_bytes};
 
 use crate::count::Count;
+use crate::kept::Kept;
 use crate::part::Part;
 use cell_core::{Cell, compare, stated_bytes};
 use std::cmp::Ordering;
@@ -59,6 +59,7 @@ fn bytes_after(so_far: u64, more: Part<'_>) -> Option<u64>
 {
     match more {
         Part::Ints(numbers) => eights_after(so_far, numbers.len()),
+        Part::Days(numbers) => eights_after(so_far, numbers.len()),
         Part::Oids(numbers) => eights_after(so_far, numbers.len()),
         Part::Rising(count) => eights_after(so_far, count.len),
         Part::Bits(bits) => ones_after(so_far, bits.len()),
@@ -79,15 +80,29 @@ fn eights_after(so_far: u64, count: usize) -> Option<u64>
     }
 }
 
+/// The stated bytes once that many cells of one byte are added.
+fn ones_after(so_far: u64, count: usize) -> Option<u64>
+    ensures sum { IfSome result (λ bytes. bytes ≡ so_far + count) }
+    ensures few { IfSome result (λ bytes. bytes < 2 ^ 60) }
+{
+    let bytes = so_far.checked_add(count as u64)?;
+    if bytes < BYTES_LIMIT {
+        Some(bytes)
+    } else {
+        None
+    }
+}
+
 /// Whether cells rise once those of a part follow the last.
 fn rises_after(so_far: bool, last: Option<&Cell>, more: Part<'_>) -> bool
     ensures { result ≡ rises_with_all so_far (option_copied last.entry) (part_cells more.entry) }
 {
     match more {
-        Part::Ints(numbers) => ints_rise(so_far, last, numbers),
-        Part::Oids(numbers) => oids_rise(so_far, last, numbers),
+        Part::Ints(numbers) => kept_rise(so_far, last, numbers),
+        Part::Days(numbers) => kept_rise(so_far, last, numbers),
+        Part::Oids(numbers) => kept_rise(so_far, last, numbers),
         Part::Rising(count) => count_rises(so_far, last, count),
-        Part::Bits(bits) => bits_rise(so_far, last, bits),
+        Part::Bits(bits) => kept_rise(so_far, last, bits),
         Part::Cells(cells) => rises_after_all(so_far, last, cells),
     }
 }
@@ -97,88 +112,73 @@ fn dense_after(so_far: bool, last: Option<&Cell>, more: Part<'_>) -> bool
     ensures { result ≡ dense_with_all so_far (option_copied last.entry) (part_cells more.entry) }
 {
     match more {
-        Part::Ints(numbers) => ints_dense(so_far, last, numbers),
-        Part::Oids(numbers) => oids_dense(so_far, last, numbers),
+        Part::Ints(numbers) => kept_dense(so_far, last, numbers),
+        Part::Days(numbers) => kept_dense(so_far, last, numbers),
+        Part::Oids(numbers) => kept_dense(so_far, last, numbers),
         Part::Rising(count) => count_dense(so_far, last, count),
-        Part::Bits(bits) => bits_dense(so_far, last, bits),
+        Part::Bits(bits) => kept_dense(so_far, last, bits),
         Part::Cells(cells) => dense_after_all(so_far, last, cells),
     }
 }
 
-/// Whether cells rise once numbers follow the last.
-fn ints_rise(so_far: bool, last: Option<&Cell>, numbers: &[i64]) -> bool
-    ensures { result ≡ rises_with_all so_far (option_copied last.entry) (map Int numbers.now) }
+/// Whether cells rise once those of one kind follow the last.
+fn kept_rise<K: Kept>(so_far: bool, last: Option<&Cell>, kept: &[K]) -> bool
+    ensures { result ≡ rises_with_all so_far (option_copied last.entry) (map K.cell_of kept.now) }
 {
-    match (last, numbers) {
+    match (last, kept) {
         (None, []) => true,
-        (None, [first, rest @ ..]) => ints_rise_from(*first, rest),
+        (None, [first, rest @ ..]) => kept_rise_from(*first, rest),
         (Some(_), []) => so_far,
         (Some(last), [first, rest @ ..]) => {
-            so_far && stands_before(last, &Cell::Int(*first)) && ints_rise_from(*first, rest)
+            so_far && stands_before(last, &first.cell()) && kept_rise_from(*first, rest)
         }
     }
 }
 
-/// Whether a number is below the first of the others, and each of these below the next.
-fn ints_rise_from(first: i64, others: &[i64]) -> bool
-    ensures { result ≡ neighbours_from is_below (Int first) (map Int others.now) }
+/// Whether a cell stands before the first of others of its kind, and each of these before the next.
+fn kept_rise_from<K: Kept>(first: K, others: &[K]) -> bool
+    ensures { result ≡ neighbours_from is_below (K.cell_of first) (map K.cell_of others.now) }
 {
     let mut before = first;
     let mut rest = others;
-    'others: while let [number, more @ ..] = rest {
-        if !int_below(before, *number) {
+    'others: while let [kept, more @ ..] = rest {
+        if !before.is_before(*kept) {
             return false;
         }
-        before = *number;
+        before = *kept;
         rest = more;
     }
     true
 }
 
-/// Whether a number is below another.
-#[inline]
-fn int_below(a: i64, b: i64) -> bool
-    ensures { result ≡ is_below (Int a) (Int b) }
+/// Whether cells are dense once those of one kind follow the last.
+fn kept_dense<K: Kept>(so_far: bool, last: Option<&Cell>, kept: &[K]) -> bool
+    ensures { result ≡ dense_with_all so_far (option_copied last.entry) (map K.cell_of kept.now) }
 {
-    a < b
-}
-
-/// Whether cells rise once oids follow the last.
-fn oids_rise(so_far: bool, last: Option<&Cell>, numbers: &[u64]) -> bool
-    ensures { result ≡ rises_with_all so_far (option_copied last.entry) (map Oid numbers.now) }
-{
-    match (last, numbers) {
+    match (last, kept) {
         (None, []) => true,
-        (None, [first, rest @ ..]) => oids_rise_from(*first, rest),
+        (None, [first, rest @ ..]) => first.counts() && kept_count_from(*first, rest),
         (Some(_), []) => so_far,
         (Some(last), [first, rest @ ..]) => {
-            so_far && stands_before(last, &Cell::Oid(*first)) && oids_rise_from(*first, rest)
+            so_far && is_next(last, &first.cell()) && kept_count_from(*first, rest)
         }
     }
 }
 
-/// Whether an oid is below the first of the others, and each of these below the next.
-fn oids_rise_from(first: u64, others: &[u64]) -> bool
-    ensures { result ≡ neighbours_from is_below (Oid first) (map Oid others.now) }
+/// Whether a cell and the others are oids that rise by one each, where there are others.
+fn kept_count_from<K: Kept>(first: K, others: &[K]) -> bool
+    ensures { result ≡ neighbours_from is_next_oid (K.cell_of first) (map K.cell_of others.now) }
 {
     let mut before = first;
     let mut rest = others;
-    'others: while let [number, more @ ..] = rest {
-        if !oid_below(before, *number) {
+    'others: while let [kept, more @ ..] = rest {
+        if !before.is_followed_by(*kept) {
             return false;
         }
-        before = *number;
+        before = *kept;
         rest = more;
     }
     true
-}
-
-/// Whether an oid is below another.
-#[inline]
-fn oid_below(a: u64, b: u64) -> bool
-    ensures { result ≡ is_below (Oid a) (Oid b) }
-{
-    a < b
 }
 
 /// Whether cells rise once oids that rise by one each follow the last.
@@ -200,163 +200,6 @@ fn count_is_above(last: &Cell, count: Count) -> bool
     }
     let first = Cell::Oid(count.first);
     stands_before(last, &first)
-}
-
-/// Whether cells are dense once numbers follow the last.
-fn ints_dense(so_far: bool, last: Option<&Cell>, numbers: &[i64]) -> bool
-    ensures { result ≡ dense_with_all so_far (option_copied last.entry) (map Int numbers.now) }
-{
-    match (last, numbers) {
-        (None, []) => true,
-        (None, [first, rest @ ..]) => oids_in_ints(*first, rest),
-        (Some(_), []) => so_far,
-        (Some(last), [first, rest @ ..]) => {
-            so_far && is_next(last, &Cell::Int(*first)) && ints_count_from(*first, rest)
-        }
-    }
-}
-
-/// Whether numbers are dense oids, which they never are.
-fn oids_in_ints(first: i64, others: &[i64]) -> bool
-    ensures { result ≡ is_dense (Int first ∷ map Int others.now) }
-{
-    let _first = first;
-    let _others = others;
-    false
-}
-
-/// Whether each of the others is one more than the number before it, as no number is of an oid.
-fn ints_count_from(first: i64, others: &[i64]) -> bool
-    ensures { result ≡ neighbours_from is_next_oid (Int first) (map Int others.now) }
-{
-    let _first = first;
-    match others {
-        [] => true,
-        [_next, _rest @ ..] => false,
-    }
-}
-
-/// The stated bytes once that many cells of one byte are added.
-fn ones_after(so_far: u64, count: usize) -> Option<u64>
-    ensures sum { IfSome result (λ bytes. bytes ≡ so_far + count) }
-    ensures few { IfSome result (λ bytes. bytes < 2 ^ 60) }
-{
-    let bytes = so_far.checked_add(count as u64)?;
-    if bytes < BYTES_LIMIT {
-        Some(bytes)
-    } else {
-        None
-    }
-}
-
-/// Whether cells rise once bits follow the last.
-fn bits_rise(so_far: bool, last: Option<&Cell>, bits: &[bool]) -> bool
-    ensures { result ≡ rises_with_all so_far (option_copied last.entry) (map Bit bits.now) }
-{
-    match (last, bits) {
-        (None, []) => true,
-        (None, [first, rest @ ..]) => bits_rise_from(*first, rest),
-        (Some(_), []) => so_far,
-        (Some(last), [first, rest @ ..]) => {
-            so_far && stands_before(last, &Cell::Bit(*first)) && bits_rise_from(*first, rest)
-        }
-    }
-}
-
-/// Whether a bit is below the first of the others, and each of these below the next.
-fn bits_rise_from(first: bool, others: &[bool]) -> bool
-    ensures { result ≡ neighbours_from is_below (Bit first) (map Bit others.now) }
-{
-    let mut before = first;
-    let mut rest = others;
-    'others: while let [bit, more @ ..] = rest {
-        if !bit_below(before, *bit) {
-            return false;
-        }
-        before = *bit;
-        rest = more;
-    }
-    true
-}
-
-/// Whether a bit is below another.
-#[inline]
-fn bit_below(a: bool, b: bool) -> bool
-    ensures { result ≡ is_below (Bit a) (Bit b) }
-{
-    !a && b
-}
-
-/// Whether cells are dense once bits follow the last.
-fn bits_dense(so_far: bool, last: Option<&Cell>, bits: &[bool]) -> bool
-    ensures { result ≡ dense_with_all so_far (option_copied last.entry) (map Bit bits.now) }
-{
-    match (last, bits) {
-        (None, []) => true,
-        (None, [first, rest @ ..]) => oids_in_bits(*first, rest),
-        (Some(_), []) => so_far,
-        (Some(last), [first, rest @ ..]) => {
-            so_far && is_next(last, &Cell::Bit(*first)) && bits_count_from(*first, rest)
-        }
-    }
-}
-
-/// Whether bits are dense oids, which they never are.
-fn oids_in_bits(first: bool, others: &[bool]) -> bool
-    ensures { result ≡ is_dense (Bit first ∷ map Bit others.now) }
-{
-    let _first = first;
-    let _others = others;
-    false
-}
-
-/// Whether each of the others is one more than the bit before it, as no bit is of an oid.
-fn bits_count_from(first: bool, others: &[bool]) -> bool
-    ensures { result ≡ neighbours_from is_next_oid (Bit first) (map Bit others.now) }
-{
-    let _first = first;
-    match others {
-        [] => true,
-        [_next, _rest @ ..] => false,
-    }
-}
-
-/// Whether cells are dense once oids follow the last.
-fn oids_dense(so_far: bool, last: Option<&Cell>, numbers: &[u64]) -> bool
-    ensures { result ≡ dense_with_all so_far (option_copied last.entry) (map Oid numbers.now) }
-{
-    match (last, numbers) {
-        (None, []) => true,
-        (None, [first, rest @ ..]) => oids_count_from(*first, rest),
-        (Some(_), []) => so_far,
-        (Some(last), [first, rest @ ..]) => {
-            so_far && is_next(last, &Cell::Oid(*first)) && oids_count_from(*first, rest)
-        }
-    }
-}
-
-/// Whether an oid and the others rise by one each.
-fn oids_count_from(first: u64, others: &[u64]) -> bool
-    ensures { result ≡ neighbours_from is_next_oid (Oid first) (map Oid others.now) }
-{
-    let mut before = first;
-    let mut rest = others;
-    'others: while let [number, more @ ..] = rest {
-        if !oid_next(before, *number) {
-            return false;
-        }
-        before = *number;
-        rest = more;
-    }
-    true
-}
-
-/// Whether an oid is one more than another.
-#[inline]
-fn oid_next(a: u64, b: u64) -> bool
-    ensures { result ≡ is_next_oid (Oid a) (Oid b) }
-{
-    a.checked_add(1) == Some(b)
 }
 
 /// Whether cells are dense once oids that rise by one each follow the last.

@@ -1,16 +1,19 @@
 //! Cells that lie together, in the form in which they are kept.
-ghost use Rattle.std.specs.Prelude.{◌≡◌, ◌+◌, ◌^◌, ◌<◌, ◌≤◌, length, take, drop, slice_index_or, IfOk};
+ghost use Rattle.std.specs.Prelude.{◌≡◌, ◌+◌, ◌^◌, ◌<◌, ◌≤◌, length, map, take, drop, slice_index_or, IfOk};
 ghost use Rattle.chunk_core.specs.Parts.{part_cells, lent_cell};
 
 use crate::count::Count;
+use crate::kept::Kept;
 use cell_core::{Cell, Memory};
 
-/// Cells that lie together: numbers alone, oids alone, oids that rise by one each, bits alone, or any
-/// cells.
+/// Cells that lie together: numbers alone, days alone, oids alone, oids that rise by one each, bits alone,
+/// or any cells.
 #[derive(Clone, Copy)]
 pub enum Part<'a> {
     /// The cells of kind Int with these numbers.
     Ints(&'a [i64]),
+    /// The cells of kind Day with these numbers.
+    Days(&'a [i32]),
     /// The cells of kind Oid with these numbers.
     Oids(&'a [u64]),
     /// Oids that rise by one each.
@@ -51,6 +54,7 @@ impl<'a> Part<'a> {
     {
         match self {
             Part::Ints(numbers) => numbers.len(),
+            Part::Days(numbers) => numbers.len(),
             Part::Oids(numbers) => numbers.len(),
             Part::Rising(count) => count.len,
             Part::Bits(bits) => bits.len(),
@@ -66,6 +70,7 @@ impl<'a> Part<'a> {
     {
         match self {
             Part::Ints(numbers) => Part::Ints(&numbers[..count]),
+            Part::Days(numbers) => Part::Days(&numbers[..count]),
             Part::Oids(numbers) => Part::Oids(&numbers[..count]),
             Part::Rising(all) => Part::Rising(Count {
                 first: all.first,
@@ -83,11 +88,12 @@ impl<'a> Part<'a> {
         ensures { lent_cell result ≡ slice_index_or (part_cells self.now) at (lent_cell result) }
     {
         match self {
-            Part::Ints(numbers) => CellAt::Made(Cell::Int(int_at(numbers, at))),
-            Part::Oids(numbers) => CellAt::Made(Cell::Oid(oid_at(numbers, at))),
+            Part::Ints(numbers) => CellAt::Made(made_at(numbers, at)),
+            Part::Days(numbers) => CellAt::Made(made_at(numbers, at)),
+            Part::Oids(numbers) => CellAt::Made(made_at(numbers, at)),
             Part::Rising(all) => CellAt::Made(Cell::Oid(all.first + at as u64)),
-            Part::Bits(bits) => CellAt::Made(Cell::Bit(bit_at(bits, at))),
-            Part::Cells(cells) => CellAt::Lent(kept_at(cells, at)),
+            Part::Bits(bits) => CellAt::Made(made_at(bits, at)),
+            Part::Cells(cells) => CellAt::Lent(lent_at(cells, at)),
         }
     }
 
@@ -102,38 +108,20 @@ impl<'a> Part<'a> {
     }
 }
 
-/// The number at a place.
+/// The cell of what is kept at a place.
 #[inline]
-fn int_at(numbers: &[i64], at: usize) -> i64
-    requires { at < length numbers.now }
-    ensures { result ≡ slice_index_or numbers.now at result }
+fn made_at<K: Kept>(kept: &[K], at: usize) -> Cell
+    requires { at < length kept.now }
+    ensures { result ≡ slice_index_or (map K.cell_of kept.now) at result }
 {
-    numbers[at]
-}
-
-/// The oid at a place.
-#[inline]
-fn oid_at(numbers: &[u64], at: usize) -> u64
-    requires { at < length numbers.now }
-    ensures { result ≡ slice_index_or numbers.now at result }
-{
-    numbers[at]
+    kept[at].cell()
 }
 
 /// The cell at a place.
 #[inline]
-fn kept_at(cells: &[Cell], at: usize) -> &Cell
+fn lent_at(cells: &[Cell], at: usize) -> &Cell
     requires { at < length cells.now }
     ensures { result.now ≡ slice_index_or cells.now at result.now }
 {
     &cells[at]
-}
-
-/// The bit at a place.
-#[inline]
-fn bit_at(bits: &[bool], at: usize) -> bool
-    requires { at < length bits.now }
-    ensures { result ≡ slice_index_or bits.now at result }
-{
-    bits[at]
 }

@@ -1,6 +1,6 @@
 use Rattle.std.proofs.Common.{length, drop, map, sym, ap, ◌∙◌, arith}
 use Rattle.std.proofs.lemmas.List.{drop-map, take_rest}
-use Rattle.cell_core.specs.declared.cell.Cell.TheVariants.{Int, Oid, Bit}
+use Rattle.cell_core.specs.declared.cell.Cell.TheVariants.{Int, Day, Oid, Bit}
 use Rattle.chunk_core.specs.Chunks.{chunk_cells}
 use Rattle.chunk_core.proofs.PartLemmas.{length_oids, drop_oids}
 use Rattle.chunk_core.proofs.chunk.Chunk.part.Goals as goal
@@ -23,6 +23,13 @@ returns-in-Ints c =
     ∙ ap (λ l. map Int (drop c.args.from l)) c.deref.ensures.value
     ∙ sym (drop-map Int c.args.from c.in-Ints.numbers.items)
     ∙ ap (λ p. drop c.args.from (chunk_cells p)) (sym c.in-Ints.is)
+
+pub returns-in-Days : goal.returns-in-Days
+returns-in-Days c =
+    ap (map Day) (take_rest c.deref-in-Days.result.now c.args.from)
+    ∙ ap (λ l. map Day (drop c.args.from l)) c.deref-in-Days.ensures.value
+    ∙ sym (drop-map Day c.args.from c.in-Days.numbers.items)
+    ∙ ap (λ p. drop c.args.from (chunk_cells p)) (sym c.in-Days.is)
 
 pub returns-in-Oids : goal.returns-in-Oids
 returns-in-Oids c =
