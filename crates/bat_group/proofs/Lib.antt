@@ -3,4 +3,4 @@ pub mod NumberLemmas
 pub mod TotalLemmas
 pub mod FirstLemmas
 pub mod PartLemmas
-pub mod IntLemmas
+pub mod KeyLemmas

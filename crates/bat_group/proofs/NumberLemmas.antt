@@ -1,12 +1,13 @@
 -- Distinct elements and their numbers, one element on.
-use Rattle.std.proofs.Common.{◌≡◌, ℕ, suc, ◌+◌, ◌<◌, Bool, true, false, not, ◌||◌, cond, List, [], ◌∷◌, ◌++◌, length, get_or, take, drop, map, Option, None, Some, refl, sym, ap, subst, ◌∙◌, arith, append_assoc, append-nil}
+use Rattle.std.proofs.Common.{◌≡◌, ℕ, suc, ◌+◌, ◌<◌, Bool, true, false, not, ◌||◌, cond, List, [], ◌∷◌, ◌++◌, length, map, Option, None, Some, refl, sym, ap, subst, ◌∙◌, arith, append_assoc, append-nil}
 use Rattle.std.specs.Prelude.{filter}
 use Rattle.std.specs.List.{list_any, position_or_len}
 use Rattle.std.specs.Option.{option_or}
 use Rattle.std.specs.HashMap.{HashMap, get, Updates}
 use Rattle.std.specs.Cmp.{IsEquivalence}
-use Rattle.std.proofs.lemmas.List.{take_more, take-append-drop, length_push, map_push}
+use Rattle.std.proofs.lemmas.List.{length_push, map_push}
 use Rattle.std.proofs.lemmas.List.Elements.{filter-append}
+use Rattle.std.proofs.lemmas.List.Folds.{list_any-append}
 use Rattle.cell_core.specs.Groups.{distinct, group_number}
 use Rattle.bat_group.specs.Numbers.{place_from, with_first, AreNumbered}
 
@@ -128,9 +129,13 @@ module _ {X : Type 0} (same : X → X → Bool) (laws : IsEquivalence same) wher
         | false ↦ λ e. ap (λ b. same d x || b) (any_filter z x ds apart)
       ] refl
 
-  pub any_step : (z x : X) (ds : List X) (s : Bool) → same z x ≡ s → (s || list_any (λ y. same y x) (filter (λ y. not (same z y)) ds)) ≡ (s || list_any (λ y. same y x) ds)
+  any_step : (z x : X) (ds : List X) (s : Bool) → same z x ≡ s → (s || list_any (λ y. same y x) (filter (λ y. not (same z y)) ds)) ≡ (s || list_any (λ y. same y x) ds)
   any_step z x ds true e = refl
   any_step z x ds false e = any_filter z x ds e
+
+  pub any_distinct : (x : X) (xs : List X) → list_any (λ y. same y x) (distinct same xs) ≡ list_any (λ y. same y x) xs
+  any_distinct x [] = refl
+  any_distinct x (z ∷ xs) = any_step z x (distinct same xs) (same z x) refl ∙ ap (λ b. same z x || b) (any_distinct x xs)
 
   pub distinct_push : (xs : List X) (x : X) → distinct same (xs ++ x ∷ []) ≡ with_first same (distinct same xs) x
   distinct_push [] x = refl
@@ -139,17 +144,6 @@ module _ {X : Type 0} (same : X → X → Bool) (laws : IsEquivalence same) wher
       ∙ push_step z x (distinct same xs) (same z x) (list_any (λ y. same y x) (distinct same xs)) refl
       ∙ ap (λ b. cond b (distinct same (z ∷ xs)) (distinct same (z ∷ xs) ++ x ∷ [])) (sym (any_step z x (distinct same xs) (same z x) refl))
 
-  -- more elements follow the distinct ones
-  distinct_more : (ys xs : List X) → (more : List X) × (distinct same (xs ++ ys) ≡ distinct same xs ++ more)
-  distinct_more [] xs = ([], ap (distinct same) (append-nil xs) ∙ sym (append-nil (distinct same xs)))
-  distinct_more (y ∷ ys) xs =
-      let rest : (more : List X) × (distinct same ((xs ++ y ∷ []) ++ ys) ≡ distinct same (xs ++ y ∷ []) ++ more) = distinct_more ys (xs ++ y ∷ []) in
-      let split : (xs ++ y ∷ []) ++ ys ≡ xs ++ y ∷ ys = append_assoc xs (y ∷ []) ys in
-      elim (list_any (λ x. same x y) (distinct same xs)) as (λ b. distinct same (xs ++ y ∷ []) ≡ cond b (distinct same xs) (distinct same xs ++ y ∷ []) → (more : List X) × (distinct same (xs ++ y ∷ ys) ≡ distinct same xs ++ more)) [
-        | true ↦ λ e. (rest.0, ap (distinct same) (sym split) ∙ rest.1 ∙ ap (λ l. l ++ rest.0) e)
-        | false ↦ λ e. (y ∷ rest.0, ap (distinct same) (sym split) ∙ rest.1 ∙ ap (λ l. l ++ rest.0) e ∙ append_assoc (distinct same xs) (y ∷ []) rest.0)
-      ] (distinct_push xs y)
-
   pub number_kept : (ds : List X) (x : X) (more : List X) → position_or_len (λ y. same y x) (with_first same ds x ++ more) ≡ position_or_len (λ y. same y x) ds
   number_kept ds x more =
       elim (list_any (λ y. same y x) ds) as (λ b. list_any (λ y. same y x) ds ≡ b → position_or_len (λ y. same y x) (cond b ds (ds ++ x ∷ []) ++ more) ≡ position_or_len (λ y. same y x) ds) [
@@ -157,29 +151,36 @@ module _ {X : Type 0} (same : X → X → Bool) (laws : IsEquivalence same) wher
         | false ↦ λ e. ap (position_or_len (λ y. same y x)) (append_assoc ds (x ∷ []) more) ∙ number_next (λ y. same y x) ds x more e (laws.refl x)
       ] refl
 
-  -- the number of an element among all is that among those before it
-  pub number_before : (xs : List X) (i : ℕ) (x : X) → i < length xs → x ≡ get_or xs i x → group_number same xs x ≡ position_or_len (λ y. same y x) (distinct same (take i xs))
-  number_before xs i x within is =
-      let front : take (i + 1) xs ≡ take i xs ++ x ∷ [] = take_more xs i x within ∙ ap (λ y. take i xs ++ y ∷ []) (sym is) in
-      let rest : (more : List X) × (distinct same ((take i xs ++ x ∷ []) ++ drop (i + 1) xs) ≡ distinct same (take i xs ++ x ∷ []) ++ more) = distinct_more (drop (i + 1) xs) (take i xs ++ x ∷ []) in
-      ap (λ l. position_or_len (λ y. same y x) (distinct same l)) (sym (take-append-drop (i + 1) xs) ∙ ap (λ l. l ++ drop (i + 1) xs) front)
-      ∙ ap (position_or_len (λ y. same y x)) (rest.1 ∙ ap (λ l. l ++ rest.0) (distinct_push (take i xs) x))
-      ∙ number_kept (distinct same (take i xs)) x rest.0
+  -- those that were numbered keep their numbers when one more follows
+  number_stays : (xs : List X) (x y : X) → list_any (λ z. same z y) xs ≡ true → group_number same (xs ++ x ∷ []) y ≡ group_number same xs y
+  number_stays xs x y among =
+      ap (position_or_len (λ z. same z y)) (distinct_push xs x)
+      ∙ elim (list_any (λ z. same z x) (distinct same xs)) as (λ b. position_or_len (λ z. same z y) (cond b (distinct same xs) (distinct same xs ++ x ∷ [])) ≡ position_or_len (λ z. same z y) (distinct same xs)) [
+        | true ↦ refl
+        | false ↦ number_found (λ z. same z y) (distinct same xs) (x ∷ []) (any_distinct y xs ∙ among)
+      ]
 
-  -- one element further
-  module _ (xs : List X) (i : ℕ) (x : X) (within : i < length xs) (is : x ≡ get_or xs i x) where
-    pub take_next : take (i + 1) xs ≡ take i xs ++ x ∷ []
-    take_next = take_more xs i x within ∙ ap (λ y. take i xs ++ y ∷ []) (sym is)
+  numbers_stay : {Y : Type 0} (f : ℕ → Y) (xs : List X) (x : X) (before ys : List X) → xs ≡ before ++ ys → map (λ y. f (group_number same (xs ++ x ∷ []) y)) ys ≡ map (λ y. f (group_number same xs y)) ys
+  numbers_stay f xs x before [] split = refl
+  numbers_stay f xs x before (y ∷ ys) split =
+      ap (λ n. f n ∷ map (λ z. f (group_number same (xs ++ x ∷ []) z)) ys) (number_stays xs x y among)
+      ∙ ap (λ l. f (group_number same xs y) ∷ l) (numbers_stay f xs x (before ++ y ∷ []) ys (split ∙ sym (append_assoc before (y ∷ []) ys)))
+    where
+      either : (a b c : Bool) → b ≡ true → (a || (b || c)) ≡ true
+      either true b c e = refl
+      either false true c e = refl
+      either false false c e = cc
 
-    pub distinct_next : distinct same (take (i + 1) xs) ≡ with_first same (distinct same (take i xs)) x
-    distinct_next = ap (distinct same) take_next ∙ distinct_push (take i xs) x
+      among : list_any (λ z. same z y) xs ≡ true
+      among = ap (list_any (λ z. same z y)) split ∙ list_any-append (λ z. same z y) before (y ∷ ys) ∙ either (list_any (λ z. same z y) before) (same y y) (list_any (λ z. same z y) ys) (laws.refl y)
 
-    pub numbers_next : {Y : Type 0} (f : ℕ → Y) (out new : List Y) (n : ℕ) → out ≡ map (λ y. f (group_number same xs y)) (take i xs) → n ≡ position_or_len (λ y. same y x) (distinct same (take i xs)) → new ≡ out ++ f n ∷ []
-        → new ≡ map (λ y. f (group_number same xs y)) (take (i + 1) xs)
-    numbers_next f out new n so_far number more =
-        more ∙ ap (λ l. l ++ f n ∷ []) so_far ∙ ap (λ k. map (λ y. f (group_number same xs y)) (take i xs) ++ f k ∷ []) (number ∙ sym (number_before xs i x within is))
-        ∙ sym (map_push (λ y. f (group_number same xs y)) (take i xs) x) ∙ ap (map (λ y. f (group_number same xs y))) (sym take_next)
-
--- an element that equals the one that was read
-pub read_is : {X : Type 0} (xs : List X) (i : ℕ) (x r : X) → x ≡ r → r ≡ get_or xs i r → x ≡ get_or xs i x
-read_is xs i x r same read = same ∙ read ∙ ap (get_or xs i) (sym same)
+  -- and the one more has the number that it is found under
+  pub numbers_push : {Y : Type 0} (f : ℕ → Y) (xs : List X) (x : X) (out new : List Y) (n : ℕ) → out ≡ map (λ y. f (group_number same xs y)) xs → n ≡ position_or_len (λ y. same y x) (distinct same xs) → new ≡ out ++ f n ∷ []
+      → new ≡ map (λ y. f (group_number same (xs ++ x ∷ []) y)) (xs ++ x ∷ [])
+  numbers_push f xs x out new n so_far number more =
+      more ∙ ap (λ l. l ++ f n ∷ []) (so_far ∙ sym (numbers_stay f xs x [] xs refl))
+      ∙ ap (λ k. map (λ y. f (group_number same (xs ++ x ∷ []) y)) xs ++ f k ∷ []) (number ∙ sym here)
+      ∙ sym (map_push (λ y. f (group_number same (xs ++ x ∷ []) y)) xs x)
+    where
+      here : group_number same (xs ++ x ∷ []) x ≡ position_or_len (λ y. same y x) (distinct same xs)
+      here = ap (position_or_len (λ y. same y x)) (distinct_push xs x ∙ sym (append-nil (with_first same (distinct same xs) x))) ∙ number_kept (distinct same xs) x []

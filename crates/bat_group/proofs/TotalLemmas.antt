@@ -13,7 +13,7 @@ use Rattle.cell_core.specs.Same.{same_cell, same_equivalence}
 use Rattle.cell_core.specs.Groups.{distinct}
 use Rattle.bat_group.specs.Numbers.{with_first}
 use Rattle.bat_group.specs.Members.{members_of}
-use Rattle.bat_group.proofs.NumberLemmas.{distinct_push, any_step, same_as, number_kept, found_by_number, missed_by_number}
+use Rattle.bat_group.proofs.NumberLemmas.{distinct_push, any_distinct, same_as, number_kept, found_by_number, missed_by_number}
 
 module _ {X : Type 0} (same : X → X → Bool) (laws : IsEquivalence same) where
   -- each element differs from all that follow
@@ -58,10 +58,6 @@ module _ {X : Type 0} (same : X → X → Bool) (laws : IsEquivalence same) wher
   distinct_apart : (xs : List X) → Apart (distinct same xs)
   distinct_apart [] = tt
   distinct_apart (x ∷ xs) = (left_out x (distinct same xs), apart_filter (λ y. not (same x y)) (distinct same xs) (distinct_apart xs))
-
-  any_distinct : (x : X) (xs : List X) → list_any (λ y. same y x) (distinct same xs) ≡ list_any (λ y. same y x) xs
-  any_distinct x [] = refl
-  any_distinct x (z ∷ xs) = any_step same laws z x (distinct same xs) (same z x) refl ∙ ap (λ b. same z x || b) (any_distinct x xs)
 
   -- a function that changes at what is the same as k alone
   module _ {Y : Type 0} (f g : X → Y) (k : X) (others : (y : X) → same y k ≡ false → g y ≡ f y) where

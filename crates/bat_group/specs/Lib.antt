@@ -1,7 +1,5 @@
-pub mod CellPairs
-pub mod Each
 pub mod Heads
-pub mod Ints
+pub mod Keys
 pub mod Members
 pub mod Numbers
 pub mod Totals

@@ -6,16 +6,14 @@ ghost use Rattle.cell_core.specs.Same.{same_cell};
 ghost use Rattle.cell_core.specs.Pairs.{heads_of};
 ghost use Rattle.cell_core.specs.Groups.{grouped, derived, group_heads_of, group_number, same_pair};
 
-use crate::cell_pairs::number_cell_pairs;
 use crate::each::number_each;
 use crate::heads::first_heads;
-use crate::int_pairs::number_int_pairs;
-use crate::ints::number_ints;
-use crate::numbers::number_of;
-use bat_core::{Bat, Cells, CellsBuilder};
+use crate::key_cells::number_keys;
+use crate::key_pairs::number_key_pairs;
+use crate::numbered::Numbered;
+use bat_core::{Bat, Cells};
 use cell_core::{Cell, Memory, Steps};
 use std::alloc::Global;
-use std::collections::HashMap;
 use std::sync::ledger::Ledger;
 
 /// Each head beside the number of its tail, an oid. The counter rises by the pairs of `b` and of the
@@ -31,11 +29,14 @@ pub fn group_new<L: Ledger>(alloc: Global, b: &Bat, steps: &mut Steps<L>) -> Res
     Ok(out)
 }
 
-/// The numbers of the cells.
+/// The numbers of the cells: by their numbers where these are all ints or all days.
 fn number_cells(alloc: Global, cells: &Cells) -> Result<Cells, Memory>
     ensures { IfOk result (λ out. out ≡ map (λ c. Cell.Oid (group_number same_cell cells.now c)) cells.now) }
 {
-    match number_ints(alloc, cells)? {
+    if let Some(numbers) = number_keys::<i64>(alloc, cells)? {
+        return Ok(numbers);
+    }
+    match number_keys::<i32>(alloc, cells)? {
         Some(numbers) => Ok(numbers),
         None => number_each(alloc, cells),
     }
@@ -59,21 +60,18 @@ pub fn group_derive<L: Ledger>(
     Ok(out)
 }
 
-/// The numbers of the pairs of cells that stand side by side.
+/// The numbers of the pairs of cells that stand side by side: by keys where the left ones are all oids and
+/// the right ones all ints, all days, or all kept as cells.
 fn number_pairs(alloc: Global, left: &Cells, right: &Cells) -> Result<Cells, Memory>
     ensures { IfOk result (λ out. out ≡ map (λ p. Cell.Oid (group_number same_pair (zip left.now right.now) p)) (zip left.now right.now)) }
 {
-    match number_int_pairs(alloc, left, right)? {
-        Some(numbers) => Ok(numbers),
-        None => number_other_pairs(alloc, left, right),
+    if let Some(numbers) = number_key_pairs::<i64>(alloc, left, right)? {
+        return Ok(numbers);
     }
-}
-
-/// The numbers of the pairs of cells that stand side by side, where these aren't all numbers.
-fn number_other_pairs(alloc: Global, left: &Cells, right: &Cells) -> Result<Cells, Memory>
-    ensures { IfOk result (λ out. out ≡ map (λ p. Cell.Oid (group_number same_pair (zip left.now right.now) p)) (zip left.now right.now)) }
-{
-    match number_cell_pairs(alloc, left, right)? {
+    if let Some(numbers) = number_key_pairs::<i32>(alloc, left, right)? {
+        return Ok(numbers);
+    }
+    match number_key_pairs::<&Cell>(alloc, left, right)? {
         Some(numbers) => Ok(numbers),
         None => number_each_pair(alloc, left, right),
     }
@@ -83,15 +81,12 @@ fn number_other_pairs(alloc: Global, left: &Cells, right: &Cells) -> Result<Cell
 fn number_each_pair(alloc: Global, left: &Cells, right: &Cells) -> Result<Cells, Memory>
     ensures { IfOk result (λ out. out ≡ map (λ p. Cell.Oid (group_number same_pair (zip left.now right.now) p)) (zip left.now right.now)) }
 {
-    let mut numbers = HashMap::new(alloc);
-    let mut count = 0;
-    let mut out = CellsBuilder::new(alloc);
+    let mut met = Numbered::<(Cell, Cell)>::new(alloc);
     for i in 0..left.len().min(right.len()) {
         let pair = (left.copy(i)?, right.copy(i)?);
-        let number = number_of(&mut numbers, &mut count, pair)?;
-        out.push(alloc, Cell::Oid(number))?;
+        met.meet(alloc, pair)?;
     }
-    out.finish(alloc)
+    met.out.finish(alloc)
 }
 
 /// The first heads beside these tails, of which there may be fewer than heads.

@@ -3,20 +3,21 @@
 //! It stands on `cell_core` for cells and for the definition of each operator, on `bat_core` for BATs,
 //! and on `cell_calc` for aggregates that take one cell after another. Each of its operators gives its
 //! definition exactly, in one pass over the parts of its columns with a hash of what was seen, and with
-//! its stated work. Parts of numbers are taken as numbers: an aggregate by a loop over them, groups by keys
-//! of a number or two, and groups that are oids from 0 on by no hash at all. A group has a number by its first
+//! its stated work. Parts of numbers are taken as numbers: an aggregate by a loop over them, groups of ints
+//! and of days by keys of a number or two, and groups that are oids from 0 on by no hash at all. A group has a number by its first
 //! occurrence, and Nil is the same as Nil there.
 #![tactic(auto)]
 
 mod both;
-mod cell_pairs;
 mod each;
 mod firsts;
 mod group_totals;
 mod grouping;
 mod heads;
-mod int_pairs;
-mod ints;
+mod key_cells;
+mod key_pairs;
+mod keys;
+mod numbered;
 mod numbers;
 mod parts;
 mod subtotals;

@@ -153,6 +153,7 @@ fn known_in(part: Part<'_>) -> usize
 {
     match part {
         Part::Ints(numbers) => numbers.len(),
+        Part::Days(numbers) => numbers.len(),
         Part::Oids(numbers) => numbers.len(),
         Part::Rising(count) => count.len,
         Part::Bits(bits) => bits.len(),

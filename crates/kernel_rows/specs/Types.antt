@@ -12,6 +12,7 @@ abbrev pub type_of : Shape → ValueType
 type_of shape.Ints = BatOf (Some kind.Oid) (Some kind.Int)
 type_of shape.Oids = BatOf (Some kind.Oid) (Some kind.Oid)
 type_of shape.Bits = BatOf (Some kind.Oid) (Some kind.Bit)
+type_of shape.Days = BatOf (Some kind.Oid) (Some kind.Day)
 type_of shape.Int = OneOf (Some kind.Int)
 type_of shape.Oid = OneOf (Some kind.Oid)
 type_of shape.Bit = OneOf (Some kind.Bit)

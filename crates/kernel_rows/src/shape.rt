@@ -19,6 +19,8 @@ pub enum Shape {
     Oids,
     /// A BAT of bits.
     Bits,
+    /// A BAT of days.
+    Days,
     /// A number.
     Int,
     /// An oid.
@@ -35,6 +37,7 @@ pub(crate) fn has_shape(obj: &Obj, shape: Shape) -> bool
         (Obj::Bat(b), Shape::Ints) => has_tails(b.bat(), Kind::Int),
         (Obj::Bat(b), Shape::Oids) => has_tails(b.bat(), Kind::Oid),
         (Obj::Bat(b), Shape::Bits) => has_tails(b.bat(), Kind::Bit),
+        (Obj::Bat(b), Shape::Days) => has_tails(b.bat(), Kind::Day),
         (Obj::One(cell), Shape::Int) => is_of_kind(cell, Kind::Int),
         (Obj::One(cell), Shape::Oid) => is_of_kind(cell, Kind::Oid),
         (Obj::One(cell), Shape::Bit) => is_of_kind(cell, Kind::Bit),
@@ -87,6 +90,7 @@ pub(crate) fn fits_one(op: Op, x: Shape) -> bool
             Op::Reverse | Op::Mirror | Op::GroupNew | Op::Count | Op::Sum | Op::Min | Op::Max,
             Shape::Ints,
         ) => true,
+        (Op::GroupNew, Shape::Days) => true,
         (Op::GroupHeads, Shape::Oids) => true,
         (Op::Not, Shape::Bits | Shape::Bit) => true,
         (Op::IsNil, _) => true,
@@ -102,6 +106,7 @@ pub(crate) fn fits_two(op: Op, x: Shape, y: Shape) -> bool
         (Shape::Ints, Shape::Ints) => takes_bats(op) || calculates(op),
         (Shape::Ints, Shape::Oids) => takes_groups(op),
         (Shape::Oids, Shape::Ints) => matches!(op, Op::Join | Op::GroupDerive),
+        (Shape::Oids, Shape::Days) => matches!(op, Op::GroupDerive),
         (Shape::Ints, Shape::Oid) => matches!(op, Op::MarkT),
         (Shape::Ints, Shape::Int) => matches!(op, Op::Project) || calculates(op),
         (Shape::Int, Shape::Ints | Shape::Int) => calculates(op),

@@ -1,7 +1,8 @@
 //! Each operator on no pairs, on one pair and on Nil, and the functions of numbers at both ends of the
-//! 64-bit range. What is wanted was told by an implementation that shares no code with the kernel.
+//! 64-bit range. What is wanted was told by an implementation that shares no code with the kernel, and
+//! over days worked out by hand.
 use crate::Shape;
-use Lit::{Bit, Int, Nil, Oid};
+use Lit::{Bit, Day, Int, Nil, Oid};
 use Val::{Bat, One};
 use cell_core::Op;
 
@@ -25,6 +26,7 @@ pub(crate) enum Lit {
     Huge(i128),
     Bit(bool),
     Oid(u64),
+    Day(i32),
 }
 
 /// An argument, or what an operator gives.
@@ -98,6 +100,36 @@ const ONE_BIT: Argument = (Shape::Bits, Bat(&[(Oid(0), Bit(true))]));
 const BITS: Argument = (
     Shape::Bits,
     Bat(&[(Oid(0), Nil), (Oid(1), Bit(false)), (Oid(2), Bit(true))]),
+);
+
+/// Two groups, each of which DAYS splits.
+const TWO_GROUPS: Argument = (
+    Shape::Oids,
+    Bat(&[
+        (Oid(0), Oid(0)),
+        (Oid(1), Oid(0)),
+        (Oid(2), Oid(1)),
+        (Oid(3), Oid(1)),
+        (Oid(4), Oid(0)),
+    ]),
+);
+
+/// Days, of which one comes three times.
+const DAYS: Argument = (
+    Shape::Days,
+    Bat(&[
+        (Oid(0), Day(-1)),
+        (Oid(1), Day(2_147_483_647)),
+        (Oid(2), Day(-1)),
+        (Oid(3), Day(0)),
+        (Oid(4), Day(-1)),
+    ]),
+);
+
+/// The same day around Nil.
+const NIL_DAYS: Argument = (
+    Shape::Days,
+    Bat(&[(Oid(0), Day(7)), (Oid(1), Nil), (Oid(2), Day(7))]),
 );
 
 /// A number.

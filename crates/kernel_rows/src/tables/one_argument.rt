@@ -1,13 +1,13 @@
 //! Operators of one argument.
 use crate::tables::{
-    BITS, FALSE, INTS, Lit, NIL_INTS, NIL_OIDS, NO_BIT, NO_BITS, NO_INT, NO_INTS, NO_OID, NO_OIDS,
-    OIDS, ONE_BIT, ONE_OID, OneRow, THREE, TRUE, TWO, Val,
+    BITS, DAYS, FALSE, INTS, Lit, NIL_DAYS, NIL_INTS, NIL_OIDS, NO_BIT, NO_BITS, NO_INT, NO_INTS,
+    NO_OID, NO_OIDS, OIDS, ONE_BIT, ONE_OID, OneRow, THREE, TRUE, TWO, Val,
 };
 use Lit::{Bit, Huge, Int, Nil, Oid};
 use Val::{Bat, One};
 use cell_core::Op;
 
-pub(crate) static ONE_ARGUMENT: [OneRow; 49] = [
+pub(crate) static ONE_ARGUMENT: [OneRow; 51] = [
     (Op::Reverse, NO_INTS, Bat(&[])),
     (Op::Reverse, THREE, Bat(&[(Int(3), Oid(0))])),
     (Op::Reverse, NIL_INTS, Bat(&[(Nil, Oid(0)), (Int(3), Nil)])),
@@ -34,6 +34,22 @@ pub(crate) static ONE_ARGUMENT: [OneRow; 49] = [
     (
         Op::GroupNew,
         INTS,
+        Bat(&[(Oid(0), Oid(0)), (Oid(1), Oid(1)), (Oid(2), Oid(0))]),
+    ),
+    (
+        Op::GroupNew,
+        DAYS,
+        Bat(&[
+            (Oid(0), Oid(0)),
+            (Oid(1), Oid(1)),
+            (Oid(2), Oid(0)),
+            (Oid(3), Oid(2)),
+            (Oid(4), Oid(0)),
+        ]),
+    ),
+    (
+        Op::GroupNew,
+        NIL_DAYS,
         Bat(&[(Oid(0), Oid(0)), (Oid(1), Oid(1)), (Oid(2), Oid(0))]),
     ),
     (Op::Count, NO_INTS, One(Int(0))),

@@ -1,14 +1,14 @@
 //! Operators of two arguments that are no functions of cells.
 use crate::Shape;
 use crate::tables::{
-    INTS, KEYED, Lit, NIL_INTS, NIL_OIDS, NO_INT, NO_INTS, NO_OID, NO_OIDS, OIDS, ONE_OID, THREE,
-    TwoRow, Val,
+    DAYS, INTS, KEYED, Lit, NIL_INTS, NIL_OIDS, NO_INT, NO_INTS, NO_OID, NO_OIDS, OIDS, ONE_OID,
+    THREE, TWO_GROUPS, TwoRow, Val,
 };
 use Lit::{Huge, Int, Nil, Oid};
 use Val::{Bat, One};
 use cell_core::Op;
 
-pub(crate) static TWO_BATS: [TwoRow; 74] = [
+pub(crate) static TWO_BATS: [TwoRow; 76] = [
     (Op::Semijoin, NO_INTS, NO_INTS, Bat(&[])),
     (Op::Semijoin, NO_INTS, THREE, Bat(&[])),
     (Op::Semijoin, THREE, NO_INTS, Bat(&[])),
@@ -146,6 +146,24 @@ pub(crate) static TWO_BATS: [TwoRow; 74] = [
         OIDS,
         INTS,
         Bat(&[(Oid(5), Oid(0)), (Oid(6), Oid(1)), (Oid(8), Oid(0))]),
+    ),
+    (
+        Op::GroupDerive,
+        OIDS,
+        DAYS,
+        Bat(&[(Oid(5), Oid(0)), (Oid(6), Oid(1)), (Oid(8), Oid(0))]),
+    ),
+    (
+        Op::GroupDerive,
+        TWO_GROUPS,
+        DAYS,
+        Bat(&[
+            (Oid(0), Oid(0)),
+            (Oid(1), Oid(1)),
+            (Oid(2), Oid(2)),
+            (Oid(3), Oid(3)),
+            (Oid(4), Oid(0)),
+        ]),
     ),
     (Op::Subcount, NO_INTS, NO_OIDS, Bat(&[])),
     (Op::Subcount, THREE, NO_OIDS, Bat(&[])),

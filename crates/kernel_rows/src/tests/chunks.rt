@@ -18,6 +18,15 @@ enum Filling {
     OidEnds,
     /// The oids of their places.
     Rising,
+    /// The days of their places, counted from day -2,048 on.
+    Days,
+    /// The same days, with Nil at two places.
+    DaysAndNil,
+}
+
+/// The day of a place.
+fn day_of(place: u32) -> i32 {
+    i32::try_from(place).unwrap_or(i32::MAX) - 2_048
 }
 
 /// The cell at a place.
@@ -30,6 +39,8 @@ fn filled_with(filling: Filling, place: u32) -> Cell {
         Filling::IntEnds if place % 2 == 0 => Cell::Int(i64::MIN),
         Filling::IntEnds => Cell::Int(i64::MAX),
         Filling::OidEnds => Cell::Oid(u64::MAX - u64::from(place)),
+        Filling::DaysAndNil if place == 9 || place == 4_094 => Cell::Nil,
+        Filling::Days | Filling::DaysAndNil => Cell::Day(day_of(place)),
     }
 }
 
@@ -85,6 +96,8 @@ fn cells_of_each_form(rt: HostRuntime) -> Result<(), Fail> {
         Filling::IntEnds,
         Filling::OidEnds,
         Filling::Rising,
+        Filling::Days,
+        Filling::DaysAndNil,
     ] {
         assert!(rt; is_kept_at_borders(rt.alloc(), filling)?);
     }
@@ -98,6 +111,10 @@ fn facts_past_a_border(rt: HostRuntime) -> Result<(), Fail> {
     assert!(rt; rising.is_dense() && rising.rises() && rising.bytes() == 32_776);
     let ends = filled(alloc, Filling::OidEnds, 4_097)?;
     assert!(rt; !ends.is_dense() && !ends.rises() && ends.bytes() == 32_776);
+    let days = filled(alloc, Filling::Days, 4_097)?;
+    assert!(rt; !days.is_dense() && days.rises() && days.bytes() == 32_776);
+    let with_nil = filled(alloc, Filling::DaysAndNil, 4_097)?;
+    assert!(rt; !with_nil.is_dense() && !with_nil.rises() && with_nil.bytes() == 32_776);
     let kinds = filled(alloc, Filling::TwoKinds, 4_097)?;
     assert!(rt; !kinds.is_dense() && kinds.bytes() == 4_095 + 2 * 8);
     Ok(())

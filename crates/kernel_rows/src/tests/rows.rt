@@ -16,6 +16,7 @@ fn cell_of(lit: Lit) -> Cell {
         Lit::Huge(number) => Cell::Huge(number),
         Lit::Bit(bit) => Cell::Bit(bit),
         Lit::Oid(oid) => Cell::Oid(oid),
+        Lit::Day(day) => Cell::Day(day),
     }
 }
 

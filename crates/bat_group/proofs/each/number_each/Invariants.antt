@@ -1,5 +1,6 @@
-use Rattle.std.proofs.Common.{◌≤◌, ◌-◌, length}
-use Rattle.bat_group.specs.Each.{AreMet}
+use Rattle.std.proofs.Common.{◌≤◌, ◌-◌, length, take}
+use Rattle.cell_core.specs.Same.{same_cell}
+use Rattle.bat_group.specs.Keys.{AreKeys}
 use Rattle.bat_group.proofs.each.number_each.Given as goal
 
 -- the cells so far have their numbers
@@ -7,7 +8,7 @@ abbrev pub invariant-runs : goal.invariant-runs
 invariant-runs l = record {
   within : l.from ≤ length l.cells;
   few : l.met.count ≤ l.from;
-  met : AreMet l.met l.cells l.from;
+  numbered : AreKeys same_cell l.met (take l.from l.cells);
 }
 
 abbrev pub decreases-runs : goal.decreases-runs

@@ -1,7 +1,7 @@
 use Rattle.std.proofs.Common.{length, refl, sym, ap, ◌∙◌}
 use Rattle.std.specs.List.{range_with_len}
 use Rattle.std.proofs.lemmas.List.{length-map}
-use Rattle.cell_core.specs.declared.cell.Cell.TheVariants.{Int, Oid, Bit}
+use Rattle.cell_core.specs.declared.cell.Cell.TheVariants.{Int, Day, Oid, Bit}
 use Rattle.cell_core.specs.Groups.{known}
 use Rattle.chunk_core.specs.Parts.{part_cells}
 use Rattle.chunk_core.proofs.PartLemmas.{length_oids}
@@ -11,6 +11,10 @@ use Rattle.bat_group.proofs.parts.known_in.Goals as goal
 pub returns-in-Ints : goal.returns-in-Ints
 returns-in-Ints c =
     sym (ap (λ p. length (known (part_cells p))) c.in-Ints.is ∙ ap length (known_made Int (λ n. refl) c.in-Ints.numbers.now) ∙ length-map c.in-Ints.numbers.now Int)
+
+pub returns-in-Days : goal.returns-in-Days
+returns-in-Days c =
+    sym (ap (λ p. length (known (part_cells p))) c.in-Days.is ∙ ap length (known_made Day (λ n. refl) c.in-Days.numbers.now) ∙ length-map c.in-Days.numbers.now Day)
 
 pub returns-in-Oids : goal.returns-in-Oids
 returns-in-Oids c =
