@@ -1,5 +1,6 @@
 pub mod Contests
 pub mod Firsts
+pub mod Leads
 pub mod Lines
 pub mod Named
 pub mod Orders

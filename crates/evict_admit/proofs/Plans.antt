@@ -311,12 +311,13 @@ none_left score (row ∷ rows) h = absurd (omega arith)
 
 -- ## What is known at first
 
-pub known_is : (known : Known) (score : Stats → Score) → length known.rows.now ≤ 1024 → All (λ (row : Row). 0 < row.id) known.rows.now → IsNamed known.rows.now known.names.now → IsDistinct nat_eq (map (λ (row : Row). row.id) known.rows.now)
-    → AreSmall (map (contender_for score) known.rows.now) → known.contenders.now ≡ map (contender_for score) known.rows.now → IsKnown known
-known_is known score few ids named distinct small scored = record {
+pub known_is : (known : Known) (score : Stats → Score) → length known.rows.now ≤ 1024 → All (λ (row : Row). 0 < row.id) known.rows.now → IsNamed known.rows.now known.names.now → length known.hints.now ≡ 4096
+    → IsDistinct nat_eq (map (λ (row : Row). row.id) known.rows.now) → AreSmall (map (contender_for score) known.rows.now) → known.contenders.now ≡ map (contender_for score) known.rows.now → IsKnown known
+known_is known score few ids named hints distinct small scored = record {
   few = few;
   ids = λ p low. ids p no_row low;
   named = named;
+  hints = hints;
   apart = apart_by_place known.rows.now (apart_from_distinct known.rows.now distinct);
   same = ap length scored ∙ length-map known.rows.now (contender_for score);
   small = subst AreSmall (sym scored) small;

@@ -81,6 +81,7 @@ pub record IsKnown (known : Known) : Type 0 where
   pub few : length known.rows.now ≤ 1024
   pub ids : (p : ℕ) → p < length known.rows.now → 0 < (row_at known.rows.now p).id
   pub named : IsNamed known.rows.now known.names.now
+  pub hints : length known.hints.now ≡ 4096
   pub apart : (p q : ℕ) → p < length known.rows.now → q < length known.rows.now → (row_at known.rows.now p).id ≡ (row_at known.rows.now q).id → p ≡ q
   pub same : length known.contenders.now ≡ length known.rows.now
   pub small : AreSmall known.contenders.now

@@ -14,7 +14,7 @@ pub(crate) struct Contender {
 }
 
 /// Whether one goes before another.
-fn goes_before(a: &Contender, b: &Contender) -> bool
+pub(crate) fn goes_before(a: &Contender, b: &Contender) -> bool
     requires left { a.now.score.top * b.now.score.bottom < 2 ^ 128 }
     requires right { b.now.score.top * a.now.score.bottom < 2 ^ 128 }
     ensures { result ≡ comes_before a.now b.now }

@@ -2,7 +2,8 @@
 //!
 //! It stands on `score_hook` for scores; its proofs cite lemmas of `subsume`. `plan_evictions` lists the
 //! ids that go, by the rule: again and again the free entry without dependents that has the least score,
-//! then the least id. It takes no memory, and about n log n steps for n entries: those that may go stand in a contest
+//! then the least id. It takes no memory. The one that goes first is found in a pass (`leading`), and mostly
+//! is enough. Where it isn't, it takes about n log n steps for n entries: those that may go stand in a contest
 //! (`contest`), and an entry that goes is told to its parents alone, which are found by their ids.
 //! `one_order` is the law that the rule is a strict total order. `Ledger` keeps the credit of each
 //! numbered shape.
@@ -11,6 +12,7 @@
 mod board;
 mod contest;
 mod laws;
+mod leading;
 mod ledger;
 mod names;
 mod plan;

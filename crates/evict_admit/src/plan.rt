@@ -1,15 +1,16 @@
-ghost use Rattle.std.specs.Prelude.{◌≡◌, ℕ, [], ◌∷◌, ◌++◌, ◌<◌, ◌≤◌, length, All, map, nat_eq, vec_len};
+ghost use Rattle.std.specs.Prelude.{◌≡◌, ℕ, [], ◌∷◌, ◌++◌, ◌-◌, ◌<◌, ◌≤◌, IfSome, Some, length, All, map, nat_eq, true, vec_len};
 ghost use Rattle.std.specs.List.{IsDistinct};
 ghost use Rattle.std.specs.Vec.{vec_capacity};
 ghost use Rattle.score_hook.specs.declared.stats.Stats.{Stats as StatsValue};
 ghost use Rattle.score_hook.specs.declared.stats.Score.{Score as ScoreValue};
 ghost use Rattle.score_hook.specs.Scores.{IsInRange, score_of};
 ghost use Rattle.evict_admit.specs.Boards.{IsKnown, IsSeated, contender_for, left_at, left_of, row_at};
-ghost use Rattle.evict_admit.specs.Evictions.{is_enough as nothing_wanted, GivesUp};
+ghost use Rattle.evict_admit.specs.Evictions.{is_enough as nothing_wanted, next_of, GivesUp};
 
 use crate::board::{Left, count_children, give_up, seat_all};
 use crate::contest::Contender;
-use crate::names::{Known, Name, note_names};
+use crate::leading::first_to_go;
+use crate::names::{HINTS, Known, Name, note_hints, note_names};
 use score_hook::{Score, Scorer, Stats};
 
 /// The most rows that are looked at.
@@ -52,6 +53,63 @@ pub fn plan_evictions(
     ensures plan { GivesUp (λ stats. score_of scorer.now.kind scorer.now.weights.items stats now) rows.now need slots out.new.items result }
     ensures room { vec_capacity out.old ≤ vec_capacity out.new }
 {
+    if is_enough(need, slots) {
+        return true;
+    }
+    let wanted = Wanted {
+        bytes: need,
+        places: slots,
+    };
+    match first_enough(rows, wanted, scorer, now) {
+        Some(place) => {
+            put(out, rows[place].id);
+            true
+        }
+        None => plan_by_contest(rows, wanted, scorer, now, out),
+    }
+}
+
+/// What is still wanted.
+#[derive(Clone, Copy, Debug)]
+struct Wanted {
+    bytes: u128,
+    places: u64,
+}
+
+/// The place of the row that goes first, where that is enough. None where it isn't, or where it isn't found
+/// in a pass.
+fn first_enough(rows: &[Row], wanted: Wanted, scorer: &Scorer, now: u64) -> Option<usize>
+    requires few { length rows.now ≤ MOST_ROWS }
+    requires range { All (λ row. IsInRange row.stats now) rows.now }
+    ensures { IfSome result (λ place. (place < length rows.now) × (next_of (λ stats. score_of scorer.now.kind scorer.now.weights.items stats now) rows.now ≡ Some (row_at rows.now place)) × (nothing_wanted (wanted.bytes - (row_at rows.now place).bytes) (wanted.places - 1) ≡ true)) }
+{
+    if wanted.places > 1 {
+        return None;
+    }
+    let place = first_to_go(rows, scorer, now)?;
+    if wanted.bytes > u128::from(rows[place].bytes) {
+        return None;
+    }
+    Some(place)
+}
+
+/// Gives up rows by a contest of all.
+fn plan_by_contest(
+    rows: &[Row],
+    wanted: Wanted,
+    scorer: &Scorer,
+    now: u64,
+    out: &mut Vec<u64>,
+) -> bool
+    requires few { length rows.now ≤ MOST_ROWS }
+    requires ids { All (λ row. 0 < row.id) rows.now }
+    requires distinct { IsDistinct nat_eq (map (λ row. row.id) rows.now) }
+    requires range { All (λ row. IsInRange row.stats now) rows.now }
+    requires empty { out.old.items ≡ [] }
+    requires room { length rows.now ≤ vec_capacity out.old }
+    ensures plan { GivesUp (λ stats. score_of scorer.now.kind scorer.now.weights.items stats now) rows.now wanted.bytes wanted.places out.new.items result }
+    ensures room { vec_capacity out.old ≤ vec_capacity out.new }
+{
     let count = rows.len();
     let mut contender_store = [NOBODY; MOST_ROWS];
     let contenders = &mut contender_store[..count];
@@ -59,9 +117,12 @@ pub fn plan_evictions(
     let mut name_store = [NAMELESS; MOST_ROWS];
     let names = &mut name_store[..count];
     note_names(names, rows);
+    let mut hints = [0; HINTS];
+    note_hints(&mut hints, rows);
     let known = Known {
         rows,
         names: &*names,
+        hints: &hints,
         contenders: &*contenders,
     };
     let mut left_store = [CHILDLESS; MOST_ROWS];
@@ -70,18 +131,7 @@ pub fn plan_evictions(
     let mut winner_store = [None; 2 * MOST_ROWS];
     let winners = &mut winner_store[..2 * count];
     seat_all(winners, &known, lefts);
-    let wanted = Wanted {
-        bytes: need,
-        places: slots,
-    };
     plan_in(lefts, winners, &known, wanted, out)
-}
-
-/// What is still wanted.
-#[derive(Clone, Copy, Debug)]
-struct Wanted {
-    bytes: u128,
-    places: u64,
 }
 
 /// What stands where no row is.

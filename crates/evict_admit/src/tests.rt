@@ -99,6 +99,9 @@ fn parents_go_after_their_children(rt: HostRuntime) -> Result<(), Fail> {
     let (enough, out) = plan(alloc, &scorer, 15, 1)?;
     assert!(rt; enough);
     assert_eq!(rt; out.as_slice(), [4, 2].as_slice());
+    let (enough, out) = plan(alloc, &scorer, 10, 1)?;
+    assert!(rt; enough);
+    assert_eq!(rt; out.as_slice(), [4].as_slice());
     let (enough, out) = plan(alloc, &scorer, 31, 0)?;
     assert!(rt; !enough);
     assert_eq!(rt; out.as_slice(), [4, 2, 1].as_slice());
