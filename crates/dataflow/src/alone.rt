@@ -24,11 +24,14 @@ pub(crate) fn run_alone<K: Named, R: Wait, J: Jobs, E: Operate>(
 ) -> Result<(), RunError>
     requires named { J.basis jobs.old ≡ K.basis }
     requires known { KnowsOut (J.handed jobs.old) (J.finished jobs.old) out.old.items }
+    requires sound { J.sound jobs.old }
     requires none { out.old.items ≡ [] }
     ensures basis { J.basis jobs.new ≡ J.basis jobs.old }
     ensures fixed { J.fixed jobs.new ≡ J.fixed jobs.old }
+    ensures sound { OnOk result (J.sound jobs.new) }
     ensures complete { OnOk result (IsComplete (J.basis jobs.new) (J.valued jobs.new) (J.needed jobs.new) (J.handed jobs.new) (J.finished jobs.new)) }
     ensures overflow { result ≡ Err RunError.Overflow → HasFault (J.basis jobs.new) (J.handed jobs.new) }
+    ensures sound_behind_overflow { result ≡ Err RunError.Overflow → J.sound jobs.new }
 {
     'steps: for _ in rt.forever() {
         let Some(task) = take(rt, jobs, out)? else {
@@ -51,13 +54,16 @@ pub(crate) fn run_until_two<K: Named, R: Wait, J: Jobs, E: Operate>(
 ) -> Result<Option<Pair>, RunError>
     requires named { J.basis jobs.old ≡ K.basis }
     requires known { KnowsOut (J.handed jobs.old) (J.finished jobs.old) out.old.items }
+    requires sound { J.sound jobs.old }
     requires none { out.old.items ≡ [] }
     ensures basis { J.basis jobs.new ≡ J.basis jobs.old }
     ensures fixed { J.fixed jobs.new ≡ J.fixed jobs.old }
+    ensures sound { OnOk result (J.sound jobs.new) }
     ensures known { OnOk result (KnowsOut (J.handed jobs.new) (J.finished jobs.new) out.new.items) }
     ensures pair { IfOk result (λ found. IfSome found (λ pair. IsPairOf K.basis pair out.new.items)) }
     ensures complete { IfOk result (λ found. IfNone found (IsComplete (J.basis jobs.new) (J.valued jobs.new) (J.needed jobs.new) (J.handed jobs.new) (J.finished jobs.new))) }
     ensures overflow { result ≡ Err RunError.Overflow → HasFault (J.basis jobs.new) (J.handed jobs.new) }
+    ensures sound_behind_overflow { result ≡ Err RunError.Overflow → J.sound jobs.new }
 {
     'steps: for _ in rt.forever() {
         let Some(first) = take(rt, jobs, out)? else {
@@ -83,11 +89,14 @@ pub(crate) fn run_pair_alone<K: Named, R: Wait, J: Jobs, E: Operate>(
 ) -> Result<(), RunError>
     requires named { J.basis jobs.old ≡ K.basis }
     requires known { KnowsOut (J.handed jobs.old) (J.finished jobs.old) out.old.items }
+    requires sound { J.sound jobs.old }
     requires pair { IsPairOf K.basis pair out.old.items }
     ensures basis { J.basis jobs.new ≡ J.basis jobs.old }
     ensures fixed { J.fixed jobs.new ≡ J.fixed jobs.old }
+    ensures sound { OnOk result (J.sound jobs.new) }
     ensures complete { OnOk result (IsComplete (J.basis jobs.new) (J.valued jobs.new) (J.needed jobs.new) (J.handed jobs.new) (J.finished jobs.new)) }
     ensures overflow { result ≡ Err RunError.Overflow → HasFault (J.basis jobs.new) (J.handed jobs.new) }
+    ensures sound_behind_overflow { result ≡ Err RunError.Overflow → J.sound jobs.new }
 {
     let Pair { first, second } = pair;
     run_here::<K, R, J, E>(rt, alloc, jobs, kernel, out, first)?;

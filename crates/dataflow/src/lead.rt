@@ -52,12 +52,15 @@ fn dispatch<K: Named, R: Wait, J: Jobs, E: Operate>(
     requires named { J.basis jobs.old ≡ K.basis }
     requires ours { IsHandsOf K.basis team.now.queues hands.old }
     requires known { KnowsOut (J.handed jobs.old) (J.finished jobs.old) out.old.items }
+    requires sound { J.sound jobs.old }
     requires task { IsTask K.basis task }
     ensures ours { IsHandsOf K.basis team.now.queues hands.new }
     ensures basis { J.basis jobs.new ≡ J.basis jobs.old }
     ensures fixed { J.fixed jobs.new ≡ J.fixed jobs.old }
+    ensures sound { OnOk result (J.sound jobs.new) }
     ensures known { OnOk result (KnowsOut (J.handed jobs.new) (J.finished jobs.new) out.new.items) }
     ensures overflow { result ≡ Err RunError.Overflow → HasFault (J.basis jobs.new) (J.handed jobs.new) }
+    ensures sound_behind_overflow { result ≡ Err RunError.Overflow → J.sound jobs.new }
 {
     match team.queues.push_task(rt, hands, task) {
         Ok(()) => {
@@ -81,12 +84,15 @@ fn step<K: Named, R: Wait, J: Jobs, E: Operate>(
     requires named { J.basis jobs.old ≡ K.basis }
     requires ours { IsHandsOf K.basis team.now.queues hands.old }
     requires known { KnowsOut (J.handed jobs.old) (J.finished jobs.old) out.old.items }
+    requires sound { J.sound jobs.old }
     ensures ours { IsHandsOf K.basis team.now.queues hands.new }
     ensures basis { J.basis jobs.new ≡ J.basis jobs.old }
     ensures fixed { J.fixed jobs.new ≡ J.fixed jobs.old }
+    ensures sound { OnOk result (J.sound jobs.new) }
     ensures known { OnOk result (KnowsOut (J.handed jobs.new) (J.finished jobs.new) out.new.items) }
     ensures complete { IfOk result (λ all. IsTrue all → IsComplete (J.basis jobs.new) (J.valued jobs.new) (J.needed jobs.new) (J.handed jobs.new) (J.finished jobs.new)) }
     ensures overflow { result ≡ Err RunError.Overflow → HasFault (J.basis jobs.new) (J.handed jobs.new) }
+    ensures sound_behind_overflow { result ≡ Err RunError.Overflow → J.sound jobs.new }
 {
     if let Some(task) = take(rt, jobs, out)? {
         dispatch(rt, alloc, jobs, kernel, team, hands, out, task)?;
@@ -114,12 +120,15 @@ pub(crate) fn lead<K: Named, R: Wait, J: Jobs, E: Operate>(
     requires named { J.basis jobs.old ≡ K.basis }
     requires ours { IsHandsOf K.basis team.now.queues hands.old }
     requires known { KnowsOut (J.handed jobs.old) (J.finished jobs.old) out.old.items }
+    requires sound { J.sound jobs.old }
     requires pair { IsPairOf K.basis pair out.old.items }
     ensures ours { IsHandsOf K.basis team.now.queues hands.new }
     ensures basis { J.basis jobs.new ≡ J.basis jobs.old }
     ensures fixed { J.fixed jobs.new ≡ J.fixed jobs.old }
+    ensures sound { OnOk result (J.sound jobs.new) }
     ensures complete { OnOk result (IsComplete (J.basis jobs.new) (J.valued jobs.new) (J.needed jobs.new) (J.handed jobs.new) (J.finished jobs.new)) }
     ensures overflow { result ≡ Err RunError.Overflow → HasFault (J.basis jobs.new) (J.handed jobs.new) }
+    ensures sound_behind_overflow { result ≡ Err RunError.Overflow → J.sound jobs.new }
 {
     let Pair { first, second } = pair;
     dispatch(rt, alloc, jobs, kernel, team, hands, out, first)?;

@@ -29,8 +29,10 @@ pub(crate) fn take<R: Wait, J: Jobs>(
     out: &mut Vec<u32>,
 ) -> Result<Option<Task>, Memory>
     requires known { KnowsOut (J.handed jobs.old) (J.finished jobs.old) out.old.items }
+    requires sound { J.sound jobs.old }
     ensures basis { J.basis jobs.new ≡ J.basis jobs.old }
     ensures fixed { J.fixed jobs.new ≡ J.fixed jobs.old }
+    ensures sound { OnOk result (J.sound jobs.new) }
     ensures known { OnOk result (KnowsOut (J.handed jobs.new) (J.finished jobs.new) out.new.items) }
     ensures task { IfOk result (λ found. IfSome found (λ task. IsTask (J.basis jobs.old) task)) }
     ensures more { IfOk result (λ found. IfSome found (λ task. out.new.items ≡ out.old.items ++ task.instr ∷ [])) }
@@ -54,10 +56,12 @@ fn finish<R: Wait, J: Jobs>(
     value: Obj,
 ) -> Result<(), Memory>
     requires known { KnowsOut (J.handed jobs.old) (J.finished jobs.old) out.old.items }
+    requires sound { J.sound jobs.old }
     requires out { has out.old.items instr ≡ true }
     requires value { value_at (J.basis jobs.old) instr ≡ Some (value_of value) }
     ensures basis { J.basis jobs.new ≡ J.basis jobs.old }
     ensures fixed { J.fixed jobs.new ≡ J.fixed jobs.old }
+    ensures sound { OnOk result (J.sound jobs.new) }
     ensures known { OnOk result (KnowsOut (J.handed jobs.new) (J.finished jobs.new) out.new.items) }
     ensures less { OnOk result (out.new.items ≡ without out.old.items instr) }
 {
@@ -74,12 +78,15 @@ pub(crate) fn settle<R: Wait, J: Jobs>(
     answer: Answer,
 ) -> Result<(), RunError>
     requires known { KnowsOut (J.handed jobs.old) (J.finished jobs.old) out.old.items }
+    requires sound { J.sound jobs.old }
     requires answer { IsAnswer (J.basis jobs.old) answer }
     ensures basis { J.basis jobs.new ≡ J.basis jobs.old }
     ensures fixed { J.fixed jobs.new ≡ J.fixed jobs.old }
+    ensures sound { OnOk result (J.sound jobs.new) }
     ensures known { OnOk result (KnowsOut (J.handed jobs.new) (J.finished jobs.new) out.new.items) }
     ensures less { OnOk result (out.new.items ≡ without out.old.items answer.instr) }
     ensures overflow { result ≡ Err RunError.Overflow → HasFault (J.basis jobs.new) (J.handed jobs.new) }
+    ensures sound_behind_overflow { result ≡ Err RunError.Overflow → J.sound jobs.new }
 {
     let Answer { instr, result } = answer;
     if !out.contains(&instr) {
@@ -101,12 +108,15 @@ pub(crate) fn run_here<K: Named, R: Wait, J: Jobs, E: Operate>(
 ) -> Result<(), RunError>
     requires named { J.basis jobs.old ≡ K.basis }
     requires known { KnowsOut (J.handed jobs.old) (J.finished jobs.old) out.old.items }
+    requires sound { J.sound jobs.old }
     requires task { IsTask K.basis task }
     ensures basis { J.basis jobs.new ≡ J.basis jobs.old }
     ensures fixed { J.fixed jobs.new ≡ J.fixed jobs.old }
+    ensures sound { OnOk result (J.sound jobs.new) }
     ensures known { OnOk result (KnowsOut (J.handed jobs.new) (J.finished jobs.new) out.new.items) }
     ensures less { OnOk result (out.new.items ≡ without out.old.items task.instr) }
     ensures overflow { result ≡ Err RunError.Overflow → HasFault (J.basis jobs.new) (J.handed jobs.new) }
+    ensures sound_behind_overflow { result ≡ Err RunError.Overflow → J.sound jobs.new }
 {
     let answer = answer_to::<K, E>(alloc, task, kernel);
     settle(rt, jobs, out, answer)

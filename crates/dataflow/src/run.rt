@@ -53,9 +53,9 @@ struct Caller<'a, K: Named, J, E> {
 impl<'a, K: Named, J: Jobs, E: Operate> Part for Caller<'a, K, J, E> {
     type Output = (&'a mut J, Result<(), RunError>);
 
-    ghost can_run = { λ c. (J.basis c.jobs.now ≡ K.basis) × KnowsOut (J.handed c.jobs.now) (J.finished c.jobs.now) c.out.items × IsPairOf K.basis c.pair c.out.items × IsHandsOf K.basis c.team.now.queues c.hands };
+    ghost can_run = { λ c. (J.basis c.jobs.now ≡ K.basis) × KnowsOut (J.handed c.jobs.now) (J.finished c.jobs.now) c.out.items × IsPairOf K.basis c.pair c.out.items × IsHandsOf K.basis c.team.now.queues c.hands × J.sound c.jobs.now };
 
-    ghost run_gives = { λ c r. (r.0.ghost_name ≡ c.jobs.ghost_name) × IsRun (J.basis c.jobs.now) (J.basis r.0.now) (J.fixed c.jobs.now) (J.fixed r.0.now) (J.valued r.0.now) (J.needed r.0.now) (J.handed r.0.now) (J.finished r.0.now) r.1 };
+    ghost run_gives = { λ c r. (r.0.ghost_name ≡ c.jobs.ghost_name) × IsRun (J.basis c.jobs.now) (J.basis r.0.now) (J.fixed c.jobs.now) (J.fixed r.0.now) (J.valued r.0.now) (J.needed r.0.now) (J.handed r.0.now) (J.finished r.0.now) (J.sound r.0.now) r.1 };
 
     fn run<R: Wait>(self, rt: &R, alone: bool) -> (&'a mut J, Result<(), RunError>) {
         let Caller {
@@ -188,8 +188,9 @@ fn flow_beside<K: Named + Send + Sync, R: Threads + Wait + Sync, J: Jobs, E: Ope
 ) -> Result<(), RunError>
     requires named { J.basis jobs.old ≡ K.basis }
     requires known { KnowsOut (J.handed jobs.old) (J.finished jobs.old) out.items }
+    requires sound { J.sound jobs.old }
     requires pair { IsPairOf K.basis pair out.items }
-    ensures { IsRun (J.basis jobs.old) (J.basis jobs.new) (J.fixed jobs.old) (J.fixed jobs.new) (J.valued jobs.new) (J.needed jobs.new) (J.handed jobs.new) (J.finished jobs.new) result }
+    ensures { IsRun (J.basis jobs.old) (J.basis jobs.new) (J.fixed jobs.old) (J.fixed jobs.new) (J.valued jobs.new) (J.needed jobs.new) (J.handed jobs.new) (J.finished jobs.new) (J.sound jobs.new) result }
 {
     let instrs = jobs.instrs();
     let (queues, mut hands) = Queues::<K>::new(alloc, instrs.max(1) as usize)?;
@@ -219,7 +220,8 @@ fn flow_named<K: Named + Send + Sync, R: Threads + Wait + Sync, J: Jobs, E: Oper
 ) -> Result<(), RunError>
     requires named { J.basis jobs.old ≡ K.basis }
     requires none_out { NoneOut (J.handed jobs.old) (J.finished jobs.old) }
-    ensures { IsRun (J.basis jobs.old) (J.basis jobs.new) (J.fixed jobs.old) (J.fixed jobs.new) (J.valued jobs.new) (J.needed jobs.new) (J.handed jobs.new) (J.finished jobs.new) result }
+    requires sound { J.sound jobs.old }
+    ensures { IsRun (J.basis jobs.old) (J.basis jobs.new) (J.fixed jobs.old) (J.fixed jobs.new) (J.valued jobs.new) (J.needed jobs.new) (J.handed jobs.new) (J.finished jobs.new) (J.sound jobs.new) result }
 {
     let mut out = Vec::new(alloc);
     if workers < 2 {
@@ -235,8 +237,8 @@ fn flow_named<K: Named + Send + Sync, R: Threads + Wait + Sync, J: Jobs, E: Oper
 /// beside the caller, or by the caller. Where fewer than two workers are asked for, and as long as no two
 /// tasks are ready at once, the caller runs them and no thread is started; after that it runs a task only
 /// where the queue is full or no thread could be started. No more workers are started than the plan has
-/// instructions. `Overflow` comes exactly where a task that was handed out has no value. All workers have
-/// ended when it returns.
+/// instructions. `Overflow` comes exactly where a task that was handed out has no value. What the calls of
+/// `Jobs` keep holds after Ok and after `Overflow`. All workers have ended when it returns.
 pub fn flow<R: Threads + Wait + Sync, J: Jobs, E: Operate + Sync>(
     rt: &R,
     alloc: Global,
@@ -245,10 +247,13 @@ pub fn flow<R: Threads + Wait + Sync, J: Jobs, E: Operate + Sync>(
     workers: u32,
 ) -> Result<(), RunError>
     requires none_out { NoneOut (J.handed jobs.old) (J.finished jobs.old) }
+    requires sound { J.sound jobs.old }
     ensures basis { J.basis jobs.new ≡ J.basis jobs.old }
     ensures fixed { J.fixed jobs.new ≡ J.fixed jobs.old }
+    ensures sound { OnOk result (J.sound jobs.new) }
     ensures complete { OnOk result (IsComplete (J.basis jobs.new) (J.valued jobs.new) (J.needed jobs.new) (J.handed jobs.new) (J.finished jobs.new)) }
     ensures overflow { result ≡ Err RunError.Overflow → HasFault (J.basis jobs.new) (J.handed jobs.new) }
+    ensures sound_behind_overflow { result ≡ Err RunError.Overflow → J.sound jobs.new }
     ensures no_rows { result ≡ Err RunError.Overflow → plan_rows (J.basis jobs.new).plan (J.basis jobs.new).database ≡ None }
 {
     flow_named::<Brand, R, J, E>(rt, alloc, jobs, kernel, workers)

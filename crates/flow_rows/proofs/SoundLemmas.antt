@@ -33,7 +33,7 @@ use Rattle.dataflow.specs.Jobs.{CanRun}
 use Rattle.dataflow.specs.Rules.{basis_values, value_at, IsTask}
 use Rattle.dataflow.specs.Plans.{has, has_all, Grows, NoneOut, NothingReady, IsWhole, IsHandedOut, IsIdle}
 use Rattle.dataflow.proofs.TaskLemmas.{none_is, computed, IsComputed}
-use Rattle.flow_rows.specs.Sound.{no_tables, over_nothing, known_of, is_there, is_bind, is_column, is_known, are_known, start_value, is_job, IsRunnable, IsSound}
+use Rattle.flow_rows.specs.Sound.{no_tables, over_nothing, known_of, is_there, is_bind, is_column, is_known, are_known, start_value, is_job, OnlyDone, IsRunnable, IsSound}
 use Rattle.flow_rows.specs.Ready.{IsReady, NoneReady}
 use Rattle.flow_rows.proofs.OrderLemmas.{checked_in_order}
 
@@ -92,6 +92,23 @@ put_sound plan values handed finished k obj sound out value below = record {
       (λ (h : (nat_eq i k ≡ true) × (i ≡ k)). ap (has handed) h.1 ∙ out)
       (λ (h : (nat_eq i k ≡ false) × (i ≢ k)). sound.within i (has_last finished k i h.1 done)) (eqb_tells i k);
 }
+
+has_more : (finished : List ℕ) (k i : ℕ) → has finished i ≡ true → has (finished ++ k ∷ []) i ≡ true
+has_more finished k i done = list_any-append (λ j. nat_eq j i) finished (k ∷ []) ∙ ap (λ b. b || has (k ∷ []) i) done
+
+has_new : (finished : List ℕ) (k i : ℕ) → i ≡ k → has (finished ++ k ∷ []) i ≡ true
+has_new finished k i same = list_any-append (λ j. nat_eq j i) finished (k ∷ []) ∙ second (has finished i) (nat_eq k i) (grind (arith, nat_tests))
+  where
+    second : (a b : Bool) → b ≡ true → (a || (b || false)) ≡ true
+    second true b e = refl
+    second false b e = ap (λ c. c || false) e
+
+pub put_only : (instrs : List Instr) (values : List (Option Obj)) (finished : List ℕ) (k : ℕ) (obj : Obj) → OnlyDone instrs values finished
+    → OnlyDone instrs (set values k (Some obj)) (finished ++ k ∷ [])
+put_only instrs values finished k obj only i job there = ⊎_elim
+    (λ (h : (nat_eq i k ≡ true) × (i ≡ k)). has_new finished k i h.1)
+    (λ (h : (nat_eq i k ≡ false) × (i ≢ k)).
+    has_more finished k i (only i job (ap (λ found. is_some (unwrap_or found None)) (sym (set_else values k i (Some obj) h.1)) ∙ there))) (eqb_tells i k)
 
 -- ## Arguments
 
@@ -391,6 +408,15 @@ value_begun plan runs i instr is bind =
 some_of : (v : Value) (b : Bool) → Some (Some v) ≡ Some (if b then Some (Bat []) else None) → (b ≡ true) × (v ≡ Bat [])
 some_of v true e = (refl, some_is v (Bat []) (some_is (Some v) (Some (Bat [])) e))
 some_of v false e = absurd (none_is v (sym (some_is (Some v) None e)))
+
+no_start : (found : Option Instr) → option_map_or (λ (instr : Instr). not (is_bind instr.op)) found false ≡ true → is_some (unwrap_or (option_map start_value found) None) ≡ false
+no_start None job = refl
+no_start (Some instr) job = ap (λ b. is_some (if b then Some (Bat []) else None)) (not_true (is_bind instr.op) job)
+
+pub begins_only : (instrs : List Instr) (values : List (Option Obj)) → known_of values ≡ map start_value instrs → OnlyDone instrs values []
+begins_only instrs values begun i job there =
+    sym (there_is values i ∙ ap (λ l. is_some (unwrap_or (slice_get l i) None)) begun ∙ ap (λ found. is_some (unwrap_or found None)) (slice_get-map start_value instrs i)
+    ∙ no_start (slice_get instrs i) job) ∙ there
 
 module _ (plan : Plan) (values : List (Option Obj)) (runs : IsRunnable plan) (begun : known_of values ≡ map start_value plan.instrs) where
   begun_at : (i : ℕ) → option_map (option_map value_of) (slice_get values i) ≡ option_map start_value (slice_get plan.instrs i)

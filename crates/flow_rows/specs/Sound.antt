@@ -60,6 +60,10 @@ start_value instr = if is_bind instr.op then Some (Bat []) else None
 abbrev pub is_job : List Instr → ℕ → Bool
 is_job instrs i = option_map_or (λ (instr : Instr). not (is_bind instr.op)) (slice_get instrs i) false
 
+-- a job has a value only where it is done
+abbrev pub OnlyDone : List Instr → List (Option Obj) → List ℕ → Type 0
+OnlyDone instrs values finished = (i : ℕ) → is_job instrs i ≡ true → is_there values i ≡ true → has finished i ≡ true
+
 -- ## Plans
 
 -- the plan has no fault, and each bind names a column

@@ -6,7 +6,7 @@ ghost use Rattle.dataflow.specs.Rules.{value_at};
 ghost use Rattle.dataflow.specs.Plans.{has, Grows};
 ghost use Rattle.flow_rows.specs.Ready.{ArePassed};
 ghost use Rattle.flow_rows.specs.Sound as sound;
-ghost use Rattle.flow_rows.specs.Sound.{is_there, is_job, known_of, over_nothing, IsSound, IsRunnable};
+ghost use Rattle.flow_rows.specs.Sound.{is_there, is_job, known_of, over_nothing, OnlyDone, IsSound, IsRunnable};
 
 use crate::args::{first_left, is_bind, ready};
 use bat_core::{Bat, Obj, Shared};
@@ -98,6 +98,7 @@ fn begin(alloc: Global, plan: Plan, values: Vec<Option<Obj>>) -> Run
     ensures plan { result.plan ≡ plan }
     ensures handed { result.handed.items ≡ [] }
     ensures finished { result.finished.items ≡ [] }
+    ensures only_done { OnlyDone result.plan.instrs result.values.items result.finished.items }
 {
     Run {
         alloc,
@@ -114,7 +115,8 @@ impl Run {
 
     /// A run of a plan that hasn't begun; none where the plan has a fault.
     pub fn new(alloc: Global, plan: Plan) -> Result<Option<Run>, Memory>
-        ensures { IfOk result (λ found. IfSome found (λ run. NoneOut run.handed.items run.finished.items)) }
+        ensures none_out { IfOk result (λ found. IfSome found (λ run. NoneOut run.handed.items run.finished.items)) }
+        ensures only_done { IfOk result (λ found. IfSome found (λ run. OnlyDone run.plan.instrs run.values.items run.finished.items)) }
     {
         if plan.instrs.len() > MOST_INSTRS || !are_known(plan.instrs.as_slice()) {
             return Ok(None);
@@ -135,11 +137,13 @@ impl Run {
     fn put(&mut self, instr: u32, value: Obj) -> Result<(), Memory>
         requires out { has self.old.handed.items instr ≡ true }
         requires value { value_at (over_nothing self.old.plan) instr ≡ Some (value_of value) }
+        requires only_done { OnlyDone self.old.plan.instrs self.old.values.items self.old.finished.items }
         ensures plan { self.new.plan ≡ self.old.plan }
         ensures handed { self.new.handed.items ≡ self.old.handed.items }
         ensures finished { OnOk result (self.new.finished.items ≡ self.old.finished.items ++ instr ∷ []) }
         ensures grows { Grows (is_there self.old.values.items) (is_there self.new.values.items) }
         ensures there { OnOk result (is_there self.new.values.items instr ≡ true) }
+        ensures only_done { OnOk result (OnlyDone self.new.plan.instrs self.new.values.items self.new.finished.items) }
     {
         if instr as usize >= self.values.len() {
             return Err(Memory);
@@ -164,6 +168,8 @@ impl Jobs for Run {
     ghost handed = { λ r. r.handed.items };
 
     ghost finished = { λ r. r.finished.items };
+
+    ghost sound = { λ r. OnlyDone r.plan.instrs r.values.items r.finished.items };
 
     fn instrs(&self) -> u32 {
         self.plan.instrs.len() as u32

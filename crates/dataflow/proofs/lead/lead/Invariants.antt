@@ -8,5 +8,6 @@ invariant-steps g l = record {
   ours : IsHandsOf g.K.Named.basis l.team.queues l.hands;
   basis : g.J.Jobs.basis l.jobs ≡ g.J.Jobs.basis l.fn.jobs;
   fixed : g.J.Jobs.fixed l.jobs ≡ g.J.Jobs.fixed l.fn.jobs;
+  sound : g.J.Jobs.sound l.jobs;
   known : KnowsOut (g.J.Jobs.handed l.jobs) (g.J.Jobs.finished l.jobs) l.out.items;
 }

@@ -1,7 +1,7 @@
 use Rattle.std.proofs.Common.{subst, sym, []}
-use Rattle.flow_rows.specs.Sound.{IsSound}
+use Rattle.flow_rows.specs.Sound.{OnlyDone, IsSound}
 use Rattle.flow_rows.proofs.NoneLemmas.{none_passed}
-use Rattle.flow_rows.proofs.SoundLemmas.{begins_sound}
+use Rattle.flow_rows.proofs.SoundLemmas.{begins_sound, begins_only}
 use Rattle.flow_rows.proofs.run.begin.Goals as goal
 
 pub invariant_of-result : goal.invariant_of-result
@@ -11,3 +11,7 @@ invariant_of-result c = record {
       (subst (IsSound c.args.plan c.args.values.items []) (sym c.new-2.ensures.items)
       (begins_sound c.args.plan c.args.values.items c.requires.runnable c.requires.begun));
 }
+
+pub returns-clause-only_done : goal.returns-clause-only_done
+returns-clause-only_done c =
+    subst (OnlyDone c.args.plan.instrs c.args.values.items) (sym c.new-2.ensures.items) (begins_only c.args.plan.instrs c.args.values.items c.requires.begun)

@@ -1,6 +1,6 @@
 use Rattle.std.proofs.Common.{rules, arith, subst, sym, set, Some, ◌≡◌, ◌++◌, ◌∷◌, []}
-use Rattle.flow_rows.specs.Sound.{IsSound}
-use Rattle.flow_rows.proofs.SoundLemmas.{put_sound, put_grows}
+use Rattle.flow_rows.specs.Sound.{OnlyDone, IsSound}
+use Rattle.flow_rows.proofs.SoundLemmas.{put_sound, put_grows, put_only}
 use Rattle.flow_rows.proofs.run.Run.put.Goals as goal
 
 pub invariant_of-self-2 : goal.invariant_of-self-2
@@ -14,3 +14,9 @@ invariant_of-self-2 c =
 
 pub returns-clause-grows : goal.returns-clause-grows
 returns-clause-grows c = put_grows c.args.self.now.values.items c.args.instr c.args.value (omega arith)
+
+pub returns-clause-only_done : goal.returns-clause-only_done
+returns-clause-only_done c =
+    let more : c.push.new.self.items ≡ c.args.self.now.finished.items ++ c.args.instr ∷ [] = search rules in
+    subst (OnlyDone c.args.self.now.plan.instrs (set c.args.self.now.values.items c.args.instr (Some c.args.value))) (sym more)
+    (put_only c.args.self.now.plan.instrs c.args.self.now.values.items c.args.self.now.finished.items c.args.instr c.args.value c.requires.only_done)
