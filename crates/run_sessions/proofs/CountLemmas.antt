@@ -1,5 +1,8 @@
 -- What a counter tells of turns.
 use Rattle.std.proofs.Common.{◌≡◌, ℕ, ◌≤◌, List, [], ◌∷◌, refl, ap, ◌∙◌, subst, arith}
+use Rattle.std.specs.Prelude.{Result}
+use Rattle.sql_semantics.specs.declared.refusal.Refusal.{Refusal}
+use Rattle.sql_tree.specs.declared.tree.Stmt.{Stmt}
 use Rattle.book_core.specs.BookView.{BookView}
 use Rattle.session_run.specs.declared.session.Session.{Session}
 use Rattle.session_run.specs.declared.stage.Stage.{Stage}
@@ -13,8 +16,16 @@ use Rattle.run_sessions.specs.Tables.{CountsTurns}
 lost_between : (at : Stage) → lost_in at stage.Between ≡ 0
 lost_between stage.Between = refl
 lost_between (stage.Telling reply) = refl
+lost_between (stage.Reading read) = refl
 lost_between (stage.Querying from) = refl
 lost_between (stage.Explaining plan) = refl
+
+lost_reading : (at : Stage) (read : Result Stmt Refusal) → lost_in at (stage.Reading read) ≡ 0
+lost_reading stage.Between read = refl
+lost_reading (stage.Telling reply) read = refl
+lost_reading (stage.Querying from) read = refl
+lost_reading (stage.Explaining plan) read = refl
+lost_reading (stage.Reading other) read = refl
 
 module _ (old new : BookView) (x mid y : Session) (from before to : ℕ) (outside : CountsOutside x mid from before) where
   starts_counts : lost_in x.stage mid.stage ≡ 0 → done_by y ≡ done_by mid → CountsStart old new before to → CountsTurns old new (x ∷ []) (y ∷ []) from to
@@ -40,6 +51,7 @@ module _ (old new : BookView) (x mid y : Session) (from before to : ℕ) (outsid
     where
       go : (at : Stage) → mid.stage ≡ at → lost_in x.stage mid.stage ≤ lost_next old x.number at → CountsAt old new x.number at before to → CountsTurns old new (x ∷ []) (y ∷ []) from to
       go stage.Between is low counts = starts_counts (ap (lost_in x.stage) is ∙ lost_between x.stage) inside.done counts
+      go (stage.Reading read) is low counts = starts_counts (ap (lost_in x.stage) is ∙ lost_reading x.stage read) inside.done counts
       go (stage.Querying at) is low counts = goes_counts (lost_next old x.number (stage.Querying at)) low inside.done counts
       go (stage.Explaining plan) is low counts = goes_counts 0 low inside.done counts
       go (stage.Telling reply) is low counts = goes_counts 0 low inside.done counts

@@ -1,6 +1,6 @@
 -- One turn of a session.
-use Rattle.std.proofs.Common.{◌≡◌, ◌≢◌, ℕ, ◌+◌, ◌-◌, ◌≤◌, List, [], ◌∷◌, ◌++◌, length, Bool, true, false, Some, refl, ap, sym, ◌∙◌, subst, arith, slice_set}
-use Rattle.std.specs.Prelude.{slice_get, option_map}
+use Rattle.std.proofs.Common.{◌≡◌, ◌≢◌, ℕ, ◌+◌, ◌-◌, ◌≤◌, ◌<◌, List, [], ◌∷◌, ◌++◌, length, Bool, true, false, Some, refl, ap, sym, ◌∙◌, subst, arith, slice_set}
+use Rattle.std.specs.Prelude.{slice_get, option_map, Ok, Err}
 use Rattle.std.proofs.lemmas.Option.{slice_get-map, slice_get_within}
 use Rattle.pool_policy.specs.declared.options.PoolOptions.{PoolOptions}
 use Rattle.sql_parse.specs.Answered.{EachReadsAsOne}
@@ -22,7 +22,7 @@ use Rattle.session_run.specs.declared.stage.Stage.{Stage}
 use Rattle.session_run.specs.declared.stage.Stage.TheVariants as stage
 use Rattle.session_run.specs.Kept.{IsStage, Stands}
 use Rattle.session_run.specs.Progress.{progress_of}
-use Rattle.session_run.specs.Stages.{ComesTo, HasComputed, HasDone, IsReady, IsSoundStage}
+use Rattle.session_run.specs.Stages.{ComesTo, HasComputed, HasDone, IsReady, IsSoundStage, ReadsOn}
 use Rattle.session_run.specs.Works.{IsWorked, done_by}
 use Rattle.session_run.specs.Turns.{IsDone, IsNext, next_event}
 use Rattle.session_run.proofs.DoesLemmas.{done_log, lawful_then}
@@ -62,29 +62,66 @@ step_ready (step.Asking q key) to sound comes = subst (λ at. IsReady (stage.Que
 step_ready (step.Offering q offer) to sound comes = subst (λ at. IsReady (stage.Querying at)) (sym comes) tt
 step_ready (step.Ending reply work) to sound comes = subst (λ at. IsReady (stage.Querying at)) (sym comes) tt
 
-stage_ready : (from : Stage) (k : ℕ) (text : List ℕ) (next : Stage) (more : List ℕ) → IsSoundStage from → ComesTo from k text next more → IsReady next
-stage_ready (stage.Querying from) k text next more sound comes = subst IsReady (sym comes.1) (step_ready from comes.0 sound comes.2)
-stage_ready (stage.Explaining plan) k text next more sound comes = subst IsReady (sym comes.0) tt
-stage_ready (stage.Telling reply) k text next more sound comes = subst IsReady (sym comes.0) tt
-stage_ready stage.Between k text next more sound comes = subst IsReady (sym comes.0) tt
+-- what is read where a statement is left
+reads_ready : (pieces : List (List ℕ)) (ended : ℕ) (next : Stage) → ReadsOn pieces ended next → ended < length pieces → IsReady next
+reads_ready pieces ended stage.Between all more = absurd (let none : ⊥ = omega (arith, all, more) in none)
+reads_ready pieces ended (stage.Reading read) has more = tt
+reads_ready pieces ended (stage.Querying at) never more = absurd never
+reads_ready pieces ended (stage.Explaining plan) never more = absurd never
+reads_ready pieces ended (stage.Telling reply) never more = absurd never
 
--- its next event stands
-pub computed_ready : (options : PoolOptions) (log : List EventTree) (x new : Session) → Stands options log x → HasComputed x new → IsReady new.stage
-computed_ready options log x new s c = stage_ready x.stage x.ended x.text.items new.stage new.text.items (stage_sound options log x s) c.stage
+stage_ready : (x : Session) (from next : Stage) (text : List ℕ) → IsSoundStage from → ComesTo x from next text → x.ended < length x.pieces → IsReady next
+stage_ready x (stage.Querying from) next text sound comes more = subst IsReady (sym comes.1) (step_ready from comes.0 sound comes.2)
+stage_ready x (stage.Explaining plan) next text sound comes more = subst IsReady (sym comes.0) tt
+stage_ready x (stage.Reading read) next text sound comes more = subst IsReady (sym comes.0) tt
+stage_ready x (stage.Telling reply) next text sound comes more = reads_ready x.pieces x.ended next comes.0 more
+stage_ready x stage.Between next text sound comes more = reads_ready x.pieces x.ended next comes.0 more
+
+-- the next event of a session that has computed stands, where a statement is left
+pub computed_ready : (options : PoolOptions) (log : List EventTree) (x new : Session) → Stands options log x → HasComputed x new → new.ended < length new.pieces → IsReady new.stage
+computed_ready options log x new s c more =
+    let ended = c.ended in
+    let pieces = ap (λ (texts : List (List ℕ)). length texts) c.pieces in
+    stage_ready x x.stage new.stage new.text.items (stage_sound options log x s) c.stage (omega (arith, more, ended, pieces))
+
+-- a session that has computed tells nothing any more
+abbrev IsSettled : Stage → Type 0
+IsSettled (stage.Explaining plan) = ⊥
+IsSettled (stage.Telling reply) = ⊥
+IsSettled _ = Unit {0}
+
+reads_settled : (pieces : List (List ℕ)) (ended : ℕ) (next : Stage) → ReadsOn pieces ended next → IsSettled next
+reads_settled pieces ended stage.Between all = tt
+reads_settled pieces ended (stage.Reading read) has = tt
+reads_settled pieces ended (stage.Querying at) never = tt
+reads_settled pieces ended (stage.Explaining plan) never = never
+reads_settled pieces ended (stage.Telling reply) never = never
+
+settled : (x : Session) (from next : Stage) (text : List ℕ) → ComesTo x from next text → IsSettled next
+settled x (stage.Querying from) next text comes = subst IsSettled (sym comes.1) tt
+settled x (stage.Explaining plan) next text comes = subst IsSettled (sym comes.0) tt
+settled x (stage.Reading read) next text comes = subst IsSettled (sym comes.0) tt
+settled x (stage.Telling reply) next text comes = reads_settled x.pieces x.ended next comes.0
+settled x stage.Between next text comes = reads_settled x.pieces x.ended next comes.0
 
 -- a session whose statements have all ended is at none
-over_is : (options : PoolOptions) (log : List EventTree) (x : Session) → Stands options log x → IsReady x.stage → length x.pieces ≤ x.ended → IsOver x
-over_is options log x s ready all = record { between = go x.stage refl ready s.stage; all = all }
+over_is : (options : PoolOptions) (log : List EventTree) (x : Session) → Stands options log x → IsSettled x.stage → length x.pieces ≤ x.ended → IsOver x
+over_is options log x s quiet all = record { between = go x.stage refl quiet s.stage; all = all }
   where
-    go : (at : Stage) → x.stage ≡ at → IsReady at → IsStage options log x (progress_of x.number log) at → x.stage ≡ stage.Between
-    go stage.Between is is_ready has = is
-    go (stage.Querying to) is is_ready has = absurd (let low = slice_get_within x.pieces x.ended has.piece has.here in let none : ⊥ = omega (arith, low, all) in none)
-    go (stage.Explaining plan) is is_ready has = absurd is_ready
-    go (stage.Telling reply) is is_ready has = absurd is_ready
+    none_left : (piece : List ℕ) → slice_get x.pieces x.ended ≡ Some piece → ⊥
+    none_left piece here = let low = slice_get_within x.pieces x.ended piece here in omega (arith, low, all)
+
+    go : (at : Stage) → x.stage ≡ at → IsSettled at → IsStage options log x (progress_of x.number log) at → x.stage ≡ stage.Between
+    go stage.Between is is_quiet has = is
+    go (stage.Reading (Ok statement)) is is_quiet has = absurd (none_left has.1.0 has.1.1)
+    go (stage.Reading (Err refusal)) is is_quiet has = absurd (none_left has.1.0 has.1.1)
+    go (stage.Querying to) is is_quiet has = absurd (none_left has.piece has.here)
+    go (stage.Explaining plan) is is_quiet has = absurd is_quiet
+    go (stage.Telling reply) is is_quiet has = absurd is_quiet
 
 -- so where it has computed
 pub computed_over : (options : PoolOptions) (log : List EventTree) (x new : Session) → Stands options log x → HasComputed x new → length new.pieces ≤ new.ended → IsOver new
-computed_over options log x new s c all = over_is options log new (computed_stands options log x s new c) (computed_ready options log x new s c) all
+computed_over options log x new s c all = over_is options log new (computed_stands options log x s new c) (settled x x.stage new.stage new.text.items c.stage) all
 
 -- an event of the session as it stood before it computed
 pub done_before : (old new : BookView) (x mid y : Session) → mid.number ≡ x.number → mid.pieces ≡ x.pieces → HasDone old new mid y → HasDone old new x y

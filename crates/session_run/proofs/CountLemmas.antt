@@ -2,6 +2,7 @@
 use Rattle.std.proofs.Common.{◌≡◌, ℕ, ◌+◌, List, [], ◌∷◌, ◌++◌, Bool, Option, Some, None, Result, Ok, Err, refl, ap, sym, ◌∙◌, subst, arith}
 use Rattle.mal_meaning.specs.declared.plan.Plan.{Plan}
 use Rattle.lineage_key.specs.declared.key.Key.{Key}
+use Rattle.sql_tree.specs.declared.tree.Stmt.{Stmt}
 use Rattle.sql_tree.specs.Tree.{StmtTree}
 use Rattle.sql_semantics.specs.declared.refusal.Refusal.{Refusal}
 use Rattle.pool_policy.specs.declared.entry.Who.{Who}
@@ -31,7 +32,7 @@ use Rattle.session_run.specs.declared.session.Session.{Session}
 use Rattle.session_run.specs.declared.stage.Stage.{Stage}
 use Rattle.session_run.specs.declared.stage.Stage.TheVariants as stage
 use Rattle.session_run.specs.Progress.{progress_of}
-use Rattle.session_run.specs.Stages.{BeginsWith, explained}
+use Rattle.session_run.specs.Stages.{BeginsWith, at_stage, explained}
 use Rattle.session_run.specs.Work.{act_lost, run_lost}
 use Rattle.session_run.specs.Works.{CountsAt, CountsInside, CountsOn, CountsStart, held_in, lost_of}
 use Rattle.session_run.proofs.OwnLemmas.{event_by}
@@ -93,6 +94,16 @@ module _ (old new : BookView) (x : Session) (act : ActTree) (options : new.optio
       record { least = omega (arith, more, least); most = omega (arith, more, most, all, is) }
 
 -- ## Sessions
+
+-- a session whose next statement was read begins it
+pub started_as : (old new : BookView) (x y : Session) (read : Result Stmt Refusal) → x.stage ≡ stage.Reading read → (before after : ℕ) → CountsInside old new (at_stage x stage.Between) y before after → CountsInside old new x y before after
+started_as old new x y read is before after c =
+    let before_held : held_in x.stage ≡ 0 = ap held_in is in
+    let done = c.done in
+    record {
+      done = omega (arith, done, before_held);
+      counts = subst (λ at. CountsAt old new x.number at before after) (sym is) c.counts;
+    }
 
 module _ (old new : BookView) (x y : Session) (options : new.options ≡ old.options) where
   abbrev Adds : ActTree → Type 0

@@ -98,6 +98,17 @@ has_done old new before made after act same options more does worked ends =
       ends = ends;
     }
 
+-- whatever its stage was
+pub done_as : (old new : BookView) (x after : Session) (now : Stage) → HasDone old new (at_stage x now) after → HasDone old new x after
+done_as old new x after now d = record {
+  event = d.event;
+  log = d.log;
+  next = record { piece = d.next.piece; here = d.next.here; reading = d.next.reading; read = d.next.read; is = d.next.is };
+  stands = d.stands;
+  worked = d.worked;
+  ends = d.ends;
+}
+
 -- the log that it leaves has the event more
 pub done_log : (old new : BookView) (before after : Session) (d : HasDone old new before after) → log_tree new.log ≡ log_tree old.log ++ event_tree d.event ∷ []
 done_log old new before after d = ap log_tree d.log ∙ tree_more old.log d.event

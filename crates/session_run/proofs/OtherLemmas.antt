@@ -84,6 +84,7 @@ module _ (seen : LogState) (given later : List Face) (stay : WorthsStay given la
   under_stays p statement (stage.Explaining plan) is = is
   under_stays p statement stage.Between is = is
   under_stays p statement (stage.Telling reply) is = is
+  under_stays p statement (stage.Reading read) is = is
 
 -- ## Sessions
 
@@ -109,6 +110,7 @@ module _ (options : PoolOptions) (log : List EventTree) (x : Session) (event : E
   stage_stays : (p : Progress) (at : Stage) → IsStage options log x p at → IsStage options later x p at
   stage_stays p stage.Between is = is
   stage_stays p (stage.Telling reply) is = is
+  stage_stays p (stage.Reading read) is = is
   stage_stays p (stage.Querying q) is = begun_stays p is
   stage_stays p (stage.Explaining plan) is = begun_stays p is
 

@@ -250,7 +250,7 @@ module _ (options : PoolOptions) (log : List EventTree) (x : Session) where
     under = on has.at has.statement has.under;
   }
 
-  stands_as : (s : Stands options log x) (work : ℕ) (now : Stage) → untold x.ended x.stage ≡ untold x.ended now → IsStage options log (restaged x work now) (progress_of x.number log) now → Stands options log (restaged x work now)
+  pub stands_as : (s : Stands options log x) (work : ℕ) (now : Stage) → untold x.ended x.stage ≡ untold x.ended now → IsStage options log (restaged x work now) (progress_of x.number log) now → Stands options log (restaged x work now)
   stands_as s work now same is = record {
     low = s.low;
     high = s.high;

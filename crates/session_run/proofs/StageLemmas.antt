@@ -8,6 +8,7 @@ use Rattle.mal_meaning.specs.Meaning.{plan_rows}
 use Rattle.mal_check.specs.Checked.{plan_fault}
 use Rattle.mal_check.specs.Runnable.{FitsDb}
 use Rattle.mal_print.specs.Canon.{plan_text}
+use Rattle.sql_tree.specs.declared.tree.Stmt.{Stmt}
 use Rattle.sql_tree.specs.Tree.{QueryTree}
 use Rattle.sql_tree.specs.Tree.StmtTree.{Select, ExplainSelect}
 use Rattle.sql_semantics.specs.Answer.{answer_of_stmt}
@@ -26,11 +27,11 @@ use Rattle.session_run.specs.declared.stage.Stage.TheVariants as stage
 use Rattle.session_run.specs.Progress.{Progress, progress_of}
 use Rattle.session_run.specs.Readings.{AreReadings}
 use Rattle.session_run.specs.Turns.{IsNext, state_before}
-use Rattle.session_run.specs.Kept.{HasBegun, IsStage, IsUnder, Stands, untold}
-use Rattle.session_run.specs.Stages.{BeginsWith, ComesTo, HasComputed, IsSoundStage, explained}
+use Rattle.session_run.specs.Kept.{HasBegun, HasRead, IsStage, IsUnder, Stands, untold}
+use Rattle.session_run.specs.Stages.{BeginsWith, ComesTo, HasComputed, IsSoundStage, ReadsOn, at_stage, explained}
 use Rattle.session_run.proofs.InsideLemmas.{explain_begins, explain_refused, query_begins, query_refused}
 use Rattle.session_run.proofs.OwnLemmas.{event_by}
-use Rattle.session_run.proofs.OutsideLemmas.{explain_computes, query_computes, query_sound, reply_told, restaged}
+use Rattle.session_run.proofs.OutsideLemmas.{explain_computes, query_computes, query_sound, reply_told, restaged, stands_as}
 
 -- ## A new session
 
@@ -72,6 +73,7 @@ module _ (options : PoolOptions) (log : List EventTree) (x : Session) (text : Ve
   stage_retold : (p : Progress) (at : Stage) → IsStage options log x p at → IsStage options log retold p at
   stage_retold p stage.Between is = is
   stage_retold p (stage.Telling reply) is = is
+  stage_retold p (stage.Reading read) is = is
   stage_retold p (stage.Querying at) is = begun_retold p is
   stage_retold p (stage.Explaining plan) is = begun_retold p is
 
@@ -90,6 +92,29 @@ module _ (options : PoolOptions) (log : List EventTree) (x : Session) (text : Ve
     stage = stage_retold (progress_of x.number log) x.stage s.stage;
   }
 
+-- the text of its next statement is read, if there is one
+read_on : (options : PoolOptions) (log : List EventTree) (x : Session) → Stands options log x → x.stage ≡ stage.Between → (next : Stage) → ReadsOn x.pieces x.ended next → Stands options log (at_stage x next)
+read_on options log x s is next reads = go next reads
+  where
+    p : Progress
+    p = progress_of x.number log
+
+    none : p.begun ≡ None
+    none = subst (IsStage options log x p) is s.stage
+
+    go : (next : Stage) → ReadsOn x.pieces x.ended next → Stands options log (at_stage x next)
+    go stage.Between all = stands_as options log x s x.work stage.Between (ap (untold x.ended) is) none
+    go (stage.Reading read) has = stands_as options log x s x.work (stage.Reading read) (ap (untold x.ended) is) (none, has)
+    go (stage.Querying at) never = absurd never
+    go (stage.Explaining plan) never = absurd never
+    go (stage.Telling reply) never = absurd never
+
+-- a session whose next statement is read stands between statements too
+pub read_between : (options : PoolOptions) (log : List EventTree) (x : Session) → Stands options log x → (read : Result Stmt Refusal) → x.stage ≡ stage.Reading read → Stands options log (at_stage x stage.Between) × HasRead x.pieces x.ended read
+read_between options log x s read is =
+    let has = subst (IsStage options log x (progress_of x.number log)) is s.stage in
+    (stands_as options log x s x.work stage.Between (ap (untold x.ended) is) has.0, has.1)
+
 module _ (options : PoolOptions) (log : List EventTree) (x : Session) (s : Stands options log x) where
   -- it may compute
   pub stage_sound : IsSoundStage x.stage
@@ -98,15 +123,16 @@ module _ (options : PoolOptions) (log : List EventTree) (x : Session) (s : Stand
       go : (at : Stage) → x.stage ≡ at → IsSoundStage at
       go stage.Between is = tt
       go (stage.Telling reply) is = tt
+      go (stage.Reading read) is = tt
       go (stage.Querying from) is = query_sound options log x from s is
       go (stage.Explaining plan) is =
           let has = subst (IsStage options log x (progress_of x.number log)) is s.stage in
           (subst (IsUnder (state_before options log has.at) (run_of options log).given (progress_of x.number log) has.statement) is has.under).checked
 
-  computed_at : (at next : Stage) (text : Vec ℕ Global) (work : ℕ) → x.stage ≡ at → ComesTo at x.ended x.text.items next text.items → Stands options log (record x { text = text; work = work; stage = next })
+  computed_at : (at next : Stage) (text : Vec ℕ Global) (work : ℕ) → x.stage ≡ at → ComesTo x at next text.items → Stands options log (record x { text = text; work = work; stage = next })
   computed_at stage.Between next text work is c =
-      subst (λ to. Stands options log (record x { text = text; work = work; stage = to })) (is ∙ sym c.0)
-      (retold_stands options log (restaged x work x.stage) text c.1 (worked work))
+      let same = retold_stands options log (restaged x work x.stage) text c.1 (worked work) in
+      read_on options log (record x { text = text; work = work }) same is next c.0
     where
       worked : (work : ℕ) → Stands options log (restaged x work x.stage)
       worked work = record {
@@ -123,7 +149,11 @@ module _ (options : PoolOptions) (log : List EventTree) (x : Session) (s : Stand
         stage = subst (IsStage options log (restaged x work x.stage) (progress_of x.number log)) (sym is) (subst (IsStage options log x (progress_of x.number log)) is s.stage);
       }
   computed_at (stage.Telling reply) next text work is c =
-      subst (λ to. Stands options log (record x { text = text; work = work; stage = to })) (sym c.0) (reply_told options log x reply text work s is c.1)
+      read_on options log (record x { text = text; work = work; stage = stage.Between }) (reply_told options log x reply text work s is c.1) refl next c.0
+  computed_at (stage.Reading read) next text work is c =
+      subst (λ to. Stands options log (record x { text = text; work = work; stage = to })) (sym c.0)
+      (retold_stands options log (restaged x work (stage.Reading read)) text c.1
+      (stands_as options log x s work (stage.Reading read) (ap (untold x.ended) is) (subst (IsStage options log x (progress_of x.number log)) is s.stage)))
   computed_at (stage.Querying from) next text work is c =
       subst (λ to. Stands options log (record x { text = text; work = work; stage = to })) (sym c.1)
       (retold_stands options log (restaged x work (stage.Querying c.0)) text c.3 (query_computes options log x from c.0 work s is c.2))

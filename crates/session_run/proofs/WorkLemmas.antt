@@ -176,6 +176,7 @@ module _ (options : PoolOptions) (log : List EventTree) (event : EventTree) (p :
   stage_worked_stays : (at : Stage) → IsWorkedStage options log p at → IsWorkedStage options later p at
   stage_worked_stays stage.Between is = tt
   stage_worked_stays (stage.Telling reply) is = tt
+  stage_worked_stays (stage.Reading read) is = tt
   stage_worked_stays (stage.Querying at) is = step_worked_stays at is
   stage_worked_stays (stage.Explaining plan) is = plan_stays ∙ is
 

@@ -40,7 +40,7 @@ use Rattle.session_run.specs.Progress.{Progress, progress_of}
 use Rattle.session_run.specs.Kept.{Stands}
 use Rattle.session_run.specs.Work.{act_lost, act_work, load_at, pairs_at, piece_work, pool_looked, session_work, tables_begun, work_by}
 use Rattle.session_run.specs.Works.{IsLookedUp, IsPlanned, IsWorked, IsWorkedStage, IsWorkedStep, lost_in, lost_next}
-use Rattle.session_run.specs.Stages.{ComesTo as StageComesTo, HasComputed, IsSoundStage}
+use Rattle.session_run.specs.Stages.{ComesTo as StageComesTo, HasComputed, IsSoundStage, ReadsOn}
 use Rattle.session_run.proofs.StageLemmas.{stage_sound}
 
 -- ## What is found
@@ -130,11 +130,19 @@ module _ (options : PoolOptions) (log : List EventTree) (p : Progress) where
 
   -- ## Stages
 
-  stage_computes : (at next : Stage) (k : ℕ) (text more : List ℕ) → IsSoundStage at → IsWorkedStage options log p at → StageComesTo at k text next more → IsWorkedStage options log p next
-  stage_computes stage.Between next k text more sound is c = subst (IsWorkedStage options log p) (sym c.0) tt
-  stage_computes (stage.Telling reply) next k text more sound is c = subst (IsWorkedStage options log p) (sym c.0) tt
-  stage_computes (stage.Querying from) next k text more sound is c = subst (IsWorkedStage options log p) (sym c.1) (step_computes from c.0 sound is c.2)
-  stage_computes (stage.Explaining plan) next k text more sound is c =
+  reads_worked : (pieces : List (List ℕ)) (ended : ℕ) (next : Stage) → ReadsOn pieces ended next → IsWorkedStage options log p next
+  reads_worked pieces ended stage.Between all = tt
+  reads_worked pieces ended (stage.Reading read) has = tt
+  reads_worked pieces ended (stage.Querying at) never = absurd never
+  reads_worked pieces ended (stage.Explaining plan) never = absurd never
+  reads_worked pieces ended (stage.Telling reply) never = absurd never
+
+  stage_computes : (x : Session) (at next : Stage) (text : List ℕ) → IsSoundStage at → IsWorkedStage options log p at → StageComesTo x at next text → IsWorkedStage options log p next
+  stage_computes x stage.Between next text sound is c = reads_worked x.pieces x.ended next c.0
+  stage_computes x (stage.Telling reply) next text sound is c = reads_worked x.pieces x.ended next c.0
+  stage_computes x (stage.Reading read) next text sound is c = subst (IsWorkedStage options log p) (sym c.0) tt
+  stage_computes x (stage.Querying from) next text sound is c = subst (IsWorkedStage options log p) (sym c.1) (step_computes from c.0 sound is c.2)
+  stage_computes x (stage.Explaining plan) next text sound is c =
       subst (IsWorkedStage options log p) (sym c.0) (sym (ap (λ begun. option_map_or (λ pl. unmarked_work pl (tables_begun options log p)) begun 0) is))
 
   -- ## What is lost
@@ -151,7 +159,7 @@ pub computed_worked : (options : PoolOptions) (log : List EventTree) (x : Sessio
 computed_worked options log x s w new c = record {
   work = c.work ∙ w.work ∙ ap (λ n. session_work options n log) (sym c.number);
   stage = subst (λ n. IsWorkedStage options log (progress_of n log) new.stage) (sym c.number)
-      (stage_computes options log (progress_of x.number log) x.stage new.stage x.ended x.text.items new.text.items (stage_sound options log x s) w.stage c.stage);
+      (stage_computes options log (progress_of x.number log) x x.stage new.stage new.text.items (stage_sound options log x s) w.stage c.stage);
 }
 
 module _ (book : BookView) (session : ℕ) where
@@ -177,12 +185,13 @@ module _ (book : BookView) (session : ℕ) where
   step_lost (step.Offering q offer) to is = omega arith
   step_lost (step.Ending reply work) to is = omega arith
 
-  stage_lost : (at next : Stage) (k : ℕ) (text more : List ℕ) → IsWorkedStage book.options (log_tree book.log) p at → StageComesTo at k text next more → lost_in at next ≤ lost_next book session next
-  stage_lost stage.Between next k text more is c = omega arith
-  stage_lost (stage.Telling reply) next k text more is c = omega arith
-  stage_lost (stage.Querying from) next k text more is c = subst (λ to. lost_in (stage.Querying from) to ≤ lost_next book session to) (sym c.1) (step_lost from c.0 is)
-  stage_lost (stage.Explaining plan) next k text more is c = omega arith
+  stage_lost : (x : Session) (at next : Stage) (text : List ℕ) → IsWorkedStage book.options (log_tree book.log) p at → StageComesTo x at next text → lost_in at next ≤ lost_next book session next
+  stage_lost x stage.Between next text is c = omega arith
+  stage_lost x (stage.Telling reply) next text is c = omega arith
+  stage_lost x (stage.Reading read) next text is c = omega arith
+  stage_lost x (stage.Querying from) next text is c = subst (λ to. lost_in (stage.Querying from) to ≤ lost_next book session to) (sym c.1) (step_lost from c.0 is)
+  stage_lost x (stage.Explaining plan) next text is c = omega arith
 
 -- what a session may have counted in vain as it computed is lost where it does its next event
 pub computed_lost : (book : BookView) (x new : Session) → IsWorked book.options (log_tree book.log) x → HasComputed x new → lost_in x.stage new.stage ≤ lost_next book x.number new.stage
-computed_lost book x new w c = stage_lost book x.number x.stage new.stage x.ended x.text.items new.text.items w.stage c.stage
+computed_lost book x new w c = stage_lost book x.number x x.stage new.stage new.text.items w.stage c.stage

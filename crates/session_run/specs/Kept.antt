@@ -1,15 +1,17 @@
 -- What a session knows of the log.
-use Rattle.std.specs.Prelude.{◌≡◌, ℕ, ◌+◌, ◌≤◌, ◌<◌, List, [], ◌∷◌, ◌++◌, length, take, Bool, true, false, Option, Some, None, Result, Ok, slice_get}
+use Rattle.std.specs.Prelude.{◌≡◌, ℕ, ◌+◌, ◌≤◌, ◌<◌, List, [], ◌∷◌, ◌++◌, length, take, Bool, true, false, Option, Some, None, Result, Ok, Err, slice_get}
 use Rattle.cell_core.specs.declared.operator.Instr.{Instr}
 use Rattle.cell_core.specs.declared.operator.Value.TheVariants.{Bat}
 use Rattle.mal_meaning.specs.declared.plan.Plan.{Plan}
 use Rattle.mal_meaning.specs.Meaning.{plan_rows, plan_values}
 use Rattle.mal_check.specs.Checked.{plan_fault}
 use Rattle.recycle_mark.specs.Marks.{marks_of}
-use Rattle.sql_tree.specs.Tree.{QueryTree, StmtTree}
+use Rattle.sql_tree.specs.declared.tree.Stmt.{Stmt}
+use Rattle.sql_tree.specs.Tree.{QueryTree, StmtTree, stmt_tree}
 use Rattle.sql_tree.specs.Tree.StmtTree.{Select, ExplainSelect}
 use Rattle.sql_semantics.specs.Answer.{answer}
 use Rattle.sql_semantics.specs.declared.refusal.Refusal.{Refusal}
+use Rattle.sql_grammar.specs.Formed.{IsFormed}
 use Rattle.sql_parse.specs.Answered.{Reads}
 use Rattle.plan_queries.specs.Plans.{plan_over, refusal_over}
 use Rattle.pool_policy.specs.declared.entry.Who.{Who}
@@ -102,9 +104,15 @@ abbrev pub opened : Progress → Option ℕ → ℕ
 opened p None = p.ended
 opened p (Some at) = p.ended + 1
 
+-- the text of the statement behind so many reads so
+abbrev pub HasRead : List (List ℕ) → ℕ → Result Stmt Refusal → Type 0
+HasRead pieces ended (Ok statement) = (piece : List ℕ) × (slice_get pieces ended ≡ Some piece) × Reads piece (Ok (stmt_tree statement)) × IsFormed (stmt_tree statement)
+HasRead pieces ended (Err refusal) = (piece : List ℕ) × (slice_get pieces ended ≡ Some piece) × Reads piece (Err refusal)
+
 -- what its stage says
 abbrev pub IsStage : PoolOptions → List EventTree → Session → Progress → Stage → Type 0
 IsStage options log x p stage.Between = p.begun ≡ None
+IsStage options log x p (stage.Reading read) = (p.begun ≡ None) × HasRead x.pieces x.ended read
 IsStage options log x p (stage.Telling reply) = (p.begun ≡ None) × (1 ≤ x.ended)
 IsStage options log x p _ = HasBegun options log x p
 

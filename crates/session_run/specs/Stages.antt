@@ -1,5 +1,5 @@
 -- How one stage of a session follows from another.
-use Rattle.std.specs.Prelude.{◌≡◌, ℕ, ◌+◌, List, [], ◌∷◌, ◌++◌, Bool, None, Result, Ok, Err}
+use Rattle.std.specs.Prelude.{◌≡◌, ℕ, ◌+◌, ◌≤◌, List, [], ◌∷◌, ◌++◌, length, Bool, None, Result, Ok, Err}
 use Rattle.mal_meaning.specs.declared.plan.Plan.{Plan}
 use Rattle.sql_semantics.specs.declared.refusal.Refusal.{Refusal}
 use Rattle.table_store.specs.Content.{Content}
@@ -19,7 +19,7 @@ use Rattle.query_run.specs.Steps.{Computes, IsSoundStep}
 use Rattle.session_run.specs.declared.session.Session.{Session}
 use Rattle.session_run.specs.declared.stage.Stage.{Stage}
 use Rattle.session_run.specs.declared.stage.Stage.TheVariants as stage
-use Rattle.session_run.specs.Kept.{Stands}
+use Rattle.session_run.specs.Kept.{HasRead, Stands}
 use Rattle.session_run.specs.Turns.{IsNext}
 use Rattle.session_run.specs.Works.{IsWorked}
 
@@ -31,12 +31,19 @@ IsSoundStage (stage.Querying at) = IsSoundStep at
 IsSoundStage (stage.Explaining plan) = plan_fault plan ≡ None
 IsSoundStage _ = Unit {0}
 
--- what it comes to behind k statements that have ended, with the text of their replies before and after
-abbrev pub ComesTo : Stage → ℕ → List ℕ → Stage → List ℕ → Type 0
-ComesTo (stage.Querying from) k text next more = (to : Step) × (next ≡ stage.Querying to) × Computes from to × (more ≡ text)
-ComesTo (stage.Explaining plan) k text next more = (next ≡ stage.Querying (step.Ending (shown.Plan (plan_text plan)) 0)) × (more ≡ text)
-ComesTo (stage.Telling reply) k text next more = (next ≡ stage.Between) × (more ≡ text ++ reply_text k reply)
-ComesTo stage.Between k text next more = (next ≡ stage.Between) × (more ≡ text)
+-- behind so many statements that have ended the text of the next one is read, if there is one
+abbrev pub ReadsOn : List (List ℕ) → ℕ → Stage → Type 0
+ReadsOn pieces ended stage.Between = length pieces ≤ ended
+ReadsOn pieces ended (stage.Reading read) = HasRead pieces ended read
+ReadsOn pieces ended _ = ⊥
+
+-- what a session's stage comes to, with the text of its replies
+abbrev pub ComesTo : Session → Stage → Stage → List ℕ → Type 0
+ComesTo x (stage.Querying from) next text = (to : Step) × (next ≡ stage.Querying to) × Computes from to × (text ≡ x.text.items)
+ComesTo x (stage.Explaining plan) next text = (next ≡ stage.Querying (step.Ending (shown.Plan (plan_text plan)) 0)) × (text ≡ x.text.items)
+ComesTo x (stage.Telling reply) next text = ReadsOn x.pieces x.ended next × (text ≡ x.text.items ++ reply_text x.ended reply)
+ComesTo x stage.Between next text = ReadsOn x.pieces x.ended next × (text ≡ x.text.items)
+ComesTo x (stage.Reading read) next text = (next ≡ stage.Reading read) × (text ≡ x.text.items)
 
 -- a session computes: nothing of it changes but its stage and its text
 pub record HasComputed (old new : Session) : Type 0 where
@@ -44,13 +51,13 @@ pub record HasComputed (old new : Session) : Type 0 where
   pub pieces : new.pieces ≡ old.pieces
   pub ended : new.ended ≡ old.ended
   pub work : new.work ≡ old.work
-  pub stage : ComesTo old.stage old.ended old.text.items new.stage new.text.items
+  pub stage : ComesTo old old.stage new.stage new.text.items
 
 -- ## Inside
 
 -- its next event stands
 abbrev pub IsReady : Stage → Type 0
-IsReady stage.Between = Unit {0}
+IsReady (stage.Reading read) = Unit {0}
 IsReady (stage.Querying (step.Asking q key)) = Unit {0}
 IsReady (stage.Querying (step.Offering q offer)) = Unit {0}
 IsReady (stage.Querying (step.Ending reply work)) = Unit {0}

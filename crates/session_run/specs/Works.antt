@@ -94,6 +94,7 @@ lost_next book session _ = 0
 
 abbrev pub CountsAt : BookView → BookView → ℕ → Stage → ℕ → ℕ → Type 0
 CountsAt old new session stage.Between before after = CountsStart old new before after
+CountsAt old new session (stage.Reading read) before after = CountsStart old new before after
 CountsAt old new session at before after = CountsOn old new before after (lost_next old session at)
 
 -- as a session does an event, which counts what was done

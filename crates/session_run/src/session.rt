@@ -1,15 +1,17 @@
-ghost use Rattle.std.specs.Prelude.{◌≡◌, ℕ, ◌+◌, ◌≤◌, ◌<◌, List, [], length, nat_le, IfOk, OnOk, OnErr, None};
+ghost use Rattle.std.specs.Prelude.{◌≡◌, ℕ, ◌+◌, ◌≤◌, ◌<◌, List, [], length, nat_le, slice_get, IfOk, OnOk, OnErr, None, Some, Ok, Err};
 ghost use Rattle.mal_check.specs.Checked.{plan_fault};
 ghost use Rattle.mal_print.specs.Canon.{plan_text};
 ghost use Rattle.pool_policy.specs.declared.options.PoolOptions.{PoolOptions as OptionsSeen};
 ghost use Rattle.run_log.specs.Events.{log_tree};
+ghost use Rattle.sql_parse.specs.declared.error.ParseError.TheVariants.{Refused};
+ghost use Rattle.sql_semantics.specs.declared.refusal.Refusal.{Refusal as RefusalSeen};
 ghost use Rattle.answer_text.specs.Log.{code_of as code_shown};
 ghost use Rattle.answer_text.specs.declared.shown.Shown.TheVariants as shown;
 ghost use Rattle.query_run.specs.declared.step.Step.TheVariants as step;
 ghost use Rattle.session_run.specs.declared.stage.Stage.TheVariants as stage;
-ghost use Rattle.session_run.specs.Kept.{Stands};
+ghost use Rattle.session_run.specs.Kept.{HasRead, Stands};
 ghost use Rattle.session_run.specs.Works.{CountsInside, CountsOutside, IsWorked, done_by, held_in, lost_in};
-ghost use Rattle.session_run.specs.Stages.{ComesTo, HasComputed, HasDone, IsReady, IsSoundStage, at_stage, with_reply};
+ghost use Rattle.session_run.specs.Stages.{ComesTo, HasComputed, HasDone, IsReady, IsSoundStage, ReadsOn, at_stage, with_reply};
 
 use crate::stage::Stage;
 use answer_text::{Shown, write_reply};
@@ -21,6 +23,8 @@ use mal_print::print_mal;
 use pool_policy::Who;
 use query_run::Step;
 use score_hook::Scorer;
+use sql_parse::{ParseError, parse};
+use sql_tree::Stmt;
 use std::alloc::Global;
 use std::mem;
 use std::sync::ledger::Ledger;
@@ -82,8 +86,9 @@ impl Session {
         }
     }
 
-    /// Computes what the next event needs, and writes the reply of a statement that has ended. The counter
-    /// rises by the work that is done; where the query's plan overflows, by at most its load more.
+    /// Computes what the next event needs: it writes the reply of a statement that has ended, and reads the
+    /// text of the next one. The counter rises by the work that is done; where the query's plan overflows,
+    /// by at most its load more.
     pub fn outside<E: Operate, L: Ledger>(
         &mut self,
         alloc: Global,
@@ -95,7 +100,7 @@ impl Session {
         ensures counts { OnOk result (CountsOutside self.old self.new steps.old steps.new) }
     {
         let stage = mem::replace(&mut self.stage, Stage::Between);
-        self.stage = compute(alloc, stage, self.ended, &mut self.text, kernel, steps)?;
+        self.stage = self.compute(alloc, stage, kernel, steps)?;
         Ok(())
     }
 
@@ -125,10 +130,67 @@ impl Session {
     {
         let stage = mem::replace(&mut self.stage, Stage::Between);
         match stage {
-            Stage::Between => self.start(alloc, book, scorer, kernel, steps),
+            Stage::Reading(read) => self.start(alloc, book, scorer, read, kernel, steps),
             Stage::Querying(step) => self.go_on(alloc, book, scorer, step),
-            Stage::Explaining(_) | Stage::Telling(_) => unreachable!(),
+            Stage::Between | Stage::Explaining(_) | Stage::Telling(_) => unreachable!(),
         }
+    }
+
+    /// What a stage comes to.
+    fn compute<E: Operate, L: Ledger>(
+        &mut self,
+        alloc: Global,
+        stage: Stage,
+        kernel: &E,
+        steps: &mut Steps<L>,
+    ) -> Result<Stage, Memory>
+        requires { IsSoundStage stage }
+        ensures same { OnOk result (self.new ≡ record self.old { text = self.new.text }) }
+        ensures stage { IfOk result (λ next. ComesTo self.old stage next self.new.text.items) }
+        ensures least { IfOk result (λ next. steps.old + held_in next ≤ steps.new + held_in stage) }
+        ensures most { IfOk result (λ next. steps.new + held_in stage ≤ (steps.old + held_in next) + lost_in stage next) }
+    {
+        match stage {
+            Stage::Querying(step) => Ok(Stage::Querying(step.outside(alloc, kernel, steps)?)),
+            Stage::Explaining(plan) => explain(alloc, &plan),
+            Stage::Telling(shown) => {
+                write_reply(alloc, self.ended, &shown, &mut self.text)?;
+                self.read_on(alloc)
+            }
+            Stage::Between => self.read_on(alloc),
+            Stage::Reading(read) => Ok(Stage::Reading(read)),
+        }
+    }
+
+    /// Reads the text of the next statement, if there is one.
+    fn read_on(&self, alloc: Global) -> Result<Stage, Memory>
+        ensures { IfOk result (ReadsOn self.now.pieces self.now.ended) }
+    {
+        if self.done() {
+            return Ok(Stage::Between);
+        }
+        match self.read_next(alloc) {
+            Ok(stmt) => Ok(Stage::Reading(Ok(stmt))),
+            Err(ParseError::Refused(refusal)) => Ok(Stage::Reading(Err(refusal))),
+            Err(ParseError::Memory) => Err(Memory),
+        }
+    }
+
+    /// Its next statement.
+    fn read_next(&self, alloc: Global) -> Result<Stmt, ParseError>
+        requires { self.now.ended < length self.now.pieces }
+        ensures read { IfOk result (λ stmt. HasRead self.now.pieces self.now.ended (Ok stmt)) }
+        ensures refused { (refusal : RefusalSeen) → result ≡ Err (Refused refusal) → HasRead self.now.pieces self.now.ended (Err refusal) }
+    {
+        parse(alloc, self.piece().text())
+    }
+
+    /// The text of its next statement.
+    fn piece(&self) -> &Word
+        requires { self.now.ended < length self.now.pieces }
+        ensures { slice_get self.now.pieces self.now.ended ≡ Some result.now }
+    {
+        &self.pieces.as_slice()[self.ended as usize]
     }
 
     /// Its statement has ended with this reply.
@@ -138,31 +200,6 @@ impl Session {
     {
         self.ended += 1;
         self.stage = Stage::Telling(shown);
-    }
-}
-
-/// What a stage comes to behind so many statements that have ended, with the text of their replies.
-fn compute<E: Operate, L: Ledger>(
-    alloc: Global,
-    stage: Stage,
-    ended: u32,
-    text: &mut Vec<u8>,
-    kernel: &E,
-    steps: &mut Steps<L>,
-) -> Result<Stage, Memory>
-    requires { IsSoundStage stage }
-    ensures stage { IfOk result (λ next. ComesTo stage ended text.old.items next text.new.items) }
-    ensures least { IfOk result (λ next. steps.old + held_in next ≤ steps.new + held_in stage) }
-    ensures most { IfOk result (λ next. steps.new + held_in stage ≤ (steps.old + held_in next) + lost_in stage next) }
-{
-    match stage {
-        Stage::Querying(step) => Ok(Stage::Querying(step.outside(alloc, kernel, steps)?)),
-        Stage::Explaining(plan) => explain(alloc, &plan),
-        Stage::Telling(shown) => {
-            write_reply(alloc, ended, &shown, text)?;
-            Ok(Stage::Between)
-        }
-        Stage::Between => Ok(Stage::Between),
     }
 }
 

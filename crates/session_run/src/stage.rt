@@ -1,12 +1,16 @@
 use answer_text::Shown;
 use mal_meaning::Plan;
 use query_run::Step;
+use sql_semantics::Refusal;
+use sql_tree::Stmt;
 
 /// What a session does next.
 #[derive(Drop)]
 pub enum Stage {
-    /// It begins its next statement, if it has one.
+    /// It is between two statements, or behind the last one.
     Between,
+    /// It begins its next statement, whose text reads so.
+    Reading(Result<Stmt, Refusal>),
     /// A query is under way.
     Querying(Step),
     /// An EXPLAIN shows this plan.

@@ -10,7 +10,7 @@ ghost use Rattle.run_log.specs.Events.{log_tree};
 ghost use Rattle.answer_text.specs.Log.{shown_reply};
 ghost use Rattle.store_changes.specs.Outcomes.{is_change};
 ghost use Rattle.session_run.specs.declared.stage.Stage.TheVariants as stage;
-ghost use Rattle.session_run.specs.Kept.{Stands};
+ghost use Rattle.session_run.specs.Kept.{HasRead, Stands};
 ghost use Rattle.session_run.specs.Stages.{BeginsWith, HasDone, explained};
 ghost use Rattle.session_run.specs.Works.{CountsInside, IsWorked};
 ghost use Rattle.query_run.specs.declared.step.Step.TheVariants as step;
@@ -24,19 +24,19 @@ use book_core::{Begun, Book};
 use cell_core::{Memory, Steps, Word};
 use query_run::{Query, Step};
 use score_hook::Scorer;
-use sql_parse::{ParseError, parse};
 use sql_semantics::{Refusal, Reply};
 use sql_tree::Stmt;
 use std::alloc::Global;
 use std::sync::ledger::Ledger;
 
 impl Session {
-    /// Begins the next statement, or does it whole where it is no query.
+    /// Begins the next statement, whose text reads so, or does it whole where it is no query.
     pub(crate) fn start<E: Operate, L: Ledger>(
         &mut self,
         alloc: Global,
         book: &mut Book,
         scorer: &Scorer,
+        read: Result<Stmt, Refusal>,
         kernel: &E,
         steps: &mut Steps<L>,
     ) -> Result<(), Memory>
@@ -45,7 +45,7 @@ impl Session {
         requires between { self.old.stage ≡ stage.Between }
         requires stands { Stands book.old.options (log_tree book.old.log) self.old }
         requires worked { IsWorked book.old.options (log_tree book.old.log) self.old }
-        requires more { self.old.ended < length self.old.pieces }
+        requires read { HasRead self.old.pieces self.old.ended read }
         ensures options { book.new.options ≡ book.old.options }
         ensures number { OnOk result (self.new.number ≡ self.old.number) }
         ensures pieces { OnOk result (self.new.pieces ≡ self.old.pieces) }
@@ -53,29 +53,10 @@ impl Session {
         ensures counts { OnOk result (CountsInside book.old book.new self.old self.new steps.old steps.new) }
         ensures same { OnErr result (book.new ≡ book.old) }
     {
-        match self.read_next(alloc) {
+        match read {
             Ok(stmt) => self.start_stmt(alloc, book, scorer, stmt, kernel, steps),
-            Err(ParseError::Refused(refusal)) => self.refuse(book, refusal),
-            Err(ParseError::Memory) => Err(Memory),
+            Err(refusal) => self.refuse(book, refusal),
         }
-    }
-
-    /// The text of its next statement.
-    fn piece(&self) -> &Word
-        requires { self.now.ended < length self.now.pieces }
-        ensures { slice_get self.now.pieces self.now.ended ≡ Some result.now }
-    {
-        &self.pieces.as_slice()[self.ended as usize]
-    }
-
-    /// Its next statement.
-    fn read_next(&self, alloc: Global) -> Result<Stmt, ParseError>
-        requires { self.now.ended < length self.now.pieces }
-        ensures read { IfOk result (λ stmt. (piece : List ℕ) × (slice_get self.now.pieces self.now.ended ≡ Some piece) × Reads piece (Ok (stmt_tree stmt))) }
-        ensures formed { IfOk result (λ stmt. IsFormed (stmt_tree stmt)) }
-        ensures refused { (refusal : RefusalSeen) → result ≡ Err (Refused refusal) → (piece : List ℕ) × (slice_get self.now.pieces self.now.ended ≡ Some piece) × Reads piece (Err refusal) }
-    {
-        parse(alloc, self.piece().text())
     }
 
     /// Logs a text that is refused.

@@ -1,6 +1,6 @@
 -- Passes that are split from the first one for sessions, and joined to it again.
-use Rattle.std.proofs.Common.{◌≡◌, ◌≢◌, ℕ, zero, suc, ◌+◌, ◌≤◌, ◌<◌, List, [], ◌∷◌, ◌++◌, length, map, get_or, Some, None, Ok, Result, refl, ap, sym, ◌∙◌, subst, arith}
-use Rattle.std.specs.Prelude.{slice_get, unwrap_or, IfOk, IsSome, ◌==◌, if◌then◌else◌}
+use Rattle.std.proofs.Common.{◌≡◌, ◌≢◌, ℕ, suc, ◌+◌, ◌≤◌, ◌<◌, List, [], ◌∷◌, ◌++◌, length, map, get_or, Some, Ok, Result, refl, ap, sym, ◌∙◌, subst, arith}
+use Rattle.std.specs.Prelude.{slice_get, unwrap_or, IfOk, IsSome, if◌then◌else◌}
 use Rattle.std.proofs.lemmas.Bool.{ne_eqb}
 use Rattle.std.proofs.lemmas.List.{get_or-map, length-map}
 use Rattle.std.proofs.lemmas.Option.{get_or_from_slice_get, slice_get-get_or, slice_get_within}
@@ -17,7 +17,7 @@ use Rattle.session_run.specs.declared.session.Session.{Session}
 use Rattle.run_sessions.specs.Tables.{AreOver, IsOver, scripts_of}
 use Rattle.run_sessions.proofs.PlaceLemmas.{append_all, map_there, same_or}
 use Rattle.thread_sessions.specs.declared.runner.Runner.{Runner}
-use Rattle.thread_sessions.specs.Runners.{HasSeen, IsAt, IsWith, session_of}
+use Rattle.thread_sessions.specs.Runners.{IsAt, IsWith, session_of}
 use Rattle.thread_sessions.specs.Runs.{AreJoined, AreRunners, HasNoneBeside, HasRunOut, HaveSeen, IsFirst, IsJoined, IsRunner, sessions_of}
 use Rattle.thread_sessions.proofs.ListLemmas.{starts_then}
 

@@ -4,3 +4,4 @@ pub mod JoinLemmas
 pub mod PlayLemmas
 pub mod ShareLemmas
 pub mod SendLemmas
+pub mod StmtLemmas

@@ -1,5 +1,5 @@
 -- Sessions in threads, each of which runs to its end over one log.
-use Rattle.std.specs.Prelude.{◌≡◌, ℕ, ◌+◌, ◌-◌, ◌<◌, ◌≤◌, List, [], length, map, IsSome, None, Some, slice_get}
+use Rattle.std.specs.Prelude.{◌≡◌, ℕ, ◌+◌, ◌-◌, ◌<◌, ◌≤◌, List, [], map, IsSome, None, Some, slice_get}
 use Rattle.pool_policy.specs.declared.options.PoolOptions.{PoolOptions}
 use Rattle.run_log.specs.declared.event.Event.{Event}
 use Rattle.run_log.specs.Events.{EventTree, log_tree}
@@ -21,6 +21,8 @@ pub record IsRunOut (options : PoolOptions) (scripts : List (List (List ℕ))) (
   pub turns : List ℕ
   pub played : IsPlayed options scripts turns log
   pub done : (session : ℕ) (pieces : List (List ℕ)) → 1 ≤ session → slice_get scripts (session - 1) ≡ Some pieces → IsDone pieces session log
+
+-- What follows only the code asks: it says what is kept between the steps of a run, and no public clause cites it.
 
 -- ## Sessions with their passes
 

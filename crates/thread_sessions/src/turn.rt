@@ -73,6 +73,7 @@ pub fn take_turn<K: RunOptions, R: Wait, E: Operate, L: Ledger>(
     ensures pieces { OnOk result (session.new.pieces ≡ session.old.pieces) }
     ensures stands { OnOk result (IsWith K.options pass.new session.new) }
     ensures one { IfOk result (λ more. more ≡ true → HasOneMore pass.old pass.new) }
+    ensures none { IfOk result (λ more. more ≡ false → pass.new ≡ pass.old) }
     ensures over { IfOk result (λ more. more ≡ false → IsOver session.new) }
 {
     session.outside(alloc, kernel, steps)?;

@@ -1,21 +1,14 @@
-use Rattle.std.proofs.Common.{◌≡◌, ℕ, ◌≤◌, List, length, map, ap, sym, ◌∙◌, subst}
-use Rattle.std.specs.Prelude.{sum_by}
+use Rattle.std.proofs.Common.{ℕ, ◌≤◌, List, length, map, ap, sym, ◌∙◌, subst}
 use Rattle.std.specs.List.{AllByRecursion}
 use Rattle.std.specs.declared.vec.Vec.{Vec}
 use Rattle.std.specs.declared.alloc.Global.{Global}
 use Rattle.std.proofs.lemmas.List.{length-map}
 use Rattle.std.proofs.lemmas.Result.{IfOk-weaker}
-use Rattle.store_changes.specs.Work.{Counts}
 use Rattle.pool_policy.specs.declared.options.PoolOptions.{PoolOptions}
-use Rattle.run_log.specs.declared.event.Event.{Event}
-use Rattle.run_log.specs.declared.event.Totals.{Totals}
 use Rattle.run_log.specs.Events.{EventTree, log_tree}
 use Rattle.book_core.specs.BookView.{BookView}
 use Rattle.session_run.specs.declared.session.Session.{Session}
-use Rattle.session_run.specs.Work.{run_lost, run_totals}
-use Rattle.run_sessions.specs.Played.{IsScheduled}
-use Rattle.run_sessions.specs.Tables.{AreStanding, AreTexts}
-use Rattle.run_sessions.proofs.SumLemmas.{IsOfOne}
+use Rattle.run_sessions.specs.Tables.{AreStanding}
 use Rattle.run_sessions.proofs.TotalLemmas.{ComesTo, both_ok, run_comes, run_counts, run_follows, run_of_sessions, run_texts, run_totals_are}
 use Rattle.run_sessions.proofs.replay.play_sessions.Goals as goal
 

@@ -1,4 +1,5 @@
-use Rattle.std.proofs.Common.{◌≤◌, length, refl, arith}
+use Rattle.std.proofs.Common.{◌≤◌, ◌<◌, length, refl, sym, ◌∙◌}
+use Rattle.std.proofs.lemmas.Bool.{leb-false, leb-true}
 use Rattle.session_run.proofs.StageLemmas.{computed_stands}
 use Rattle.session_run.proofs.WorkedLemmas.{computed_lost, computed_worked}
 use Rattle.run_log.specs.Events.{log_tree}
@@ -11,7 +12,7 @@ returns-then-done g c =
     let book = c.args.book.now in
     let log = log_tree book.log in
     let computed = c.in_ok-outside.ensures.computed in
-    let all : length c.outside.new.self.pieces ≤ c.outside.new.self.ended = grind (arith, c.done.ensures, c.if-done.true) in
+    let all : length c.outside.new.self.pieces ≤ c.outside.new.self.ended = leb-true (length c.outside.new.self.pieces) c.outside.new.self.ended (sym c.done.ensures ∙ c.if-done.true) in
     let over = computed_over book.options log c.args.session.now c.outside.new.self c.requires.stands computed all in
     record {
       options = refl;
@@ -31,13 +32,14 @@ inside-requires g c =
     let book = c.args.book.now in
     let log = log_tree book.log in
     let computed = c.in_ok-outside.ensures.computed in
+    let more : c.outside.new.self.ended < length c.outside.new.self.pieces = leb-false (length c.outside.new.self.pieces) c.outside.new.self.ended (sym c.done.ensures ∙ c.if-done.false) in
     record {
       kind = c.requires.kind;
       weights = c.requires.weights;
       stands = computed_stands book.options log c.args.session.now c.requires.stands c.outside.new.self computed;
       worked = computed_worked book.options log c.args.session.now c.requires.stands c.requires.worked c.outside.new.self computed;
-      more = grind (arith, c.done.ensures, c.if-done.false);
-      ready = computed_ready book.options log c.args.session.now c.outside.new.self c.requires.stands computed;
+      more = more;
+      ready = computed_ready book.options log c.args.session.now c.outside.new.self c.requires.stands computed more;
     }
 
 pub returns-clause-turned : goal.returns-clause-turned

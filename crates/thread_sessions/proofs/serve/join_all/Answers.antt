@@ -1,8 +1,8 @@
-use Rattle.std.proofs.Common.{rules, ◌≡◌, ◌+◌, ◌++◌, ◌∷◌, [], List, length, ap, sym, ◌∙◌, subst, arith, append_assoc}
+use Rattle.std.proofs.Common.{◌≡◌, ◌+◌, ◌++◌, ◌∷◌, [], List, length, ap, sym, ◌∙◌, subst, arith, append_assoc}
 use Rattle.std.specs.Prelude.{slice_get, Some}
 use Rattle.std.proofs.lemmas.List.{length-append, length-map, map-append}
 use Rattle.session_run.specs.declared.session.Session.{Session}
-use Rattle.thread_sessions.specs.Runs.{AreJoined, IsFirst, sessions_of}
+use Rattle.thread_sessions.specs.Runs.{AreJoined, IsFirst}
 use Rattle.thread_sessions.proofs.JoinLemmas.{join_first, join_more}
 use Rattle.thread_sessions.proofs.ListLemmas.{get_seam}
 use Rattle.thread_sessions.proofs.serve.join_all.Goals as goal

@@ -6,6 +6,7 @@ use denote.Param.{param}
 use denote.Param.Callables.{held_fn}
 use denote.Param.Object.{Vt, ghosts_of}
 use denote.Param.Send.{IsSend, IsSync, arg_send, arg_sync, param_send, param_sync, sendable}
+use denote.Param.SendFields.{declared_send}
 use denote.Param.Sent.{code_sync}
 use Rattle.cell_core.specs.contracts.memory.Memory as MemoryRow
 use Rattle.cell_core.proofs.memory.Memory.TheSendSync as Memory
@@ -13,17 +14,20 @@ use Rattle.score_hook.specs.contracts.scorer.Scorer as ScorerRow
 use Rattle.run_log.specs.contracts.event.Event as EventRow
 use Rattle.turn_hall.specs.contracts.hall.Hall as HallRow
 use Rattle.turn_hall.proofs.hall.Hall.TheSendSync as Hall
+use Rattle.turn_hall.proofs.hall.Pass.TheSendSync as Pass
 use Rattle.thread_sessions.specs.contracts.kept.Kept as KeptRow
 use Rattle.thread_sessions.specs.contracts.runner.Runner as RunnerRow
-use Rattle.thread_sessions.proofs.runner.Runner.TheSendSync as Runner
 use Rattle.thread_sessions.specs.contracts.serve.run_each.dyn-1.{slots}
 use Rattle.thread_sessions.proofs.SendLemmas.{kept_send}
 use Rattle.thread_sessions.proofs.ShareLemmas.{five_sync, scorer_sync}
+use Rattle.thread_sessions.proofs.StmtLemmas.{session_send}
 use Rattle.thread_sessions.proofs.serve.run_each.Given as given
 use Rattle.thread_sessions.proofs.serve.run_each.Goals as goal
 
 runner_send : (K : _) (options : _) → IsSend (RunnerRow.the_row (KeptRow.the_row (param 0 K) options) EventRow.the_row)
-runner_send K options = Runner.the_send (KeptRow.the_row (param 0 K) options) EventRow.the_row (kept_send (param 0 K) options)
+runner_send K options =
+    let kept = KeptRow.the_row (param 0 K) options in
+    declared_send (RunnerRow.the_type kept EventRow.the_row) (Pass.the_send kept EventRow.the_row (kept_send (param 0 K) options), (session_send, tt))
 
 hall_sync : (K : _) (options : _) (ghosts : _) → IsSync (HallRow.the_row (KeptRow.the_row (param 0 K) options) EventRow.the_row ghosts)
 hall_sync K options ghosts = Hall.the_sync (KeptRow.the_row (param 0 K) options) EventRow.the_row ghosts (kept_send (param 0 K) options)

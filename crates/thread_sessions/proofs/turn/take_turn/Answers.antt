@@ -1,4 +1,5 @@
-use Rattle.std.proofs.Common.{◌≡◌, ◌≤◌, false, true, length, arith}
+use Rattle.std.proofs.Common.{◌≡◌, ◌≤◌, ◌<◌, false, true, length, refl, sym, ◌∙◌}
+use Rattle.std.proofs.lemmas.Bool.{leb-false, leb-true}
 use Rattle.run_log.specs.Events.{log_tree}
 use Rattle.turn_hall.specs.Passes.{seen_by}
 use Rattle.session_run.proofs.StageLemmas.{stage_sound}
@@ -16,7 +17,7 @@ pub returns-then-done : goal.returns-then-done
 returns-then-done g c =
     let options = g.K.RunOptions.options in
     let computed = c.in_ok-outside.ensures.computed in
-    let all : length c.outside.new.self.pieces ≤ c.outside.new.self.ended = grind (arith, c.done.ensures, c.if-done.true) in
+    let all : length c.outside.new.self.pieces ≤ c.outside.new.self.ended = leb-true (length c.outside.new.self.pieces) c.outside.new.self.ended (sym c.done.ensures ∙ c.if-done.true) in
     let over = computed_over options (log_tree (seen_by c.args.pass.now)) c.args.session.now c.outside.new.self c.requires.stands.at.stands computed all in
     record {
       ours = c.requires.ours;
@@ -24,6 +25,7 @@ returns-then-done g c =
       pieces = computed.pieces;
       stands = computed_with options c.args.pass.now c.args.session.now c.outside.new.self computed c.requires.stands;
       one = λ same. absurd (not_more same);
+      none = λ same. refl;
       over = λ same. over;
     }
 
@@ -31,11 +33,12 @@ pub do_event-requires : goal.do_event-requires
 do_event-requires g c =
     let options = g.K.RunOptions.options in
     let computed = c.in_ok-outside.ensures.computed in
+    let more : c.outside.new.self.ended < length c.outside.new.self.pieces = leb-false (length c.outside.new.self.pieces) c.outside.new.self.ended (sym c.done.ensures ∙ c.if-done.false) in
     record {
       kind = c.requires.kind;
       weights = c.requires.weights;
       ours = c.requires.ours;
       stands = computed_with options c.args.pass.now c.args.session.now c.outside.new.self computed c.requires.stands;
-      more = grind (arith, c.done.ensures, c.if-done.false);
-      ready = computed_ready options (log_tree (seen_by c.args.pass.now)) c.args.session.now c.outside.new.self c.requires.stands.at.stands computed;
+      more = more;
+      ready = computed_ready options (log_tree (seen_by c.args.pass.now)) c.args.session.now c.outside.new.self c.requires.stands.at.stands computed more;
     }

@@ -1,10 +1,42 @@
-use Rattle.std.proofs.Common.{rules, ◌≡◌, ℕ, subst, Result, Ok, Err}
+use Rattle.std.proofs.Common.{rules, ◌≡◌, ℕ, subst, sym, Result, Ok, Err}
 use Rattle.std.specs.Result.{OnOk}
 use Rattle.session_run.specs.declared.stage.Stage.{Stage}
 use Rattle.session_run.specs.declared.stage.Stage.TheVariants as stage
 use Rattle.session_run.specs.Stages.{HasDone, at_stage}
-use Rattle.session_run.specs.Works.{CountsInside}
+use Rattle.session_run.specs.Kept.{Stands}
+use Rattle.session_run.specs.Works.{CountsInside, IsWorked}
+use Rattle.std.proofs.lemmas.Result.{on_ok_weaker}
+use Rattle.run_log.specs.Events.{log_tree}
+use Rattle.session_run.proofs.CountLemmas.{started_as}
+use Rattle.session_run.proofs.DoesLemmas.{done_as}
+use Rattle.session_run.proofs.StageLemmas.{read_between}
 use Rattle.session_run.proofs.session.Session.inside.Goals as goal
+
+pub start-requires : goal.start-requires
+start-requires g c =
+    let is : c.args.self.now.stage ≡ stage.Reading c.in-Reading.read = search rules in
+    let between : c.replace-stage.new.dest ≡ stage.Between = search rules in
+    let both = read_between c.args.book.now.options (log_tree c.args.book.now.log) c.args.self.now c.requires.stands c.in-Reading.read is in
+    let worked : IsWorked c.args.book.now.options (log_tree c.args.book.now.log) (at_stage c.args.self.now stage.Between) = record { work = c.requires.worked.work; stage = tt } in
+    record {
+      kind = c.requires.kind;
+      weights = c.requires.weights;
+      between = between;
+      stands = subst (λ (at : Stage). Stands c.args.book.now.options (log_tree c.args.book.now.log) (at_stage c.args.self.now at)) (sym between) both.0;
+      worked = subst (λ (at : Stage). IsWorked c.args.book.now.options (log_tree c.args.book.now.log) (at_stage c.args.self.now at)) (sym between) worked;
+      read = both.1;
+    }
+
+pub returns-in-Reading-clause-does : goal.returns-in-Reading-clause-does
+returns-in-Reading-clause-does g c =
+    on_ok_weaker c.start.result (λ does. done_as c.args.book.now c.start.new.book c.args.self.now c.start.new.self c.replace-stage.new.dest does) c.start.ensures.does
+
+pub returns-in-Reading-clause-counts : goal.returns-in-Reading-clause-counts
+returns-in-Reading-clause-counts g c =
+    let is : c.args.self.now.stage ≡ stage.Reading c.in-Reading.read = search rules in
+    let between : c.replace-stage.new.dest ≡ stage.Between = search rules in
+    on_ok_weaker c.start.result (λ counts. started_as c.args.book.now c.start.new.book c.args.self.now c.start.new.self c.in-Reading.read is c.args.steps.now c.start.new.steps
+    (subst (λ (at : Stage). CountsInside c.args.book.now c.start.new.book (at_stage c.args.self.now at) c.start.new.self c.args.steps.now c.start.new.steps) between counts)) c.start.ensures.counts
 
 pub returns-in-Querying-clause-does : goal.returns-in-Querying-clause-does
 returns-in-Querying-clause-does g c =
