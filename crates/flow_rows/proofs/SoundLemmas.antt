@@ -33,7 +33,8 @@ use Rattle.dataflow.specs.Jobs.{CanRun}
 use Rattle.dataflow.specs.Rules.{basis_values, value_at, IsTask}
 use Rattle.dataflow.specs.Plans.{has, has_all, Grows, NoneOut, NothingReady, IsWhole, IsHandedOut, IsIdle}
 use Rattle.dataflow.proofs.TaskLemmas.{none_is, computed, IsComputed}
-use Rattle.flow_rows.specs.Sound.{no_tables, over_nothing, known_of, is_there, is_bind, is_column, is_known, are_known, start_value, is_job, OnlyDone, IsRunnable, IsSound}
+use Rattle.mal_exec.specs.Results.{known_of}
+use Rattle.flow_rows.specs.Sound.{no_tables, over_nothing, is_there, is_bind, is_column, is_known, are_known, start_value, is_job, OnlyDone, IsRunnable, IsSound}
 use Rattle.flow_rows.specs.Ready.{IsReady, NoneReady}
 use Rattle.flow_rows.proofs.OrderLemmas.{checked_in_order}
 

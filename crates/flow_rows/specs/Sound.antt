@@ -26,10 +26,6 @@ no_tables = record { tables = [] }
 abbrev pub over_nothing : Plan → Basis
 over_nothing plan = record { plan = plan; database = no_tables }
 
--- the values that are there
-abbrev pub known_of : List (Option Obj) → List (Option Value)
-known_of values = map (option_map value_of) values
-
 -- whether an instruction has a value
 abbrev pub is_there : List (Option Obj) → ℕ → Bool
 is_there values i = is_some (unwrap_or (slice_get values i) None)

@@ -1,59 +1,17 @@
 //! The arguments of instructions among the values so far.
 ghost use Rattle.std.specs.Prelude.{◌≡◌, ℕ, ◌<◌, ◌≤◌, ◌^◌, ◌||◌, length, map, true, false, slice_get, Some, None, IfOk, IfSome, IfNone};
-ghost use Rattle.std.specs.Option.{option_map};
-ghost use Rattle.cell_core.specs.declared.operator.Arg.TheVariants.{Var};
-ghost use Rattle.bat_core.specs.Objects.{value_of, values_of};
-ghost use Rattle.mal_meaning.specs.Meaning.{arg_value, arg_values};
+ghost use Rattle.bat_core.specs.Objects.{values_of};
+ghost use Rattle.mal_meaning.specs.Meaning.{arg_values};
 ghost use Rattle.dataflow.specs.Plans.{has};
 ghost use Rattle.flow_rows.specs.Sound as sound;
-ghost use Rattle.flow_rows.specs.Sound.{known_of};
+ghost use Rattle.mal_exec.specs.Results.{known_of};
 ghost use Rattle.flow_rows.specs.Ready.{IsReady, NoneReady, ArePassed};
 
 use bat_core::Obj;
-use cell_core::{Arg, Instr, Memory, Op};
+use cell_core::{Instr, Memory, Op};
 use dataflow::{Job, Task};
+use mal_exec::known_args;
 use std::alloc::Global;
-
-/// The value at a place, if there is one.
-fn value_at(values: &[Option<Obj>], place: u32) -> Result<Option<Obj>, Memory>
-    ensures { IfOk result (λ found. option_map value_of found ≡ arg_value (known_of values.now) (Var place)) }
-{
-    let Some(Some(value)) = values.get(place as usize) else {
-        return Ok(None);
-    };
-    let value = value.share()?;
-    Ok(Some(value))
-}
-
-/// The value of an argument, if it has one.
-fn arg_at(values: &[Option<Obj>], arg: &Arg) -> Result<Option<Obj>, Memory>
-    ensures { IfOk result (λ found. option_map value_of found ≡ arg_value (known_of values.now) arg.now) }
-{
-    match arg {
-        Arg::Const(cell) => {
-            let cell = cell.share()?;
-            Ok(Some(Obj::One(cell)))
-        }
-        Arg::Var(n) => value_at(values, *n),
-    }
-}
-
-/// The values of the arguments, if all have one.
-fn args_at(alloc: Global, values: &[Option<Obj>], args: &[Arg]) -> Result<Option<Vec<Obj>>, Memory>
-    ensures { IfOk result (λ found. option_map (λ v. values_of v.items) found ≡ arg_values (known_of values.now) args.now) }
-{
-    // Nothing is allocated where the first argument has no value, as with most that wait.
-    let mut found = Vec::new(alloc);
-    let mut rest = args;
-    'parts: while let [arg, more @ ..] = rest {
-        let Some(value) = arg_at(values, arg)? else {
-            return Ok(None);
-        };
-        found.push(value)?;
-        rest = more;
-    }
-    Ok(Some(found))
-}
 
 /// Whether an operator is the bind.
 pub(crate) fn is_bind(op: Op) -> bool
@@ -76,7 +34,7 @@ fn job_at(
     if is_bind(instr.op) {
         return Ok(None);
     }
-    let Some(args) = args_at(alloc, values, instr.args.as_slice())? else {
+    let Some(args) = known_args(alloc, values, instr.args.as_slice())? else {
         return Ok(None);
     };
     if handed.contains(&number) {

@@ -6,7 +6,8 @@ ghost use Rattle.dataflow.specs.Rules.{value_at};
 ghost use Rattle.dataflow.specs.Plans.{has, Grows};
 ghost use Rattle.flow_rows.specs.Ready.{ArePassed};
 ghost use Rattle.flow_rows.specs.Sound as sound;
-ghost use Rattle.flow_rows.specs.Sound.{is_there, is_job, known_of, over_nothing, OnlyDone, IsSound, IsRunnable};
+ghost use Rattle.mal_exec.specs.Results.{known_of};
+ghost use Rattle.flow_rows.specs.Sound.{is_there, is_job, over_nothing, OnlyDone, IsSound, IsRunnable};
 
 use crate::args::{first_left, is_bind, ready};
 use bat_core::{Bat, Obj, Shared};

@@ -2,12 +2,15 @@
 //!
 //! It stands on `bat_core` for columns and operators and on `mal_meaning` for plans. `run_plan` gives
 //! the rows of a plan's meaning and counts exactly its work; `run_instr` gives one instruction's value, for
-//! those who run a plan step by step; `output` makes the rows of an output from the values of a plan's
+//! those who run a plan step by step, and `run_op` that of an operator; `known_args` finds arguments among
+//! results that come in any order; `output` makes the rows of an output from the values of a plan's
 //! instructions.
 #![tactic(auto)]
 
+mod results;
 mod rows;
 mod run;
 
+pub use results::known_args;
 pub use rows::output;
-pub use run::{Done, Ran, run_instr, run_plan};
+pub use run::{Done, Ran, run_instr, run_op, run_plan};

@@ -4,7 +4,7 @@ ghost use Rattle.std.specs.Option.{option_map};
 ghost use Rattle.cell_core.specs.declared.memory.RunError.TheVariants as RunError;
 ghost use Rattle.cell_core.specs.Operators.{pairs_read};
 ghost use Rattle.bat_core.specs.Objects.{value_of, values_of};
-ghost use Rattle.mal_meaning.specs.Meaning.{arg_value, arg_values, bind_value, column_pairs, instr_value, instr_load, load_from, plan_rows, plan_load};
+ghost use Rattle.mal_meaning.specs.Meaning.{arg_value, arg_values, bind_value, column_pairs, instr_value, value_over, work_over, instr_load, load_from, plan_rows, plan_load};
 ghost use Rattle.mal_meaning.specs.Runs.{FitsHere, RunsFrom, Runs, run_values};
 
 use crate::rows::output;
@@ -120,6 +120,43 @@ fn pairs_of(values: &[Obj]) -> Result<u128, Memory>
     Ok(pairs)
 }
 
+/// The value of an operator on arguments that fit it, and its work, by which the counter rises. `Overflow`
+/// comes exactly where it has none, and then the counter rises by at most that work, and doesn't fall.
+pub fn run_op<C: Columns, E: Operate, L: Ledger>(
+    alloc: Global,
+    op: Op,
+    args: &[Obj],
+    columns: &C,
+    kernel: &E,
+    steps: &mut Steps<L>,
+) -> Result<Done, RunError>
+    requires { FitsHere (C.database columns.now) op (Some (values_of args.now)) }
+    ensures value { IfOk result (λ done. value_over (C.database columns.now) op (values_of args.now) ≡ Some (value_of done.value)) }
+    ensures work { IfOk result (λ done. done.work ≡ work_over (C.database columns.now) op (values_of args.now)) }
+    ensures counted { IfOk result (λ done. steps.new ≡ steps.old + done.work) }
+    ensures overflow { result ≡ Err RunError.Overflow → value_over (C.database columns.now) op (values_of args.now) ≡ None }
+    ensures later { result ≡ Err RunError.Overflow → steps.old ≤ steps.new }
+    ensures within { result ≡ Err RunError.Overflow → steps.new ≤ steps.old + work_over (C.database columns.now) op (values_of args.now) }
+{
+    if op == Op::Bind {
+        let Some(value) = bind(alloc, columns, args)? else {
+            unreachable!();
+        };
+        let work = value.pair_count();
+        steps.add(work);
+        return Ok(Done {
+            value,
+            work: u128::from(work),
+        });
+    }
+    let read = pairs_of(args)?;
+    let value = kernel.run(alloc, op, args, steps)?;
+    let work = read
+        .checked_add(u128::from(value.pair_count()))
+        .ok_or(Memory)?;
+    Ok(Done { value, work })
+}
+
 /// The value of an instruction, where those before it have these values, and its work, by which the
 /// counter rises. `Overflow` comes exactly where it has none, and then the counter rises by at most that
 /// work, and doesn't fall.
@@ -143,23 +180,7 @@ pub fn run_instr<C: Columns, E: Operate, L: Ledger>(
     let Some(args) = args_at(alloc, values, instr.args.as_slice())? else {
         unreachable!();
     };
-    if instr.op == Op::Bind {
-        let Some(value) = bind(alloc, columns, args.as_slice())? else {
-            unreachable!();
-        };
-        let work = value.pair_count();
-        steps.add(work);
-        return Ok(Done {
-            value,
-            work: u128::from(work),
-        });
-    }
-    let read = pairs_of(args.as_slice())?;
-    let value = kernel.run(alloc, instr.op, args.as_slice(), steps)?;
-    let work = read
-        .checked_add(u128::from(value.pair_count()))
-        .ok_or(Memory)?;
-    Ok(Done { value, work })
+    run_op(alloc, instr.op, args.as_slice(), columns, kernel, steps)
 }
 
 /// The same over the results so far.

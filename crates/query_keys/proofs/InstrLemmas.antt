@@ -26,7 +26,7 @@ use Rattle.mal_check.specs.Checked.{arg_type, arg_types, type_over, type_at, ins
 use Rattle.mal_check.specs.Pointwise.{FitsAt}
 use Rattle.mal_check.proofs.PointLemmas.{instrs_fit}
 use Rattle.lineage_key.specs.Keys.{IsNumbered}
-use Rattle.query_keys.specs.Laws.{InstrsRun, IsNextOf}
+use Rattle.query_keys.specs.Laws.{InstrsRun}
 
 -- ## Lists
 
@@ -152,50 +152,23 @@ pub numbered_args : (all : List ValueType) (n : ℕ) (instr : Instr) → HasType
 numbered_args all n instr has = subst (λ k. AllByRecursion (IsNumbered k) instr.args) has.at (numbered_from has.front instr.args has.args has.given)
 
 -- those before have the values that the arguments name
-taken_args : (n : ℕ) (values : List (Option Value)) (args : List Arg) → AllByRecursion (IsNumbered n) args → arg_values (take n values) args ≡ arg_values values args
+pub taken_args : (n : ℕ) (values : List (Option Value)) (args : List Arg) → AllByRecursion (IsNumbered n) args → arg_values (take n values) args ≡ arg_values values args
 taken_args n values [] known = refl
 taken_args n values (Const c ∷ args) known = ap (λ (vs : Option (List Value)). option_map (λ ys. One c ∷ ys) vs) (taken_args n values args known.1)
 taken_args n values (Var v ∷ args) known =
     ap (λ (o : Option (Option Value)). option_and_then (λ y. option_map (λ ys. y ∷ ys) (arg_values (take n values) args)) (unwrap_or o None)) (get_taken n v values known.0)
     ∙ ap (λ vs. option_and_then (λ y. option_map (λ ys. y ∷ ys) vs) (arg_value values (Var v))) (taken_args n values args known.1)
 
-value_there : (values : List Value) (v : ℕ) → v < length values → (value : Value) × (arg_value (map Some values) (Var v) ≡ Some value)
-value_there [] v low = absurd (omega (arith, low))
-value_there (x ∷ xs) zero low = (x, refl)
-value_there (x ∷ xs) (suc v) low = value_there xs v (omega (arith, low))
-
-args_there : (values : List Value) (args : List Arg) → AllByRecursion (IsNumbered (length values)) args → (found : List Value) × (arg_values (map Some values) args ≡ Some found)
-args_there values [] known = ([], refl)
-args_there values (Const c ∷ args) known = let rest = args_there values args known.1 in (One c ∷ rest.0, ap (λ (vs : Option (List Value)). option_map (λ ys. One c ∷ ys) vs) rest.1)
-args_there values (Var v ∷ args) known =
-    let first = value_there values v known.0 in
-    let rest = args_there values args known.1 in
-    (first.0 ∷ rest.0, ap (λ o. option_and_then (λ y. option_map (λ ys. y ∷ ys) (arg_values (map Some values) args)) o) first.1 ∙ ap (λ (vs : Option (List Value)). option_map (λ ys. first.0 ∷ ys) vs) rest.1)
-
 -- ## Running
 
-fits_on : (db : Db) (operator : Op) (found : Option (List Value)) (args : List Value) → found ≡ Some args → ((vs : List Value) → found ≡ Some vs → FitsHere db operator (Some vs)) → FitsHere db operator found
-fits_on db operator found args e fits = subst (FitsHere db operator) (sym e) (fits args e)
-
--- an instruction that fits among the values of all is the next one behind those before it
-next_of : (plan : Plan) (db : Db) (n : ℕ) (instr : Instr) (values : List Value) (t : ValueType) → AllByRecursion (IsNumbered n) instr.args → (instr.op ≡ Bind → IsNamed instr.args) → FitsAt db (plan_values db plan.instrs) n instr t
-    → map Some values ≡ take n (plan_values db plan.instrs) → length values ≡ n → IsNextOf db plan n instr values
-unfolding instr_value
-next_of plan db n instr values t numbered named known before long =
-    let all = plan_values db plan.instrs in
-    let same : arg_values (map Some values) instr.args ≡ arg_values all instr.args = ap (λ vs. arg_values vs instr.args) before ∙ taken_args n all instr.args numbered in
-    let there = args_there values instr.args (subst (λ k. AllByRecursion (IsNumbered k) instr.args) (sym long) numbered) in
-    record {
-      numbered = All-from_recursion (IsNumbered n) instr.args numbered;
-      fits = fits_on db instr.op (arg_values (map Some values) instr.args) there.0 there.1 (λ vs e. known.fits vs (sym same ∙ e));
-      named = λ bind. let names = named bind in (names.table, names.column, names.word, names.are);
-      value = known.value ∙ ap (λ vs. Some (option_and_then (value_over db instr.op) vs)) (sym same);
-      load = ap (λ (vs : Option (List Value)). option_map_or (work_over db instr.op) vs 0) (sym same);
-    }
-
 pub instrs_run_all : InstrsRun
-instrs_run_all plan db n instr values none fits here before long =
+instrs_run_all plan db n instr none fits here =
     let known = instrs_fit plan db none fits in
     let at = known.2 n instr here in
     let has = typed_at plan.instrs known.0 known.1 n instr here in
-    next_of plan db n instr values at.0 (numbered_args known.0 n instr has) (named_args known.0 n instr has) at.2 before long
+    record {
+      numbered = All-from_recursion (IsNumbered n) instr.args (numbered_args known.0 n instr has);
+      named = λ bind. let names = named_args known.0 n instr has bind in (names.table, names.column, names.word, names.are);
+      value = at.2.value;
+      fits = at.2.fits;
+    }

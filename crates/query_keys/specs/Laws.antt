@@ -38,20 +38,18 @@ use Rattle.run_log.specs.Fold.{LogState, after_admission, key_offer, key_present
 use Rattle.run_log.specs.Laws.{IsSound}
 use Rattle.query_keys.specs.Keys.{AreIdsOf, instr_key}
 
--- ## Instructions among the values of those before them
+-- ## Instructions among the values of all
 
--- the instruction with this number, where those before it have these values: its arguments are among them and fit, those of a bind name its column, and it has its value and its work by them
-pub record IsNextOf (db : Db) (plan : Plan) (n : ℕ) (instr : Instr) (values : List Value) : Type 0 where
+-- the instruction with this number, whatever became of the others: its arguments name instructions before it, those of a bind name its column, its value is that of its operator on theirs, and where they have values these fit it
+pub record IsInstrOf (db : Db) (plan : Plan) (n : ℕ) (instr : Instr) : Type 0 where
   pub numbered : All (IsNumbered n) instr.args
-  pub fits : FitsHere db instr.op (arg_values (map Some values) instr.args)
   pub named : instr.op ≡ Bind → (table column kind : List ℕ) × (instr.args ≡ arg.Const (Text table) ∷ arg.Const (Text column) ∷ arg.Const (Text kind) ∷ [])
-  pub value : slice_get (plan_values db plan.instrs) n ≡ Some (instr_value db (map Some values) instr)
-  pub load : instr_load db (plan_values db plan.instrs) instr ≡ instr_load db (map Some values) instr
+  pub value : slice_get (plan_values db plan.instrs) n ≡ Some (instr_value db (plan_values db plan.instrs) instr)
+  pub fits : (args : List Value) → arg_values (plan_values db plan.instrs) instr.args ≡ Some args → FitsHere db instr.op (Some args)
 
 -- so it is in each plan without a fault, over a database that it fits
 abbrev pub InstrsRun : Type 0
-InstrsRun = (plan : Plan) (db : Db) (n : ℕ) (instr : Instr) (values : List Value) → plan_fault plan ≡ None → FitsDb plan db
-    → slice_get plan.instrs n ≡ Some instr → map Some values ≡ take n (plan_values db plan.instrs) → length values ≡ n → IsNextOf db plan n instr values
+InstrsRun = (plan : Plan) (db : Db) (n : ℕ) (instr : Instr) → plan_fault plan ≡ None → FitsDb plan db → slice_get plan.instrs n ≡ Some instr → IsInstrOf db plan n instr
 
 -- ## Marked instructions
 

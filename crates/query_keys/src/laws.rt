@@ -1,8 +1,8 @@
 //! The laws. The calls compute nothing.
 ghost use Rattle.query_keys.specs.Laws.{FoundServes, GivenAreWorth, InstrsRun, MarkedAreBats, OffersFit};
 
-/// Each instruction of a plan without a fault has its value and its work by the values before it, which
-/// its arguments name and fit.
+/// Each instruction of a plan without a fault has its value by those that its arguments name, which stand
+/// before it and fit it.
 pub fn instrs_run()
     ensures { InstrsRun }
 {}

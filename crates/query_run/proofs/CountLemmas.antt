@@ -9,8 +9,8 @@ use Rattle.store_changes.specs.Work.{lost_unless}
 use Rattle.query_run.specs.declared.step.Query.{Query}
 use Rattle.query_run.specs.declared.step.Step.{Step}
 use Rattle.query_run.specs.declared.step.Step.TheVariants as step
-use Rattle.query_run.specs.Queries.{GoesOn, next_value}
-use Rattle.query_run.specs.Steps.{Counted, held, lost_at, lost_between}
+use Rattle.query_run.specs.Queries.{GoesOn, value_at}
+use Rattle.query_run.specs.Steps.{Counted, IsFresh, IsOpened, held, lost_at, lost_between}
 use Rattle.query_run.proofs.WalkLemmas.{no_rows}
 
 -- nothing is lost where the counter rises by what was done
@@ -21,57 +21,46 @@ pub counted_all : (from : Step) (result : Result Step Memory) (before after work
 counted_all from (Ok to) before after work is even = counted_even from to before after (even ∙ ap (λ n. before + n) (sym is))
 counted_all from (Err e) before after work is even = tt
 
--- ## Steps that are a query's
-
--- what a step holds, and what it may lose, is that of the query
-pub record IsStepOf (q : Query) (from : Step) : Type 0 where
-  pub holds : held from ≡ q.work
-  pub loses : (to : Step) → lost_between from to ≡ lost_at q to
-
 -- where the query overflows the load of its plan may be lost
-pub overflow_counted : (q : Query) (from to : Step) (before after : ℕ) → IsStepOf q from → plan_rows q.plan q.snap.db ≡ None → to ≡ step.Ending (shown.Refused Overflow) 0
+pub overflow_counted : (q : Query) (from to : Step) (before after : ℕ) → held from ≡ q.work → ((s : Step) → lost_between from s ≡ lost_at q s) → plan_rows q.plan q.snap.db ≡ None → to ≡ step.Ending (shown.Refused Overflow) 0
     → before ≤ after + q.work → after + q.work ≤ before + plan_load q.plan q.snap.db → Counted from to before after
-overflow_counted q from to before after is none ends least most = subst (λ (s : Step). Counted from s before after) (sym ends) (record {
-  least = let holds = is.holds in omega (arith, holds, least);
-  most = let holds = is.holds in omega (arith, holds, lost, most);
+overflow_counted q from to before after holds loses none ends least most = subst (λ (s : Step). Counted from s before after) (sym ends) (record {
+  least = omega (arith, holds, least);
+  most = omega (arith, holds, lost, most);
 })
   where
     lost : lost_between from (step.Ending (shown.Refused Overflow) 0) ≡ plan_load q.plan q.snap.db
-    lost = is.loses (step.Ending (shown.Refused Overflow) 0) ∙ ap (λ rows. lost_unless rows (plan_load q.plan q.snap.db)) none
+    lost = loses (step.Ending (shown.Refused Overflow) 0) ∙ ap (λ rows. lost_unless rows (plan_load q.plan q.snap.db)) none
+
+-- ## Room for results
 
 -- the same is lost by a query of the same plan over the same tables
-same_lost : (q new : Query) (to : Step) → new.snap ≡ q.snap → new.plan ≡ q.plan → lost_at new to ≡ lost_at q to
-same_lost q new (step.Ending reply work) snap plan = λ i. lost_unless (plan_rows (plan i) (snap i).db) (plan_load (plan i) (snap i).db)
-same_lost q new (step.Begun to) snap plan = refl
-same_lost q new (step.Asking to key) snap plan = refl
-same_lost q new (step.Found to found parts) snap plan = refl
-same_lost q new (step.Offering to offer) snap plan = refl
-same_lost q new (step.Gained to value id) snap plan = refl
+same_lost : (q to : Query) (s : Step) → to.snap ≡ q.snap → to.plan ≡ q.plan → lost_at to s ≡ lost_at q s
+same_lost q to (step.Ending reply work) snap plan = λ i. lost_unless (plan_rows (plan i) (snap i).db) (plan_load (plan i) (snap i).db)
+same_lost q to (step.Begun other) snap plan = refl
+same_lost q to (step.Open other) snap plan = refl
+same_lost q to (step.Asking other n key) snap plan = refl
+same_lost q to (step.Found other n found parts) snap plan = refl
+same_lost q to (step.Offering other n offer) snap plan = refl
 
-pub counted_from : (q new : Query) (from : Step) (result : Result Step Memory) (before after : ℕ) → IsStepOf q from → new.snap ≡ q.snap → new.plan ≡ q.plan → new.work ≡ q.work
-    → IfOk result (λ to. Counted (step.Begun new) to before after) → IfOk result (λ to. Counted from to before after)
-counted_from q new from (Ok to) before after is snap plan work counted = record { least = omega (arith, holds, least); most = omega (arith, holds, lost, most) }
+-- a query that has begun has counted what it has when it has room
+pub counted_opened : (q to : Query) (result : Result Step Memory) (before after : ℕ) → IsFresh q → IsOpened q to → IfOk result (λ s. Counted (step.Open to) s before after) → IfOk result (λ s. Counted (step.Begun q) s before after)
+counted_opened q to (Ok s) before after fresh opened counted = record {
+  least = let least = counted.least in omega (arith, none, least);
+  most = let most = counted.most in let lost = same_lost q to s opened.snap_is opened.plan_is in omega (arith, none, most, lost);
+}
   where
-    holds : held from ≡ new.work
-    holds = is.holds ∙ sym work
-
-    lost : lost_between from to ≡ lost_at new to
-    lost = is.loses to ∙ sym (same_lost q new to snap plan)
-
-    least : before + held to ≤ after + new.work
-    least = counted.least
-
-    most : after + new.work ≤ (before + held to) + lost_at new to
-    most = counted.most
-counted_from q new from (Err e) before after is snap plan work counted = tt
+    none : q.work ≡ to.work
+    none = fresh.work ∙ sym opened.work_is
+counted_opened q to (Err e) before after fresh opened counted = tt
 
 -- ## The walk
 
 -- a walk that overflows: the counter had risen by the work so far
-pub walk_overflows : (q to : Query) (end : Step) (before middle after : ℕ) → GoesOn q.snap q.plan q.ids.items to → next_value to ≡ Some None → end ≡ step.Ending (shown.Refused Overflow) 0
-    → middle + q.work ≡ before + to.work → middle ≤ after → after + to.work ≤ middle + plan_load to.plan to.snap.db → Counted (step.Begun q) end before after
-walk_overflows q to end before middle after goes none ends so_far later within =
-    overflow_counted q (step.Begun q) end before after (record { holds = refl; loses = λ s. refl }) ((λ i. plan_rows (sym goes.plan_is i) (sym goes.snap_is i).db) ∙ no_rows to none) ends (omega (arith, so_far, later)) (omega (arith, so_far, load, within))
+pub walk_overflows : (q to : Query) (n : ℕ) (end : Step) (before middle after : ℕ) → GoesOn q to → value_at to n ≡ Some None → end ≡ step.Ending (shown.Refused Overflow) 0
+    → middle + q.work ≡ before + to.work → middle ≤ after → after + to.work ≤ middle + plan_load to.plan to.snap.db → Counted (step.Open q) end before after
+walk_overflows q to n end before middle after goes none ends so_far later within =
+    overflow_counted q (step.Open q) end before after refl (λ s. refl) ((λ i. plan_rows (sym goes.plan_is i) (sym goes.snap_is i).db) ∙ no_rows to n none) ends (omega (arith, so_far, later)) (omega (arith, so_far, load, within))
   where
     load : plan_load to.plan to.snap.db ≡ plan_load q.plan q.snap.db
     load = λ i. plan_load (goes.plan_is i) (goes.snap_is i).db

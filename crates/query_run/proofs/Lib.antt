@@ -1,7 +1,7 @@
-pub mod ReadLemmas
-pub mod StepLemmas
-pub mod WalkLemmas
+pub mod ResultLemmas
 pub mod WorkLemmas
-pub mod AskLemmas
+pub mod WalkLemmas
 pub mod CountLemmas
 pub mod OfferLemmas
+pub mod ReadLemmas
+pub mod ReadyLemmas

@@ -1,49 +1,44 @@
 -- Values that arguments name, and keys.
 use Rattle.std.proofs.Common.{◌≡◌, ℕ, ◌+◌, List, [], ◌∷◌, map, length, Bool, true, false, cond, Option, Some, None, refl, ap, sym, ◌∙◌, subst, arith}
-use Rattle.std.specs.Prelude.{slice_get, IfSome}
+use Rattle.std.specs.Prelude.{IfSome, IsSome, slice_get, unwrap_or}
 use Rattle.std.specs.Option.{option_map}
-use Rattle.std.proofs.lemmas.List.{length-map}
 use Rattle.std.proofs.lemmas.List.Sums.{sum_by-cons}
-use Rattle.std.proofs.lemmas.Option.{same_Some}
+use Rattle.std.proofs.lemmas.Option.{same_Some, slice_get-map}
 use Rattle.cell_core.specs.declared.cell.Cell.TheVariants.{Text}
 use Rattle.cell_core.specs.declared.operator.Arg.{Arg}
 use Rattle.cell_core.specs.declared.operator.Arg.TheVariants as arg
 use Rattle.cell_core.specs.declared.operator.Instr.{Instr}
 use Rattle.cell_core.specs.declared.operator.Op.TheVariants as op
 use Rattle.cell_core.specs.declared.operator.Value.{Value}
+use Rattle.cell_core.specs.declared.operator.Value.TheVariants.{Bat}
 use Rattle.cell_core.specs.declared.table.Db.{Db}
+use Rattle.cell_core.specs.Operators.{pairs_read}
 use Rattle.cell_core.specs.Pairs.{Pairs, pair_count}
 use Rattle.cell_core.specs.SameInstr.{same_op, same_op_decides}
 use Rattle.bat_core.specs.declared.shared.Obj.{Obj}
-use Rattle.bat_core.specs.Objects.{value_of, values_of}
-use Rattle.cell_core.specs.declared.operator.Value.TheVariants.{Bat}
-use Rattle.cell_core.specs.Operators.{pairs_read}
-use Rattle.mal_meaning.specs.Meaning.{arg_value, arg_values, instr_load, instr_value}
-use Rattle.mal_meaning.specs.Runs.{FitsHere}
-use Rattle.mal_exec.proofs.RowLemmas.{named}
+use Rattle.bat_core.specs.Objects.{value_of}
 use Rattle.mal_meaning.specs.declared.plan.Plan.{Plan}
+use Rattle.mal_meaning.specs.Meaning.{arg_value, arg_values, instr_load, instr_value}
+use Rattle.mal_exec.specs.Results.{known_of}
 use Rattle.lineage_key.specs.declared.key.Key.{Key}
 use Rattle.lineage_key.specs.declared.key.KeyArg.TheVariants.{Const}
 use Rattle.lineage_key.specs.Keys.{arg_for, key_for}
 use Rattle.lineage_key.specs.Parents.{is_bind, table_of, column_of}
 use Rattle.pool_policy.specs.Versions.{Versions}
 use Rattle.query_keys.specs.Keys.{with_version}
-use Rattle.query_keys.specs.Laws.{InstrsRun, IsNextOf}
+use Rattle.query_keys.specs.Laws.{InstrsRun, IsInstrOf}
 use Rattle.query_keys.proofs.InstrLemmas.{split}
 use Rattle.query_keys.proofs.StepLemmas.{load_made}
 use Rattle.query_run.specs.declared.step.Query.{Query}
-use Rattle.query_run.specs.Queries.{IsUnderWay, all_values, next_value}
+use Rattle.query_run.specs.Queries.{HasArgs, IsUnderWay, all_values, value_at}
+use Rattle.query_run.proofs.ResultLemmas.{args_known, instr_is}
 
 -- ## How many pairs an argument has
 
-pub pairs_found : (objs : List Obj) (a : Arg) (n : ℕ) (obj : Obj) (count : ℕ) → a ≡ arg.Var n → slice_get objs n ≡ Some obj → count ≡ pair_count (value_of obj)
-    → IfSome (arg_value (map Some (values_of objs)) a) (λ found. count ≡ pair_count found)
-pairs_found objs a n obj count is there counted =
-    subst (λ (o : Option Value). IfSome o (λ found. count ≡ pair_count found)) (sym (ap (arg_value (map Some (values_of objs))) is ∙ named objs n ∙ ap (option_map value_of) there)) counted
-
-pub pairs_none : (objs : List Obj) (a : Arg) (n : ℕ) → a ≡ arg.Var n → slice_get objs n ≡ None → IfSome (arg_value (map Some (values_of objs)) a) (λ found. 0 ≡ pair_count found)
-pairs_none objs a n is none =
-    subst (λ (o : Option Value). IfSome o (λ found. 0 ≡ pair_count found)) (sym (ap (arg_value (map Some (values_of objs))) is ∙ named objs n ∙ ap (option_map value_of) none)) tt
+-- what is said of the value at a place holds of the argument that names it
+pub pairs_found : (results : List (Option Obj)) (a : Arg) (n : ℕ) (o : Option Value) (count : ℕ) → a ≡ arg.Var n → o ≡ arg_value (known_of results) (arg.Var n) → IfSome o (λ found. count ≡ pair_count found)
+    → IfSome (arg_value (known_of results) a) (λ found. count ≡ pair_count found)
+pairs_found results a n o count is there counted = subst (λ (o : Option Value). IfSome o (λ found. count ≡ pair_count found)) (there ∙ ap (arg_value (known_of results)) (sym is)) counted
 
 -- where all arguments have values, the first and the others have
 pub first_read : (values : List (Option Value)) (first : Arg) (rest : List Arg) (all : List Value) (count pairs whole : ℕ) → arg_values values (first ∷ rest) ≡ Some all → IfSome (arg_value values first) (λ found. count ≡ pair_count found)
@@ -78,30 +73,29 @@ pairs_step values args rest tail first pairs count all is counted sum before = g
 
 -- ## The stated work
 
-pub work_stated : InstrsRun → (q : Query) (instr : Instr) (value : Pairs) (read work : ℕ) → IsUnderWay q → slice_get q.plan.instrs (length q.values) ≡ Some instr → next_value q ≡ Some (Some (Bat value))
-    → IfSome (arg_values (map Some (values_of q.values)) instr.args) (λ found. read ≡ pairs_read found) → work ≡ read + length value → work ≡ instr_load q.snap.db (all_values q) instr
-work_stated run q instr value read work under here there counted sum =
-    sum ∙ go (arg_values (map Some (values_of q.values)) instr.args) refl next.fits counted ∙ sym next.load
+pub work_stated : InstrsRun → (q : Query) (n : ℕ) (instr : Instr) (value : Value) (read work : ℕ) → IsUnderWay q → slice_get q.plan.instrs n ≡ Some instr → HasArgs q instr → value_at q n ≡ Some (Some value)
+    → IfSome (arg_values (known_of q.values.items) instr.args) (λ found. read ≡ pairs_read found) → work ≡ read + pair_count value → work ≡ instr_load q.snap.db (all_values q) instr
+work_stated run q n instr value read work under here has there counted sum = go (arg_values (known_of q.values.items) instr.args) refl has counted
   where
-    next : IsNextOf q.snap.db q.plan (length q.values) instr (values_of q.values)
-    next = run q.plan q.snap.db (length q.values) instr (values_of q.values) under.checked under.fits here under.values (length-map q.values value_of)
+    own : IsInstrOf q.snap.db q.plan n instr
+    own = instr_is run q under n instr here
 
-    is : instr_value q.snap.db (map Some (values_of q.values)) instr ≡ Some (Bat value)
-    is = same_Some (instr_value q.snap.db (map Some (values_of q.values)) instr) (Some (Bat value)) (sym next.value ∙ there)
+    is : instr_value q.snap.db (all_values q) instr ≡ Some value
+    is = same_Some (instr_value q.snap.db (all_values q) instr) (Some value) (sym own.value ∙ there)
 
-    go : (o : Option (List Value)) → arg_values (map Some (values_of q.values)) instr.args ≡ o → FitsHere q.snap.db instr.op o → IfSome o (λ found. read ≡ pairs_read found)
-        → read + length value ≡ instr_load q.snap.db (map Some (values_of q.values)) instr
-    go None given fits read_is = absurd fits
-    go (Some args) given fits read_is = ap (λ n. n + length value) read_is ∙ sym (load_made q.snap.db (map Some (values_of q.values)) instr args (Bat value) given is)
+    go : (o : Option (List Value)) → arg_values (known_of q.values.items) instr.args ≡ o → IsSome o → IfSome o (λ found. read ≡ pairs_read found) → work ≡ instr_load q.snap.db (all_values q) instr
+    go None given some read_is = absurd (let no : false ≡ true = some in cc)
+    go (Some args) given some read_is =
+        sum ∙ ap (λ n. n + pair_count value) read_is ∙ sym (load_made q.snap.db (all_values q) instr args value (args_known q under instr.args args given) is)
 
 -- ## Keys
 
 -- a bind names its table, its column and the column's kind
-pub bind_named : (db : Db) (plan : Plan) (n : ℕ) (instr : Instr) (values : List Value) (ids : List ℕ) (key : Key) → IsNextOf db plan n instr values → key ≡ key_for instr ids 0
+pub bind_named : (db : Db) (plan : Plan) (n : ℕ) (instr : Instr) (ids : List ℕ) (key : Key) → IsInstrOf db plan n instr → key ≡ key_for instr ids 0
     → is_bind key ≡ true → (table column kind : List ℕ) × (key.args ≡ Const (Text table) ∷ Const (Text column) ∷ Const (Text kind) ∷ [])
-bind_named db plan n instr values ids key next key_is bind =
+bind_named db plan n instr ids key own key_is bind =
     let op_is : instr.op ≡ op.Bind = (same_op_decides instr.op op.Bind).0 (ap (λ (k : Key). same_op k.op op.Bind) (sym key_is) ∙ bind) in
-    let found = next.named op_is in
+    let found = own.named op_is in
     (found.0, found.1, found.2, ap (λ (k : Key). k.args) key_is ∙ ap (map (arg_for ids)) found.3)
 
 -- a key with its version

@@ -1,3 +1,3 @@
-pub mod Next
 pub mod Queries
 pub mod Steps
+pub mod Ready

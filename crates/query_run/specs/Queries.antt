@@ -1,17 +1,20 @@
 -- A query under way, by itself: what it has computed, and what it does next.
-use Rattle.std.specs.Prelude.{◌≡◌, ℕ, ◌+◌, ◌<◌, ◌^◌, List, ◌∷◌, map, take, drop, length, sum_by, Bool, true, false, Option, Some, None, slice_get}
+use Rattle.std.specs.Prelude.{◌≡◌, ℕ, ◌+◌, ◌<◌, ◌^◌, List, ◌∷◌, map, take, length, slice_index_or, slice_set, sum_by, Bool, true, false, Option, Some, None, IsSome, is_some, slice_get}
 use Rattle.std.specs.List.{AllByRecursion}
 use Rattle.cell_core.specs.declared.cell.Cell.{Cell}
 use Rattle.cell_core.specs.declared.operator.Instr.{Instr}
 use Rattle.cell_core.specs.declared.operator.Value.{Value}
 use Rattle.cell_core.specs.declared.operator.Value.TheVariants.{Bat}
 use Rattle.cell_core.specs.declared.table.Db.{Db}
-use Rattle.cell_core.specs.Pairs.{heads_of, is_true}
+use Rattle.cell_core.specs.Pairs.{Pairs, heads_of, is_true}
 use Rattle.cell_core.specs.Relations.{selected}
 use Rattle.chunk_core.specs.Facts.{rises}
-use Rattle.bat_core.specs.Objects.{values_of}
+use Rattle.bat_core.specs.declared.shared.Obj.{Obj}
+use Rattle.bat_core.specs.declared.shared.Obj.TheVariants as obj
+use Rattle.bat_core.specs.Objects.{value_of}
+use Rattle.mal_exec.specs.Results.{known_of}
 use Rattle.mal_meaning.specs.declared.plan.Plan.{Plan}
-use Rattle.mal_meaning.specs.Meaning.{instr_load, plan_rows, plan_values}
+use Rattle.mal_meaning.specs.Meaning.{arg_values, instr_load, plan_rows, plan_values}
 use Rattle.mal_check.specs.Checked.{plan_fault}
 use Rattle.mal_check.specs.Runnable.{FitsDb}
 use Rattle.recycle_mark.specs.Marks.{marks_of}
@@ -36,7 +39,6 @@ use Rattle.query_run.specs.declared.step.Query.{Query}
 use Rattle.query_run.specs.declared.step.Offer.{Offer}
 use Rattle.query_run.specs.declared.step.Step.{Step}
 use Rattle.query_run.specs.declared.step.Step.TheVariants as step
-use Rattle.query_run.specs.Next.{Next, Faults, Finishes, next_from, padded}
 
 -- ## What it has computed
 
@@ -44,12 +46,32 @@ use Rattle.query_run.specs.Next.{Next, Faults, Finishes, next_from, padded}
 abbrev pub versions_in : Content → Versions
 versions_in snap table column = version_of table column snap
 
--- the values of all instructions of a plan over a snapshot
-abbrev pub values_over : Content → Plan → List (Option Value)
-values_over snap plan = plan_values snap.db plan.instrs
-
+-- the values of all instructions of its plan
 abbrev pub all_values : Query → List (Option Value)
-all_values q = values_over q.snap q.plan
+all_values q = plan_values q.snap.db q.plan.instrs
+
+-- the value of an instruction, where there is one with this number
+abbrev pub value_at : Query → ℕ → Option (Option Value)
+value_at q n = slice_get (all_values q) n
+
+-- the result of an instruction, where it is there
+abbrev pub result_at : Query → ℕ → Option Obj
+result_at q n = slice_index_or q.values.items n None
+
+abbrev pub has_result : Query → ℕ → Bool
+has_result q n = is_some (result_at q n)
+
+-- its id, 0 for none
+abbrev pub id_at : Query → ℕ → ℕ
+id_at q n = slice_index_or q.ids.items n 0
+
+-- whether the pool was asked for it in vain
+abbrev pub was_asked : Query → ℕ → Bool
+was_asked q n = slice_index_or q.asked.items n false
+
+-- an instruction is marked, or isn't
+abbrev pub HasMark : Query → ℕ → Bool → Type 0
+HasMark q n mark = slice_get (marks_of q.plan) n ≡ Some mark
 
 -- the load of those of some instructions that aren't marked, by the values of all
 abbrev pub unmarked_load : Db → List (Option Value) → List Instr → List Bool → ℕ
@@ -61,70 +83,90 @@ unmarked_load db values _ _ = 0
 abbrev pub unmarked_work : Plan → Db → ℕ
 unmarked_work plan db = unmarked_load db (plan_values db plan.instrs) plan.instrs (marks_of plan)
 
--- its plan has no fault and fits its tables; its results are the values of its first instructions, each with an id; and its work is that of those that aren't marked
+-- and of those of them whose results are there
+abbrev pub done_load : Db → List (Option Value) → List Instr → List Bool → List (Option Obj) → ℕ
+done_load db values (instr ∷ instrs) (false ∷ marks) (Some result ∷ results) = instr_load db values instr + done_load db values instrs marks results
+done_load db values (instr ∷ instrs) (mark ∷ marks) (result ∷ results) = done_load db values instrs marks results
+done_load db values _ _ _ = 0
+
+-- its plan has no fault and fits its tables; each of its results is the value of its instruction; only a marked one that is there has an id; and its work is that of those that aren't marked
 pub record IsUnderWay (q : Query) : Type 0 where
   pub checked : plan_fault q.plan ≡ None
   pub fits : FitsDb q.plan q.snap.db
   pub marks : q.marks.items ≡ marks_of q.plan
-  pub ids : length q.ids.items ≡ length q.values
-  pub values : map Some (values_of q.values) ≡ take (length q.values) (all_values q)
-  pub work : q.work ≡ unmarked_load q.snap.db (all_values q) (take (length q.values) q.plan.instrs) (take (length q.values) (marks_of q.plan))
+  pub few : length q.plan.instrs < 2 ^ 32
+  pub values : length q.values.items ≡ length q.plan.instrs
+  pub ids : length q.ids.items ≡ length q.plan.instrs
+  pub asked : length q.asked.items ≡ length q.plan.instrs
+  pub known : (n : ℕ) (result : Obj) → result_at q n ≡ Some result → value_at q n ≡ Some (Some (value_of result))
+  pub bare : (n : ℕ) → has_result q n ≡ false → id_at q n ≡ 0
+  pub plain : (n : ℕ) → HasMark q n false → id_at q n ≡ 0
+  pub work : q.work ≡ done_load q.snap.db (all_values q) q.plan.instrs (marks_of q.plan) q.values.items
 
--- the next instruction is marked, and this is it
-pub record IsAt (q : Query) (instr : Instr) : Type 0 where
-  pub here : slice_get q.plan.instrs (length q.values) ≡ Some instr
-  pub marked : slice_get (marks_of q.plan) (length q.values) ≡ Some true
+-- this marked instruction has no result yet
+pub record IsAt (q : Query) (n : ℕ) (instr : Instr) : Type 0 where
+  pub here : slice_get q.plan.instrs n ≡ Some instr
+  pub marked : HasMark q n true
+  pub open_ : has_result q n ≡ false
 
--- its value, where it has one
-abbrev pub next_value : Query → Option (Option Value)
-next_value q = slice_get (all_values q) (length q.values)
+-- the arguments of an instruction have their results
+abbrev pub HasArgs : Query → Instr → Type 0
+HasArgs q instr = IsSome (arg_values (known_of q.values.items) instr.args)
 
--- ## What it does next
+-- all results before an instruction are there
+abbrev pub HasBefore : Query → ℕ → Type 0
+HasBefore q n = (m : ℕ) → m < n → has_result q m ≡ true
 
--- what comes next behind results with these ids
-abbrev pub next_behind : Content → Plan → List ℕ → Next
-next_behind snap plan ids = next_from (length ids) (drop (length ids) plan.instrs) (drop (length ids) (marks_of plan)) (drop (length ids) (values_over snap plan))
+-- ## It goes on
 
--- a query goes on from results with these ids without a look: some results more have no ids
-pub record GoesOn (snap : Content) (plan : Plan) (ids : List ℕ) (to : Query) : Type 0 where
-  pub snap_is : to.snap ≡ snap
-  pub plan_is : to.plan ≡ plan
+-- a query has results more, of instructions that aren't marked
+pub record GoesOn (q to : Query) : Type 0 where
+  pub snap_is : to.snap ≡ q.snap
+  pub plan_is : to.plan ≡ q.plan
   pub under : IsUnderWay to
-  pub ids_are : to.ids.items ≡ padded (length to.ids.items) ids
-  pub next_is : next_behind snap plan ids ≡ next_behind snap plan to.ids.items
+  pub ids_are : to.ids.items ≡ q.ids.items
+  pub asked_are : to.asked.items ≡ q.asked.items
+  pub keeps : (n : ℕ) → has_result q n ≡ true → has_result to n ≡ true
+  pub marked_same : (n : ℕ) → HasMark q n true → has_result to n ≡ has_result q n
+
+-- the key of an instruction's result, by the ids of those before it
+abbrev pub key_in : Query → ℕ → Instr → Key
+key_in q n instr = instr_key instr (versions_in q.snap) (take n q.ids.items)
 
 -- it asks for the result of this instruction
-pub record AsksFor (snap : Content) (plan : Plan) (ids : List ℕ) (to : Query) (key : Key) : Type 0 where
-  pub goes : GoesOn snap plan ids to
+pub record AsksFor (q : Query) (n : ℕ) (key : Key) : Type 0 where
   pub instr : Instr
-  pub at : IsAt to instr
-  pub key_is : key ≡ instr_key instr (versions_in snap) to.ids.items
+  pub at : IsAt q n instr
+  pub args : HasArgs q instr
+  pub key_is : key ≡ key_in q n instr
 
--- it ends: with its rows and the work of its unmarked instructions, or with an overflow, of which no work counts
-pub data EndsWith (snap : Content) (plan : Plan) (ids : List ℕ) (reply : Shown) (work : ℕ) : Type 0 where
-  Overflows : next_behind snap plan ids ≡ Faults → plan_rows plan snap.db ≡ None → reply ≡ shown.Refused Overflow → work ≡ 0 → EndsWith snap plan ids reply work
-  HasRows : (rows : List (List Cell)) → next_behind snap plan ids ≡ Finishes → plan_rows plan snap.db ≡ Some rows → reply ≡ shown.Rows rows → work ≡ unmarked_work plan snap.db → EndsWith snap plan ids reply work
+-- how a query ends that goes through its plan in order
+pub data EndsWith (q : Query) (reply : Shown) (work : ℕ) : Type 0 where
+  -- an instruction that isn't marked has no value
+  Overflows : (to : Query) (n : ℕ) → GoesOn q to → HasBefore to n → HasMark to n false → value_at to n ≡ Some None → plan_rows q.plan q.snap.db ≡ None → reply ≡ shown.Refused Overflow → work ≡ 0 → EndsWith q reply work
+  -- all results are there
+  HasRows : (to : Query) (rows : List (List Cell)) → GoesOn q to → HasBefore to (length q.plan.instrs) → plan_rows q.plan q.snap.db ≡ Some rows → reply ≡ shown.Rows rows → work ≡ unmarked_work q.plan q.snap.db → EndsWith q reply work
 
--- where it comes to from results with these ids
-abbrev pub ComesTo : Content → Plan → List ℕ → Step → Type 0
-ComesTo snap plan ids (step.Asking to key) = AsksFor snap plan ids to key
-ComesTo snap plan ids (step.Ending reply work) = EndsWith snap plan ids reply work
-ComesTo snap plan ids _ = ⊥
+-- where it comes to, if it goes through its plan in order
+abbrev pub ComesTo : Query → Step → Type 0
+ComesTo q (step.Asking to n key) = GoesOn q to × HasBefore to n × AsksFor to n key
+ComesTo q (step.Ending reply work) = EndsWith q reply work
+ComesTo q _ = ⊥
 
 -- ## What is found
 
--- what was found serves the next instruction: from a containing selection its bounds select its value; and the pieces of a cover are its value once they are merged by their heads, which rise in each
-abbrev pub Serves : Query → Instr → Found → List Part → Type 0
-Serves q instr (found.Exact id value) parts = ⊥
-Serves q instr (found.Within id value) parts = (low high li hi : Cell) × HasBounds instr low high li hi × (next_value q ≡ Some (Some (Bat (selected low high (is_true li) (is_true hi) value))))
-Serves q instr (found.Across count) parts = (next_value q ≡ Some (Some (Bat (merged (map (λ (part : Part). selected_in part.span part.value) parts)))))
+-- what was found serves an instruction: from a containing selection its bounds select its value; and the pieces of a cover are its value once they are merged by their heads, which rise in each
+abbrev pub Serves : Query → ℕ → Instr → Found → List Part → Type 0
+Serves q n instr (found.Exact id value) parts = ⊥
+Serves q n instr (found.Within id value) parts = (low high li hi : Cell) × HasBounds instr low high li hi × (value_at q n ≡ Some (Some (Bat (selected low high (is_true li) (is_true hi) value))))
+Serves q n instr (found.Across count) parts = (value_at q n ≡ Some (Some (Bat (merged (map (λ (part : Part). selected_in part.span part.value) parts)))))
     × AllByRecursion (λ (part : Part). rises (heads_of (selected_in part.span part.value)) ≡ true) parts
-Serves q instr found.Miss parts = Unit {0}
+Serves q n instr found.Miss parts = Unit {0}
 
--- the next result is offered under its key
-pub record IsOffered (q : Query) (instr : Instr) (offer : Offer) : Type 0 where
-  pub key : offer.key ≡ instr_key instr (versions_in q.snap) q.ids.items
-  pub value : next_value q ≡ Some (Some (Bat offer.value))
+-- the result of an instruction is offered under its key
+pub record IsOffered (q : Query) (n : ℕ) (instr : Instr) (offer : Offer) : Type 0 where
+  pub key : offer.key ≡ key_in q n instr
+  pub value : value_at q n ≡ Some (Some (Bat offer.value))
   pub work : offer.work ≡ instr_load q.snap.db (all_values q) instr
   pub small : offer.work < 2 ^ 62
 
@@ -138,15 +180,35 @@ work_from (found.Across count) parts load pairs = sum_by part_work parts + pairs
 work_from _ parts load pairs = load
 
 -- what comes of what was found: the result is offered, or there is none
-abbrev pub BecomesOf : Query → Instr → Found → List Part → Step → Type 0
-BecomesOf q instr what parts (step.Offering to offer) = (to ≡ q) × IsOffered q instr offer × (offer.done ≡ work_from what parts offer.work (length offer.value))
-BecomesOf q instr what parts (step.Ending reply work) = (next_value q ≡ Some None) × (plan_rows q.plan q.snap.db ≡ None) × (reply ≡ shown.Refused Overflow) × (work ≡ 0)
-BecomesOf q instr what parts _ = ⊥
+abbrev pub BecomesOf : Query → ℕ → Instr → Found → List Part → Step → Type 0
+BecomesOf q n instr what parts (step.Offering to at offer) = (to ≡ q) × (at ≡ n) × IsOffered q n instr offer × (offer.done ≡ work_from what parts offer.work (length offer.value))
+BecomesOf q n instr what parts (step.Ending reply work) = (value_at q n ≡ Some None) × (plan_rows q.plan q.snap.db ≡ None) × (reply ≡ shown.Refused Overflow) × (work ≡ 0)
+BecomesOf q n instr what parts _ = ⊥
 
 -- ## What the pool says
 
+-- a query with the result of an instruction and its id, and with this work
+pub record HasGained (q : Query) (n : ℕ) (result : Obj) (id work : ℕ) (to : Query) : Type 0 where
+  pub snap_is : to.snap ≡ q.snap
+  pub plan_is : to.plan ≡ q.plan
+  pub marks_are : to.marks.items ≡ q.marks.items
+  pub asked_are : to.asked.items ≡ q.asked.items
+  pub values_are : to.values.items ≡ slice_set q.values.items n (Some result)
+  pub ids_are : to.ids.items ≡ slice_set q.ids.items n id
+  pub work_is : to.work ≡ work
+
+-- a query that has asked for the result of an instruction in vain
+pub record HasAsked (q : Query) (n : ℕ) (to : Query) : Type 0 where
+  pub snap_is : to.snap ≡ q.snap
+  pub plan_is : to.plan ≡ q.plan
+  pub marks_are : to.marks.items ≡ q.marks.items
+  pub values_are : to.values.items ≡ q.values.items
+  pub ids_are : to.ids.items ≡ q.ids.items
+  pub asked_are : to.asked.items ≡ slice_set q.asked.items n true
+  pub work_is : to.work ≡ q.work
+
 -- what a look found: the result itself, or what it can be computed from
-abbrev pub IsLooked : Query → PoolState → Key → Step → Type 0
-IsLooked q pool key (step.Gained to value id) = (to ≡ q) × (look_of pool key ≡ Exact id) × (value_in (faces pool.entries) id ≡ Some value)
-IsLooked q pool key (step.Found to what parts) = (to ≡ q) × (told what parts.items ≡ look_of pool key) × HandsOut pool.entries what parts.items × ((id : ℕ) → look_of pool key ≡ Exact id → ⊥)
-IsLooked q pool key _ = ⊥
+abbrev pub IsLooked : Query → ℕ → PoolState → Key → Step → Type 0
+IsLooked q n pool key (step.Open to) = (id : ℕ) × (value : Pairs) × HasGained q n (obj.Bat value) id q.work to × (look_of pool key ≡ Exact id) × (value_in (faces pool.entries) id ≡ Some value)
+IsLooked q n pool key (step.Found to at what parts) = (at ≡ n) × HasAsked q n to × (told what parts.items ≡ look_of pool key) × HandsOut pool.entries what parts.items × ((id : ℕ) → look_of pool key ≡ Exact id → ⊥)
+IsLooked q n pool key _ = ⊥

@@ -1,27 +1,44 @@
 -- What a query's steps know by themselves, and how one follows from another.
-use Rattle.std.specs.Prelude.{◌≡◌, ℕ, ◌+◌, ◌≤◌, [], ◌∷◌, ◌++◌, length, true, Some, slice_get}
+use Rattle.std.specs.Prelude.{◌≡◌, ℕ, ◌+◌, ◌≤◌, [], true, false, None}
 use Rattle.cell_core.specs.declared.operator.Instr.{Instr}
-use Rattle.cell_core.specs.declared.operator.Value.TheVariants.{Bat}
 use Rattle.mal_meaning.specs.Meaning.{plan_load, plan_rows}
+use Rattle.mal_check.specs.Checked.{plan_fault}
+use Rattle.mal_check.specs.Runnable.{FitsDb}
 use Rattle.recycle_mark.specs.Marks.{marks_of}
 use Rattle.store_changes.specs.Work.{lost_unless}
 use Rattle.query_run.specs.declared.step.Query.{Query}
 use Rattle.query_run.specs.declared.step.Step.{Step}
 use Rattle.query_run.specs.declared.step.Step.TheVariants as step
-use Rattle.query_run.specs.Queries.{BecomesOf, ComesTo, IsAt, IsUnderWay, Serves, next_value}
+use Rattle.query_run.specs.Queries.{BecomesOf, ComesTo, HasArgs, IsAt, IsUnderWay, Serves, has_result, was_asked}
+
+-- a query that has begun: its plan has no fault and fits its tables
+pub record IsFresh (q : Query) : Type 0 where
+  pub checked : plan_fault q.plan ≡ None
+  pub fits : FitsDb q.plan q.snap.db
+  pub marks : q.marks.items ≡ marks_of q.plan
+  pub work : q.work ≡ 0
+
+-- it has room for its results, of which none is there
+pub record IsOpened (q to : Query) : Type 0 where
+  pub snap_is : to.snap ≡ q.snap
+  pub plan_is : to.plan ≡ q.plan
+  pub under : IsUnderWay to
+  pub none : (n : ℕ) → has_result to n ≡ false
+  pub unasked : (n : ℕ) → was_asked to n ≡ false
+  pub work_is : to.work ≡ 0
 
 -- what a step that computes needs
 abbrev pub IsSoundStep : Step → Type 0
-IsSoundStep (step.Begun q) = IsUnderWay q
-IsSoundStep (step.Found q found parts) = IsUnderWay q × ((instr : Instr) × IsAt q instr × Serves q instr found parts.items)
-IsSoundStep (step.Gained q value id) = IsUnderWay q × (next_value q ≡ Some (Some (Bat value))) × (slice_get (marks_of q.plan) (length q.values) ≡ Some true)
+IsSoundStep (step.Begun q) = IsFresh q
+IsSoundStep (step.Open q) = IsUnderWay q
+IsSoundStep (step.Found q n found parts) = IsUnderWay q × ((instr : Instr) × IsAt q n instr × HasArgs q instr × Serves q n instr found parts.items)
 IsSoundStep _ = Unit {0}
 
--- what it comes to; a step whose event stands stays as it is
+-- what it comes to, where the query goes through its plan in order; a step whose event stands stays as it is
 abbrev pub Computes : Step → Step → Type 0
-Computes (step.Begun q) to = ComesTo q.snap q.plan q.ids.items to
-Computes (step.Found q found parts) to = (instr : Instr) → IsAt q instr → BecomesOf q instr found parts.items to
-Computes (step.Gained q value id) to = ComesTo q.snap q.plan (q.ids.items ++ id ∷ []) to
+Computes (step.Begun q) to = (open_ : Query) × IsOpened q open_ × ComesTo open_ to
+Computes (step.Open q) to = ComesTo q to
+Computes (step.Found q n found parts) to = (instr : Instr) → IsAt q n instr → BecomesOf q n instr found parts.items to
 Computes from to = to ≡ from
 
 -- ## What a counter tells
@@ -29,10 +46,10 @@ Computes from to = to ≡ from
 -- the work that was done and that no event has counted yet
 abbrev pub held : Step → ℕ
 held (step.Begun q) = q.work
-held (step.Asking q key) = q.work
-held (step.Found q found parts) = q.work
-held (step.Offering q offer) = q.work + offer.done
-held (step.Gained q value id) = q.work
+held (step.Open q) = q.work
+held (step.Asking q n key) = q.work
+held (step.Found q n found parts) = q.work
+held (step.Offering q n offer) = q.work + offer.done
 held (step.Ending reply work) = work
 
 -- what a query may have counted that ends: the load of its plan, where that overflows
@@ -42,8 +59,8 @@ lost_at q _ = 0
 
 abbrev pub lost_between : Step → Step → ℕ
 lost_between (step.Begun q) to = lost_at q to
-lost_between (step.Found q found parts) to = lost_at q to
-lost_between (step.Gained q value id) to = lost_at q to
+lost_between (step.Open q) to = lost_at q to
+lost_between (step.Found q n found parts) to = lost_at q to
 lost_between from to = 0
 
 -- a counter goes from here to there as one step comes to another: by the work that is done, and by no more than what is lost beyond it

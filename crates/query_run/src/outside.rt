@@ -9,8 +9,8 @@ use std::alloc::Global;
 use std::sync::ledger::Ledger;
 
 impl Step {
-    /// Computes what the next event needs. The counter rises by the work that is done; where the plan
-    /// overflows, by at most its load more.
+    /// Computes what the next event needs, where the query goes through its plan in order. The counter
+    /// rises by the work that is done; where the plan overflows, by at most its load more.
     pub fn outside<E: Operate, L: Ledger>(
         self,
         alloc: Global,
@@ -22,9 +22,11 @@ impl Step {
         ensures counted { IfOk result (λ next. Counted self next steps.old steps.new) }
     {
         match self {
-            Step::Begun(query) => query.walk(alloc, kernel, steps),
-            Step::Found(query, found, parts) => query.reuse(alloc, found, parts, kernel, steps),
-            Step::Gained(query, value, id) => query.gain(alloc, value, id, kernel, steps),
+            Step::Begun(query) => query.open(alloc)?.walk(alloc, kernel, steps),
+            Step::Open(query) => query.walk(alloc, kernel, steps),
+            Step::Found(query, n, found, parts) => {
+                query.reuse(alloc, n, found, parts, kernel, steps)
+            }
             ready => Ok(ready),
         }
     }

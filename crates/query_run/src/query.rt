@@ -1,19 +1,19 @@
 //! A query, instruction by instruction.
-ghost use Rattle.std.specs.Prelude.{◌≡◌, ℕ, List, ◌+◌, ◌≤◌, ◌<◌, [], ◌∷◌, ◌++◌, length, take, slice_get, true, false, Some, None, Err, IfOk, OnOk, OnErr};
+ghost use Rattle.std.specs.Prelude.{◌≡◌, ◌≢◌, ℕ, List, ◌+◌, ◌≤◌, ◌<◌, ◌&&◌, [], ◌∷◌, length, map, not, replicate, slice_get, slice_index_or, take, true, false, Bool, Option, Some, None, Err, IfOk, OnOk, IfSome, IsSome};
+ghost use Rattle.std.specs.Option.{option_map};
 ghost use Rattle.cell_core.specs.declared.memory.RunError.TheVariants as RunError;
 ghost use Rattle.cell_core.specs.declared.operator.Instr.{Instr as InstrSeen};
-ghost use Rattle.cell_core.specs.declared.operator.Value.{Value as ValueSeen};
-ghost use Rattle.cell_core.specs.declared.operator.Value.TheVariants.{Bat};
 ghost use Rattle.cell_core.specs.declared.cell.Cell.TheVariants.{Text};
-ghost use Rattle.bat_core.specs.Objects.{value_of};
+ghost use Rattle.bat_core.specs.Objects.{value_of, values_of};
 ghost use Rattle.lineage_key.specs.Parents.{is_bind};
 ghost use Rattle.lineage_key.specs.declared.key.KeyArg.TheVariants.{Const};
 ghost use Rattle.recycle_mark.specs.Marks.{marks_of};
-ghost use Rattle.query_keys.specs.Keys.{instr_key, with_version};
+ghost use Rattle.query_keys.specs.Keys.{with_version};
 ghost use Rattle.query_keys.specs.Laws.{id_given as given_by};
-ghost use Rattle.mal_meaning.specs.Meaning.{instr_load, plan_load};
-ghost use Rattle.query_run.specs.Queries.{AsksFor, ComesTo, EndsWith, IsUnderWay, all_values, next_value, unmarked_load, versions_in};
-ghost use Rattle.query_run.specs.Steps.{Counted, held};
+ghost use Rattle.mal_meaning.specs.Meaning.{arg_values, instr_load, plan_load};
+ghost use Rattle.mal_exec.specs.Results.{known_of};
+ghost use Rattle.query_run.specs.Queries.{AsksFor, ComesTo, EndsWith, GoesOn, HasArgs, HasBefore, HasGained, HasMark, IsAt, IsUnderWay, all_values, has_result, key_in, value_at, versions_in};
+ghost use Rattle.query_run.specs.Steps.{Counted, IsFresh, IsOpened, held};
 ghost use Rattle.query_run.specs.declared.step.Step.TheVariants as step;
 ghost use Rattle.answer_text.specs.declared.shown.Shown.TheVariants as shown;
 ghost use Rattle.sql_semantics.specs.declared.refusal.Refusal.TheVariants as refusal;
@@ -21,10 +21,10 @@ ghost use Rattle.sql_semantics.specs.declared.refusal.Refusal.TheVariants as ref
 use crate::reuse::sum;
 use crate::step::{Query, Step};
 use answer_text::Shown;
-use bat_core::{Obj, Operate, Shared};
+use bat_core::{Obj, Operate};
 use cell_core::{Cell, Instr, Memory, RunError, Sequence, Steps};
 use lineage_key::{Key, KeyArg, key_of};
-use mal_exec::{Done, output, run_instr};
+use mal_exec::{Done, known_args, output, run_op};
 use mal_meaning::Plan;
 use pool_policy::Admitted;
 use query_keys::instrs_run;
@@ -34,13 +34,11 @@ use std::sync::ledger::Ledger;
 use table_store::Snap;
 
 impl Query {
-    /// A query that has no results yet.
+    /// A query that has begun. Takes no memory.
     pub fn new(alloc: Global, snap: Snap, plan: Plan, marks: Vec<bool>) -> Query
         ensures snap { result.snap ≡ snap }
         ensures plan { result.plan ≡ plan }
         ensures marks { result.marks.items ≡ marks.items }
-        ensures ids { result.ids.items ≡ [] }
-        ensures values { result.values ≡ [] }
         ensures work { result.work ≡ 0 }
     {
         Query {
@@ -48,13 +46,43 @@ impl Query {
             plan,
             marks,
             ids: Vec::new(alloc),
-            values: Sequence::new(alloc),
+            values: Vec::new(alloc),
+            asked: Vec::new(alloc),
             work: 0,
         }
     }
 
-    /// Computes what the pool isn't asked for, up to the next instruction that it is asked for, or to the
-    /// end.
+    /// Makes room for its results. A plan of 2^32 instructions counts as want of memory.
+    pub fn open(self, alloc: Global) -> Result<Query, Memory>
+        requires { IsFresh self }
+        ensures { IfOk result (IsOpened self) }
+    {
+        let count = self.plan.instrs.len();
+        if count > u32::MAX as usize {
+            return Err(Memory);
+        }
+        let Query {
+            snap,
+            plan,
+            marks,
+            ..
+        } = self;
+        let ids = vec![in alloc; 0_u64; count]?;
+        let values = no_results(alloc, count)?;
+        let asked = vec![in alloc; false; count]?;
+        Ok(Query {
+            snap,
+            plan,
+            marks,
+            ids,
+            values,
+            asked,
+            work: 0,
+        })
+    }
+
+    /// Computes what the pool isn't asked for, in the order of the plan, up to the next instruction that it
+    /// is asked for, or to the end.
     pub(crate) fn walk<E: Operate, L: Ledger>(
         mut self,
         alloc: Global,
@@ -62,124 +90,154 @@ impl Query {
         steps: &mut Steps<L>,
     ) -> Result<Step, Memory>
         requires { IsUnderWay self }
-        ensures step { IfOk result (ComesTo self.snap self.plan self.ids.items) }
-        ensures counted { IfOk result (λ next. Counted (step.Begun self) next steps.old steps.new) }
+        ensures step { IfOk result (ComesTo self) }
+        ensures counted { IfOk result (λ next. Counted (step.Open self) next steps.old steps.new) }
     {
-        'instrs: while self.values.len() < self.plan.instrs.len() {
-            if self.marks[self.values.len()] {
-                return self.to_ask(alloc);
+        instrs_run();
+        let mut n = 0;
+        'instrs: while n < self.plan.instrs.len() {
+            if self.must_ask(n) {
+                return self.to_ask(alloc, n);
             }
-            match self.compute(alloc, kernel, steps) {
+            match self.have(alloc, n, kernel, steps) {
                 Ok(()) => {}
                 Err(RunError::Overflow) => return Ok(overflow()),
                 Err(RunError::Memory) => return Err(Memory),
             }
+            n += 1;
         }
         self.finish(alloc)
     }
 
-    /// It asks for the next result, which is marked.
-    fn to_ask(self, alloc: Global) -> Result<Step, Memory>
-        requires under { IsUnderWay self }
-        requires marked { slice_get (marks_of self.plan) (length self.values) ≡ Some true }
-        ensures step { IfOk result (ComesTo self.snap self.plan self.ids.items) }
-        ensures held { IfOk result (λ next. held next ≡ self.work) }
+    /// Whether the pool is to be asked for the result of an instruction: it is marked, and has none yet.
+    fn must_ask(&self, n: usize) -> bool
+        requires under { IsUnderWay self.now }
+        requires inside { n < length self.now.plan.instrs }
+        ensures { result ≡ (slice_index_or (marks_of self.now.plan) n false && not (has_result self.now n)) }
     {
-        let key = self.next_key(alloc)?;
-        Ok(Step::Asking(self, key))
+        self.marks[n] && !self.has(n)
     }
 
-    /// It ends with the rows of its output.
-    fn finish(self, alloc: Global) -> Result<Step, Memory>
-        requires under { IsUnderWay self }
-        requires all { length self.plan.instrs ≤ length self.values }
-        ensures step { IfOk result (ComesTo self.snap self.plan self.ids.items) }
-        ensures held { IfOk result (λ next. held next ≡ self.work) }
+    /// Whether the result of an instruction is there.
+    pub(crate) fn has(&self, n: usize) -> bool
+        requires under { IsUnderWay self.now }
+        requires inside { n < length self.now.plan.instrs }
+        ensures { result ≡ has_result self.now n }
     {
-        let rows = output(alloc, &self.plan.out, self.values.as_slice())?;
-        Ok(Step::Ending(Shown::Rows(rows), self.work))
+        self.values[n].is_some()
     }
 
-    /// Computes the next result, which the pool isn't asked for.
-    fn compute<E: Operate, L: Ledger>(
+    /// It asks for the result of a marked instruction whose arguments are there.
+    pub fn to_ask(self, alloc: Global, n: usize) -> Result<Step, Memory>
+        requires under { IsUnderWay self }
+        requires at { (instr : InstrSeen) × IsAt self n instr × HasArgs self instr }
+        ensures { IfOk result (λ next. (key : _) × (next ≡ step.Asking self n key) × AsksFor self n key) }
+    {
+        let key = self.key_at(alloc, n)?;
+        Ok(Step::Asking(self, n, key))
+    }
+
+    /// It ends with the rows of its output, where all results are there.
+    pub fn finish(self, alloc: Global) -> Result<Step, Memory>
+        requires under { IsUnderWay self }
+        requires all { HasBefore self (length self.plan.instrs) }
+        ensures step { IfOk result (ComesTo self) }
+        ensures held { IfOk result (λ next. held next ≡ self.work) }
+    {
+        let Query {
+            plan,
+            values,
+            work,
+            ..
+        } = self;
+        let values = all_results(alloc, values)?;
+        let rows = output(alloc, &plan.out, values.as_slice())?;
+        Ok(Step::Ending(Shown::Rows(rows), work))
+    }
+
+    /// Has the result of an instruction, which it computes where it isn't there. The pool isn't asked for it.
+    fn have<E: Operate, L: Ledger>(
         &mut self,
         alloc: Global,
+        n: usize,
         kernel: &E,
         steps: &mut Steps<L>,
     ) -> Result<(), RunError>
         requires under { IsUnderWay self.old }
-        requires more { length self.old.values < length self.old.plan.instrs }
-        requires unmarked { slice_get (marks_of self.old.plan) (length self.old.values) ≡ Some false }
-        ensures snap { self.new.snap ≡ self.old.snap }
-        ensures plan { self.new.plan ≡ self.old.plan }
-        ensures under { OnOk result (IsUnderWay self.new) }
-        ensures ids { OnOk result (self.new.ids.items ≡ self.old.ids.items ++ 0 ∷ []) }
-        ensures value { OnOk result ((value : ValueSeen) × (next_value self.old ≡ Some (Some value))) }
-        ensures overflow { result ≡ Err RunError.Overflow → next_value self.old ≡ Some None }
+        requires inside { n < length self.old.plan.instrs }
+        requires before { HasBefore self.old n }
+        requires unmarked { has_result self.old n ≡ false → HasMark self.old n false }
+        ensures goes { OnOk result (GoesOn self.old self.new) }
+        ensures has { OnOk result (has_result self.new n ≡ true) }
         ensures counted { OnOk result (steps.new + self.old.work ≡ steps.old + self.new.work) }
+        ensures same { result ≡ Err RunError.Overflow → self.new ≡ self.old }
+        ensures overflow { result ≡ Err RunError.Overflow → HasMark self.old n false × (value_at self.old n ≡ Some None) }
         ensures later { result ≡ Err RunError.Overflow → steps.old ≤ steps.new }
         ensures within { result ≡ Err RunError.Overflow → steps.new + self.old.work ≤ steps.old + plan_load self.old.plan self.old.snap.db }
     {
-        let done = self.run_next(alloc, kernel, steps)?;
+        instrs_run();
+        if self.has(n) {
+            return Ok(());
+        }
+        let done = self.run_at(alloc, n, kernel, steps)?;
         let total = sum(self.work, done.work)?;
-        self.add(done.value, 0, total)?;
+        self.take_in(n, done.value, 0);
+        self.work = total;
         Ok(())
     }
 
-    /// Runs the next instruction.
-    pub(crate) fn run_next<E: Operate, L: Ledger>(
+    /// Runs an instruction whose arguments are there.
+    pub(crate) fn run_at<E: Operate, L: Ledger>(
         &self,
         alloc: Global,
+        n: usize,
         kernel: &E,
         steps: &mut Steps<L>,
     ) -> Result<Done, RunError>
         requires under { IsUnderWay self.now }
-        requires more { length self.now.values < length self.now.plan.instrs }
-        ensures value { IfOk result (λ done. next_value self.now ≡ Some (Some (value_of done.value))) }
-        ensures work { IfOk result (λ done. (instr : InstrSeen) → slice_get self.now.plan.instrs (length self.now.values) ≡ Some instr → done.work ≡ instr_load self.now.snap.db (all_values self.now) instr) }
+        requires open { has_result self.now n ≡ false }
+        requires args { (instr : InstrSeen) × (slice_get self.now.plan.instrs n ≡ Some instr) × HasArgs self.now instr }
+        ensures value { IfOk result (λ done. value_at self.now n ≡ Some (Some (value_of done.value))) }
+        ensures work { IfOk result (λ done. (instr : InstrSeen) → slice_get self.now.plan.instrs n ≡ Some instr → done.work ≡ instr_load self.now.snap.db (all_values self.now) instr) }
         ensures counted { IfOk result (λ done. steps.new ≡ steps.old + done.work) }
-        ensures overflow { result ≡ Err RunError.Overflow → next_value self.now ≡ Some None }
+        ensures overflow { result ≡ Err RunError.Overflow → value_at self.now n ≡ Some None }
         ensures later { result ≡ Err RunError.Overflow → steps.old ≤ steps.new }
         ensures within { result ≡ Err RunError.Overflow → steps.new + self.now.work ≤ steps.old + plan_load self.now.plan self.now.snap.db }
     {
         instrs_run();
-        let values = self.values.as_slice();
-        run_instr(alloc, self.next(), values, &self.snap, kernel, steps)
+        let instr = self.instr(n);
+        let Some(args) = known_args(alloc, self.values.as_slice(), instr.args.as_slice())? else {
+            unreachable!();
+        };
+        run_op(alloc, instr.op, args.as_slice(), &self.snap, kernel, steps)
     }
 
-    /// The next instruction.
-    pub(crate) fn next(&self) -> &Instr
-        requires { length self.now.values < length self.now.plan.instrs }
-        ensures { slice_get self.now.plan.instrs (length self.now.values) ≡ Some result.now }
+    /// An instruction.
+    pub(crate) fn instr(&self, n: usize) -> &Instr
+        requires { n < length self.now.plan.instrs }
+        ensures { slice_get self.now.plan.instrs n ≡ Some result.now }
     {
-        &self.plan.instrs.as_slice()[self.values.len()]
+        &self.plan.instrs.as_slice()[n]
     }
 
-    /// Adds the next result, with its id; then the results so far have taken this work.
-    fn add(&mut self, value: Obj, id: u64, work: u128) -> Result<(), Memory>
+    /// Takes in the result of an instruction, with its id. Takes no memory.
+    pub(crate) fn take_in(&mut self, n: usize, value: Obj, id: u64)
         requires under { IsUnderWay self.old }
-        requires value { next_value self.old ≡ Some (Some (value_of value)) }
-        requires work { work ≡ unmarked_load self.old.snap.db (all_values self.old) (take (length self.old.values + 1) self.old.plan.instrs) (take (length self.old.values + 1) (marks_of self.old.plan)) }
-        ensures snap { self.new.snap ≡ self.old.snap }
-        ensures plan { self.new.plan ≡ self.old.plan }
-        ensures under { OnOk result (IsUnderWay self.new) }
-        ensures ids { OnOk result (self.new.ids.items ≡ self.old.ids.items ++ id ∷ []) }
-        ensures work { OnOk result (self.new.work ≡ work) }
+        requires inside { n < length self.old.plan.instrs }
+        ensures { HasGained self.old n value id self.old.work self.new }
     {
-        self.values.push(value)?;
-        self.ids.push(id)?;
-        self.work = work;
-        Ok(())
+        self.values[n] = Some(value);
+        self.ids[n] = id;
     }
 
-    /// The key of the next result.
-    pub(crate) fn next_key(&self, alloc: Global) -> Result<Key, Memory>
+    /// The key of the result of an instruction.
+    pub(crate) fn key_at(&self, alloc: Global, n: usize) -> Result<Key, Memory>
         requires under { IsUnderWay self.now }
-        requires more { length self.now.values < length self.now.plan.instrs }
-        ensures { IfOk result (λ key. (instr : InstrSeen) → slice_get self.now.plan.instrs (length self.now.values) ≡ Some instr → key ≡ instr_key instr (versions_in self.now.snap) self.now.ids.items) }
+        requires inside { n < length self.now.plan.instrs }
+        ensures { IfOk result (λ key. (instr : InstrSeen) → slice_get self.now.plan.instrs n ≡ Some instr → key ≡ key_in self.now n instr) }
     {
         instrs_run();
-        let key = key_of(alloc, self.next(), self.ids.as_slice(), 0)?;
+        let key = key_of(alloc, self.instr(n), &self.ids.as_slice()[..n], 0)?;
         let version = version_for(&self.snap, &key);
         Ok(Key {
             op: key.op,
@@ -187,26 +245,32 @@ impl Query {
             version,
         })
     }
+}
 
-    /// Takes in the next result, and goes on.
-    pub(crate) fn gain<E: Operate, L: Ledger>(
-        mut self,
-        alloc: Global,
-        value: Shared,
-        id: u64,
-        kernel: &E,
-        steps: &mut Steps<L>,
-    ) -> Result<Step, Memory>
-        requires under { IsUnderWay self }
-        requires value { next_value self ≡ Some (Some (Bat value)) }
-        requires marked { slice_get (marks_of self.plan) (length self.values) ≡ Some true }
-        ensures step { IfOk result (ComesTo self.snap self.plan (self.ids.items ++ id ∷ [])) }
-        ensures counted { IfOk result (λ next. Counted (step.Gained self value id) next steps.old steps.new) }
-    {
-        let work = self.work;
-        self.add(Obj::Bat(value), id, work)?;
-        self.walk(alloc, kernel, steps)
+/// So many results that aren't there.
+fn no_results(alloc: Global, count: usize) -> Result<Vec<Option<Obj>>, Memory>
+    ensures { IfOk result (λ results. results.items ≡ replicate count None) }
+{
+    let mut results = Vec::with_capacity(alloc, count)?;
+    'results: while results.len() < count {
+        results.push(None)?;
     }
+    Ok(results)
+}
+
+/// The results, where all are there.
+fn all_results(alloc: Global, results: Vec<Option<Obj>>) -> Result<Sequence<Obj>, Memory>
+    requires { (n : ℕ) → n < length results.items → (found : _) × (slice_get results.items n ≡ Some (Some found)) }
+    ensures { IfOk result (λ all. known_of results.items ≡ map Some (values_of all)) }
+{
+    let mut all = Sequence::new(alloc);
+    'results: for found in results {
+        match found {
+            Some(value) => all.push(value)?,
+            None => unreachable!(),
+        }
+    }
+    Ok(all)
 }
 
 /// The version that a key has: for a bind that of its column in the snapshot.
@@ -228,7 +292,7 @@ fn version_for(snap: &Snap, key: &Key) -> u64
 }
 
 /// The end of a query that overflows.
-pub(crate) fn overflow() -> Step
+pub fn overflow() -> Step
     ensures { result ≡ step.Ending (shown.Refused refusal.Overflow) 0 }
 {
     Step::Ending(Shown::Refused(Refusal::Overflow), 0)

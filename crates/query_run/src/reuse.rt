@@ -1,25 +1,28 @@
 //! The result of an instruction, from what a look found.
 ghost use Rattle.std.specs.Prelude.{◌≡◌, ◌+◌, ◌<◌, ◌≤◌, sum_by, ◌^◌, ◌++◌, List, [], ◌∷◌, map, length, slice_get, true, Some, None, Err, IfOk, IfSome};
 ghost use Rattle.std.specs.List.{AllByRecursion};
-ghost use Rattle.std.specs.Option.{option_copied};
+ghost use Rattle.std.specs.Option.{option_map};
+ghost use Rattle.cell_core.specs.declared.operator.Arg.TheVariants.{Var};
+ghost use Rattle.bat_core.specs.Objects.{value_of};
 ghost use Rattle.cell_core.specs.declared.cell.Cell.{Cell as CellSeen};
 ghost use Rattle.cell_core.specs.declared.cell.Cell.TheVariants.{Nil};
 ghost use Rattle.cell_core.specs.declared.memory.RunError.TheVariants as RunError;
 ghost use Rattle.cell_core.specs.declared.operator.Instr.{Instr as InstrSeen};
+ghost use Rattle.cell_core.specs.declared.operator.Value.{Value as ValueSeen};
 ghost use Rattle.cell_core.specs.declared.operator.Value.TheVariants.{Bat as BatValue};
 ghost use Rattle.cell_core.specs.Pairs.{heads_of, is_true as is_true_cell, pair_count};
 ghost use Rattle.cell_core.specs.Relations.{selected};
 ghost use Rattle.chunk_core.specs.Facts.{rises};
 ghost use Rattle.cell_core.specs.Operators.{pairs_read};
 ghost use Rattle.mal_meaning.specs.Meaning.{arg_value, arg_values, instr_load};
-ghost use Rattle.bat_core.specs.Objects.{values_of};
 ghost use Rattle.reuse_laws.specs.Reuse.{high_bound as high_bound_of, low_bound as low_bound_of, merged, selected_in};
 ghost use Rattle.query_keys.specs.Laws.{HasBounds};
 ghost use Rattle.recycle_pool.specs.declared.found.Part.{Part as PartSeen};
 ghost use Rattle.mal_meaning.specs.Meaning.{plan_load};
 ghost use Rattle.query_run.specs.declared.step.Offer.{Offer as OfferSeen};
 ghost use Rattle.query_run.specs.declared.step.Step.TheVariants as step;
-ghost use Rattle.query_run.specs.Queries.{BecomesOf, IsAt, IsOffered, IsUnderWay, Serves, all_values, next_value, part_work, work_from};
+ghost use Rattle.mal_exec.specs.Results.{known_of};
+ghost use Rattle.query_run.specs.Queries.{BecomesOf, HasArgs, IsAt, IsOffered, IsUnderWay, Serves, all_values, part_work, value_at, work_from};
 ghost use Rattle.query_run.specs.Steps.{Counted};
 
 use crate::query::overflow;
@@ -35,9 +38,9 @@ use std::sync::ledger::Ledger;
 
 /// A result, and the stated work by which it was computed.
 #[derive(Drop)]
-struct Made {
-    value: Shared,
-    done: u128,
+pub(crate) struct Made {
+    pub value: Shared,
+    pub done: u128,
 }
 
 impl Query {
@@ -45,18 +48,19 @@ impl Query {
     pub(crate) fn reuse<E: Operate, L: Ledger>(
         self,
         alloc: Global,
+        n: usize,
         found: Found,
         parts: Vec<Part>,
         kernel: &E,
         steps: &mut Steps<L>,
     ) -> Result<Step, Memory>
         requires under { IsUnderWay self }
-        requires found { (instr : InstrSeen) × IsAt self instr × Serves self instr found parts.items }
-        ensures step { IfOk result (λ next. (instr : InstrSeen) → IsAt self instr → BecomesOf self instr found parts.items next) }
-        ensures counted { IfOk result (λ next. Counted (step.Found self found parts) next steps.old steps.new) }
+        requires found { (instr : InstrSeen) × IsAt self n instr × HasArgs self instr × Serves self n instr found parts.items }
+        ensures step { IfOk result (λ next. (instr : InstrSeen) → IsAt self n instr → BecomesOf self n instr found parts.items next) }
+        ensures counted { IfOk result (λ next. Counted (step.Found self n found parts) next steps.old steps.new) }
     {
-        match self.make(alloc, found, parts, kernel, steps) {
-            Ok(made) => self.to_offer(alloc, made),
+        match self.make(alloc, n, found, parts, kernel, steps) {
+            Ok(made) => self.to_offer(alloc, n, made),
             Err(RunError::Overflow) => Ok(overflow()),
             Err(RunError::Memory) => Err(Memory),
         }
@@ -66,30 +70,31 @@ impl Query {
     fn make<E: Operate, L: Ledger>(
         &self,
         alloc: Global,
+        n: usize,
         found: Found,
         parts: Vec<Part>,
         kernel: &E,
         steps: &mut Steps<L>,
     ) -> Result<Made, RunError>
         requires under { IsUnderWay self.now }
-        requires found { (instr : InstrSeen) × IsAt self.now instr × Serves self.now instr found parts.items }
-        ensures value { IfOk result (λ made. next_value self.now ≡ Some (Some (BatValue made.value))) }
-        ensures done { IfOk result (λ made. (instr : InstrSeen) → IsAt self.now instr → made.done ≡ work_from found parts.items (instr_load self.now.snap.db (all_values self.now) instr) (length made.value)) }
+        requires found { (instr : InstrSeen) × IsAt self.now n instr × HasArgs self.now instr × Serves self.now n instr found parts.items }
+        ensures value { IfOk result (λ made. value_at self.now n ≡ Some (Some (BatValue made.value))) }
+        ensures done { IfOk result (λ made. (instr : InstrSeen) → IsAt self.now n instr → made.done ≡ work_from found parts.items (instr_load self.now.snap.db (all_values self.now) instr) (length made.value)) }
         ensures counted { IfOk result (λ made. steps.new ≡ steps.old + made.done) }
-        ensures overflow { result ≡ Err RunError.Overflow → next_value self.now ≡ Some None }
+        ensures overflow { result ≡ Err RunError.Overflow → value_at self.now n ≡ Some None }
         ensures later { result ≡ Err RunError.Overflow → steps.old ≤ steps.new }
         ensures within { result ≡ Err RunError.Overflow → steps.new + self.now.work ≤ steps.old + plan_load self.now.plan self.now.snap.db }
     {
         match found {
             Found::Within(_, pooled) => {
-                let made = select_again(alloc, self.next(), &pooled, steps)?;
+                let made = select_again(alloc, self.instr(n), &pooled, steps)?;
                 Ok(made)
             }
             Found::Across(_) => {
                 let made = select_parts(alloc, parts.as_slice(), steps)?;
                 Ok(made)
             }
-            _ => self.run(alloc, kernel, steps),
+            _ => self.run(alloc, n, kernel, steps),
         }
     }
 
@@ -97,20 +102,21 @@ impl Query {
     fn run<E: Operate, L: Ledger>(
         &self,
         alloc: Global,
+        n: usize,
         kernel: &E,
         steps: &mut Steps<L>,
     ) -> Result<Made, RunError>
         requires under { IsUnderWay self.now }
-        requires at { (instr : InstrSeen) × IsAt self.now instr }
-        ensures value { IfOk result (λ made. next_value self.now ≡ Some (Some (BatValue made.value))) }
-        ensures done { IfOk result (λ made. (instr : InstrSeen) → IsAt self.now instr → made.done ≡ instr_load self.now.snap.db (all_values self.now) instr) }
+        requires at { (instr : InstrSeen) × IsAt self.now n instr × HasArgs self.now instr }
+        ensures value { IfOk result (λ made. value_at self.now n ≡ Some (Some (BatValue made.value))) }
+        ensures done { IfOk result (λ made. (instr : InstrSeen) → IsAt self.now n instr → made.done ≡ instr_load self.now.snap.db (all_values self.now) instr) }
         ensures counted { IfOk result (λ made. steps.new ≡ steps.old + made.done) }
-        ensures overflow { result ≡ Err RunError.Overflow → next_value self.now ≡ Some None }
+        ensures overflow { result ≡ Err RunError.Overflow → value_at self.now n ≡ Some None }
         ensures later { result ≡ Err RunError.Overflow → steps.old ≤ steps.new }
         ensures within { result ≡ Err RunError.Overflow → steps.new + self.now.work ≤ steps.old + plan_load self.now.plan self.now.snap.db }
     {
         marked_are_bats();
-        let done = self.run_next(alloc, kernel, steps)?;
+        let done = self.run_at(alloc, n, kernel, steps)?;
         let Done { value, work } = done;
         match value {
             Obj::Bat(value) => Ok(Made { value, done: work }),
@@ -118,40 +124,50 @@ impl Query {
         }
     }
 
-    /// It offers the next result.
-    fn to_offer(self, alloc: Global, made: Made) -> Result<Step, Memory>
+    /// It offers the result of an instruction.
+    pub(crate) fn to_offer(self, alloc: Global, n: usize, made: Made) -> Result<Step, Memory>
         requires under { IsUnderWay self }
-        requires at { (instr : InstrSeen) × IsAt self instr }
-        requires value { next_value self ≡ Some (Some (BatValue made.value)) }
-        ensures { IfOk result (λ next. (offer : OfferSeen) × (next ≡ step.Offering self offer) × (offer.value ≡ made.value) × (offer.done ≡ made.done) × ((instr : InstrSeen) → IsAt self instr → IsOffered self instr offer)) }
+        requires at { (instr : InstrSeen) × IsAt self n instr × HasArgs self instr }
+        requires value { value_at self n ≡ Some (Some (BatValue made.value)) }
+        ensures { IfOk result (λ next. (offer : OfferSeen) × (next ≡ step.Offering self n offer) × (offer.value ≡ made.value) × (offer.done ≡ made.done) × ((instr : InstrSeen) → IsAt self n instr → IsOffered self n instr offer)) }
     {
-        let key = self.next_key(alloc)?;
-        let work = self.stated_work(&made.value)?;
+        let key = self.key_at(alloc, n)?;
+        let work = self.stated_work(n, &made.value)?;
         let offer = Offer {
             key,
             value: made.value,
             work,
             done: made.done,
         };
-        Ok(Step::Offering(self, offer))
+        Ok(Step::Offering(self, n, offer))
     }
 
-    /// The stated work of the next instruction, which has this result. Work past 2^62 counts as want of
-    /// memory.
-    fn stated_work(&self, value: &Shared) -> Result<u64, Memory>
+    /// The stated work of an instruction whose arguments are there, and which has this result. Work past
+    /// 2^62 counts as want of memory.
+    fn stated_work(&self, n: usize, value: &Shared) -> Result<u64, Memory>
         requires under { IsUnderWay self.now }
-        requires at { (instr : InstrSeen) × IsAt self.now instr }
-        requires value { next_value self.now ≡ Some (Some (BatValue value.now)) }
-        ensures work { IfOk result (λ work. (instr : InstrSeen) → IsAt self.now instr → work ≡ instr_load self.now.snap.db (all_values self.now) instr) }
+        requires at { (instr : InstrSeen) × IsAt self.now n instr × HasArgs self.now instr }
+        requires value { value_at self.now n ≡ Some (Some (BatValue value.now)) }
+        ensures work { IfOk result (λ work. (instr : InstrSeen) → IsAt self.now n instr → work ≡ instr_load self.now.snap.db (all_values self.now) instr) }
         ensures small { IfOk result (λ work. work < 2 ^ 62) }
     {
-        instrs_run();
-        let read = pairs_named(self.values.as_slice(), self.next().args.as_slice())?;
-        let work = sum(read, u128::from(value.bat().len()))?;
+        let work = self.load_of(n, value.bat().len())?;
         if work >= 1 << 62 {
             return Err(Memory);
         }
         Ok(work as u64)
+    }
+
+    /// The stated work of an instruction whose arguments are there, and whose value has so many pairs.
+    pub(crate) fn load_of(&self, n: usize, pairs: u64) -> Result<u128, Memory>
+        requires under { IsUnderWay self.now }
+        requires at { (instr : InstrSeen) × (slice_get self.now.plan.instrs n ≡ Some instr) × HasArgs self.now instr }
+        requires value { (value : ValueSeen) × (value_at self.now n ≡ Some (Some value)) × (pairs ≡ pair_count value) }
+        ensures { IfOk result (λ load. (instr : InstrSeen) → slice_get self.now.plan.instrs n ≡ Some instr → load ≡ instr_load self.now.snap.db (all_values self.now) instr) }
+    {
+        instrs_run();
+        let read = pairs_named(self.values.as_slice(), self.instr(n).args.as_slice())?;
+        sum(read, u128::from(pairs))
     }
 }
 
@@ -163,8 +179,8 @@ pub(crate) fn sum(one: u128, other: u128) -> Result<u128, Memory>
 }
 
 /// How many pairs the arguments have, where all have values.
-fn pairs_named(values: &[Obj], args: &[Arg]) -> Result<u128, Memory>
-    ensures { IfOk result (λ pairs. IfSome (arg_values (map Some (values_of values.now)) args.now) (λ found. pairs ≡ pairs_read found)) }
+fn pairs_named(values: &[Option<Obj>], args: &[Arg]) -> Result<u128, Memory>
+    ensures { IfOk result (λ pairs. IfSome (arg_values (known_of values.now) args.now) (λ found. pairs ≡ pairs_read found)) }
 {
     let mut pairs = 0_u128;
     let mut rest = args;
@@ -176,23 +192,26 @@ fn pairs_named(values: &[Obj], args: &[Arg]) -> Result<u128, Memory>
 }
 
 /// How many pairs the argument has.
-fn pairs_at(values: &[Obj], arg: &Arg) -> u128
-    ensures { IfSome (arg_value (map Some (values_of values.now)) arg.now) (λ found. result ≡ pair_count found) }
+fn pairs_at(values: &[Option<Obj>], arg: &Arg) -> u128
+    ensures { IfSome (arg_value (known_of values.now) arg.now) (λ found. result ≡ pair_count found) }
 {
     match arg {
         Arg::Const(_) => 0,
-        Arg::Var(n) => match value_at(values, *n) {
+        Arg::Var(n) => match known_result(values, *n) {
             Some(value) => u128::from(value.pair_count()),
             None => 0,
         },
     }
 }
 
-/// The value at a place, if there is one.
-fn value_at<'a>(values: &'a [Obj], place: u32) -> Option<&'a Obj>
-    ensures { option_copied result ≡ slice_get values.entry.now place }
+/// The result at a place, if it is there.
+pub(crate) fn known_result(values: &[Option<Obj>], place: u32) -> Option<&Obj>
+    ensures { option_map (λ found. value_of found.now) result ≡ arg_value (known_of values.now) (Var place) }
 {
-    values.get(place as usize)
+    let Some(Some(value)) = values.get(place as usize) else {
+        return None;
+    };
+    Some(value)
 }
 
 /// A result that was computed from so many pairs.

@@ -1,12 +1,11 @@
 use answer_text::Shown;
 use bat_core::{Obj, Shared};
-use cell_core::Sequence;
 use lineage_key::Key;
 use mal_meaning::Plan;
 use recycle_pool::{Found, Part};
 use table_store::Snap;
 
-/// A query under way.
+/// A query under way. Its results come in any order in which each has its arguments.
 #[derive(Drop)]
 pub struct Query {
     /// The tables that it sees.
@@ -15,11 +14,13 @@ pub struct Query {
     pub plan: Plan,
     /// Whether each instruction is marked.
     pub marks: Vec<bool>,
-    /// The ids of the results so far, 0 for none.
+    /// The id of each instruction's result, 0 for none.
     pub ids: Vec<u64>,
-    /// The results so far.
-    pub values: Sequence<Obj>,
-    /// The stated work of those that aren't marked.
+    /// The result of each instruction, where it is there.
+    pub values: Vec<Option<Obj>>,
+    /// Whether the pool was asked for each instruction's result in vain.
+    pub asked: Vec<bool>,
+    /// The stated work of those results that aren't marked.
     pub work: u128,
 }
 
@@ -36,20 +37,20 @@ pub struct Offer {
     pub done: u128,
 }
 
-/// Where a query stands. It computes in the steps `Begun`, `Found` and `Gained`, and its next event stands
-/// in the others.
+/// Where a query stands; instructions go by their numbers, counted from 0. It computes in the steps
+/// `Begun`, `Open` and `Found`, and its next event stands in the others.
 #[derive(Drop)]
 pub enum Step {
-    /// It has begun.
+    /// It has begun, and has no room for its results yet.
     Begun(Query),
-    /// It asks for the result of the next instruction.
-    Asking(Query, Key),
+    /// It goes on.
+    Open(Query),
+    /// It asks for the result of an instruction.
+    Asking(Query, usize, Key),
     /// The pool has what that result can be computed from, if anything.
-    Found(Query, Found, Vec<Part>),
-    /// It offers the result of the next instruction.
-    Offering(Query, Offer),
-    /// The next result is there, with this id.
-    Gained(Query, Shared, u64),
+    Found(Query, usize, Found, Vec<Part>),
+    /// It offers the result of an instruction.
+    Offering(Query, usize, Offer),
     /// It ends with this reply; its unmarked instructions took so much work.
     Ending(Shown, u128),
 }

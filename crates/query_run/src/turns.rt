@@ -1,5 +1,6 @@
 //! What a query does to the book.
 ghost use Rattle.std.specs.Prelude.{◌≡◌, ◌+◌, ◌<◌, [], ◌∷◌, ◌++◌, length, IfOk, OnOk, OnErr};
+ghost use Rattle.bat_core.specs.declared.shared.Obj.TheVariants as obj;
 ghost use Rattle.pool_policy.specs.Admits.{admit_of};
 ghost use Rattle.pool_policy.specs.Looks.{look_of};
 ghost use Rattle.run_log.specs.declared.event.Act.TheVariants as act;
@@ -8,11 +9,13 @@ ghost use Rattle.run_log.specs.Fold.{key_offer};
 ghost use Rattle.query_keys.specs.Laws.{id_given as given_by};
 ghost use Rattle.book_core.specs.BookView.{event_of, now_of, state_of};
 ghost use Rattle.book_core.specs.Offers.{CanOffer};
-ghost use Rattle.query_run.specs.Queries.{IsLooked};
+ghost use Rattle.query_run.specs.Queries.{HasGained, IsLooked, IsUnderWay};
+ghost use Rattle.query_run.specs.declared.step.Query.{Query as QuerySeen};
 ghost use Rattle.query_run.specs.declared.step.Step.TheVariants as step;
 
 use crate::query::id_given;
 use crate::step::{Offer, Query, Step};
+use bat_core::Obj;
 use book_core::Book;
 use cell_core::Memory;
 use lineage_key::Key;
@@ -22,62 +25,68 @@ use score_hook::Scorer;
 use std::alloc::Global;
 
 impl Query {
-    /// The number of the next instruction, from 1. One past 32 bits counts as want of memory.
-    fn number(&self) -> Result<u32, Memory>
-        ensures { IfOk result (λ number. number ≡ length self.now.values + 1) }
-    {
-        let behind = self.values.len();
-        if behind >= u32::MAX as usize {
-            return Err(Memory);
-        }
-        Ok(behind as u32 + 1)
-    }
-
-    /// Asks the pool for the result with this key.
-    pub fn ask(self, alloc: Global, book: &mut Book, who: Who, key: Key) -> Result<Step, Memory>
+    /// Asks the pool for the result of an instruction, which has this key.
+    pub fn ask(
+        mut self,
+        alloc: Global,
+        book: &mut Book,
+        who: Who,
+        n: usize,
+        key: Key,
+    ) -> Result<Step, Memory>
         requires session { who.session < 17 }
+        requires under { IsUnderWay self }
+        requires inside { n < length self.plan.instrs }
         ensures options { book.new.options ≡ book.old.options }
-        ensures logged { OnOk result (book.new.log ≡ book.old.log ++ event_of who (act.Look (length self.values + 1) key (looked_of (look_of (state_of book.old).pool key))) ∷ []) }
-        ensures step { IfOk result (IsLooked self (state_of book.old).pool key) }
+        ensures logged { OnOk result (book.new.log ≡ book.old.log ++ event_of who (act.Look (n + 1) key (looked_of (look_of (state_of book.old).pool key))) ∷ []) }
+        ensures step { IfOk result (IsLooked self n (state_of book.old).pool key) }
         ensures same { OnErr result (book.new ≡ book.old) }
     {
-        let number = self.number()?;
         let mut parts = Vec::new(alloc);
-        match book.look(who, number, key, &mut parts)? {
-            Found::Exact(id, value) => Ok(Step::Gained(self, value, id)),
-            found => Ok(Step::Found(self, found, parts)),
+        match book.look(who, n as u32 + 1, key, &mut parts)? {
+            Found::Exact(id, value) => {
+                self.take_in(n, Obj::Bat(value), id);
+                Ok(Step::Open(self))
+            }
+            found => {
+                self.asked[n] = true;
+                Ok(Step::Found(self, n, found, parts))
+            }
         }
     }
 
-    /// Offers a result to the pool.
+    /// Offers the result of an instruction to the pool.
     pub fn offer(
-        self,
+        mut self,
         alloc: Global,
         book: &mut Book,
         scorer: &Scorer,
         who: Who,
+        n: usize,
         offer: Offer,
     ) -> Result<Step, Memory>
         requires kind { scorer.now.kind ≡ book.old.options.evict }
         requires weights { scorer.now.weights.items ≡ book.old.options.weights }
         requires session { who.session < 17 }
+        requires under { IsUnderWay self }
+        requires inside { n < length self.plan.instrs }
         requires offer { CanOffer offer.key offer.value offer.work (state_of book.old) }
         ensures options { book.new.options ≡ book.old.options }
-        ensures logged { OnOk result (book.new.log ≡ book.old.log ++ event_of who (act.Admit (length self.values + 1) offer.key (admit_of who (now_of book.old) (key_offer offer.key (state_of book.old)) (state_of book.old).pool).0) ∷ []) }
-        ensures step { IfOk result (λ next. next ≡ step.Gained self offer.value (given_by (admit_of who (now_of book.old) (key_offer offer.key (state_of book.old)) (state_of book.old).pool).0)) }
+        ensures logged { OnOk result (book.new.log ≡ book.old.log ++ event_of who (act.Admit (n + 1) offer.key (admit_of who (now_of book.old) (key_offer offer.key (state_of book.old)) (state_of book.old).pool).0) ∷ []) }
+        ensures step { IfOk result (λ next. (to : QuerySeen) × (next ≡ step.Open to) × HasGained self n (obj.Bat offer.value) (given_by (admit_of who (now_of book.old) (key_offer offer.key (state_of book.old)) (state_of book.old).pool).0) self.work to) }
         ensures same { OnErr result (book.new ≡ book.old) }
     {
-        let number = self.number()?;
         let value = offer.value.share()?;
         let said = book.admit(
             alloc,
             scorer,
             who,
-            number,
+            n as u32 + 1,
             offer.key,
             offer.value,
             offer.work,
         )?;
-        Ok(Step::Gained(self, value, id_given(said)))
+        self.take_in(n, Obj::Bat(value), id_given(said));
+        Ok(Step::Open(self))
     }
 }

@@ -1,5 +1,5 @@
 -- Which act comes next of a statement that begins, and of one that has begun.
-use Rattle.std.proofs.Common.{◌≡◌, ℕ, List, [], ◌∷◌, Bool, true, false, Option, Some, None, Result, Ok, Err, refl}
+use Rattle.std.proofs.Common.{◌≡◌, ℕ, List, [], ◌∷◌, Bool, true, false, Option, Some, None, Result, Ok, Err, refl, ap, sym, ◌∙◌, subst}
 use Rattle.cell_core.specs.declared.operator.Instr.{Instr}
 use Rattle.cell_core.specs.declared.operator.Value.{Value}
 use Rattle.cell_core.specs.declared.table.Db.{Db}
@@ -21,10 +21,8 @@ use Rattle.run_log.specs.Fold.{LogState}
 use Rattle.answer_text.specs.Log.{acts_over, begin_code, begin_plan, code_of, count_of, is_of_pool, shown_explain, shown_over, shown_reply}
 use Rattle.book_core.specs.Begins.{code_in, logged_plan, unless_refused}
 use Rattle.book_core.specs.Writes.{reply_code, reply_count}
-use Rattle.query_run.specs.Next.{Next, Asks, Faults, Finishes}
-use Rattle.session_run.specs.Progress.{Progress, progress_by}
-use Rattle.session_run.specs.Turns.{act_of_next, act_of_offer, act_of_value, begun_act, first_act, later_act, query_act}
-use Rattle.session_run.proofs.LogLemmas.{looked_begun, looked_ended}
+use Rattle.session_run.specs.Progress.{Got, Progress, progress_by}
+use Rattle.session_run.specs.Turns.{AsReady, Asks, Faults, Finishes, InPlan, IsBegunAct, IsLaterAct, IsQueryAct, MayAsk, MayDo, MayFinish, MayOffer, MayOverflow, Next, Offers, Order, act_of_next, admit_at, first_act, look_at, overflow_code}
 
 -- ## A statement begins
 
@@ -83,40 +81,45 @@ pub data GoesOnAs (act : ActTree) : Type 0 where
   Pooled : is_of_pool act ≡ true → GoesOnAs act
   Closes : (code : ℕ) → act ≡ Ends code → GoesOnAs act
 
-value_goes : (s : LogState) (who : Who) (n : ℕ) (key : Key) (value : Option Value) → GoesOnAs (act_of_value s who n key value)
-value_goes s who n key (Some value) = Pooled refl
-value_goes s who n key None = Closes _ refl
+closes_as : (act : ActTree) (code : ℕ) → act ≡ Ends code → GoesOnAs act
+closes_as act code is = Closes code is
 
-offer_goes : (s : LogState) (who : Who) (versions : Versions) (ids : List ℕ) (instrs : List Instr) (values : List (Option Value)) → GoesOnAs (act_of_offer s who versions ids instrs values)
-offer_goes s who versions ids [] values = Closes _ refl
-offer_goes s who versions ids (instr ∷ instrs) [] = Closes _ refl
-offer_goes s who versions ids (instr ∷ instrs) (value ∷ values) = value_goes s who _ _ value
+pooled_as : (act goes : ActTree) → is_of_pool goes ≡ true → act ≡ goes → GoesOnAs act
+pooled_as act goes pool is = Pooled (ap is_of_pool is ∙ pool)
 
-next_goes : (s : LogState) (versions : Versions) (ids : List ℕ) (next : Next) → GoesOnAs (act_of_next s versions ids next)
-next_goes s versions ids (Asks n instr) = Pooled refl
-next_goes s versions ids Faults = Closes _ refl
-next_goes s versions ids Finishes = Closes _ refl
+next_goes : (s : LogState) (who : Who) (versions : Versions) (results : ℕ → Got) (next : Next) → GoesOnAs (act_of_next s who versions results next)
+next_goes s who versions results (Asks n instr) = Pooled refl
+next_goes s who versions results (Offers n instr (Some value)) = Pooled refl
+next_goes s who versions results (Offers n instr None) = Closes _ refl
+next_goes s who versions results Faults = Closes _ refl
+next_goes s who versions results Finishes = Closes _ refl
 
-query_goes : (s : LogState) (who : Who) (seen : LogState) (plan : Plan) (ids : List ℕ) (asked : Bool) → GoesOnAs (query_act s who seen plan ids asked)
-query_goes s who seen plan ids true = offer_goes s who seen.versions ids _ _
-query_goes s who seen plan ids false = next_goes s seen.versions ids _
+may_goes : (s : LogState) (who : Who) (seen : LogState) (plan : Plan) (results : ℕ → Got) (act : ActTree) → MayDo s who seen plan results act → GoesOnAs act
+may_goes s who seen plan results act (MayAsk n instr here marked unasked known is) = pooled_as act (look_at s seen.versions results n instr) refl is
+may_goes s who seen plan results act (MayOffer n at instr value here asked there is) = pooled_as act (admit_at s who seen.versions results n instr) refl is
+may_goes s who seen plan results act (MayOverflow none is) = closes_as act overflow_code is
+may_goes s who seen plan results act (MayFinish all some is) = closes_as act 0 is
 
-begun_goes : (s : LogState) (who : Who) (seen : LogState) (p : Progress) (outcome : Result Plan Refusal) → GoesOnAs (begun_act s who seen p outcome)
-begun_goes s who seen p (Err refusal) = Closes _ refl
-begun_goes s who seen p (Ok plan) = query_goes s who seen plan p.ids p.asked
+query_goes : (order : Order) (s : LogState) (who : Who) (seen : LogState) (plan : Plan) (results : ℕ → Got) (act : ActTree) → IsQueryAct order s who seen plan results act → GoesOnAs act
+query_goes InPlan s who seen plan results act is = subst GoesOnAs (sym is) (next_goes s who seen.versions results _)
+query_goes AsReady s who seen plan results act may = may_goes s who seen plan results act may
+
+begun_goes : (order : Order) (s : LogState) (who : Who) (seen : LogState) (results : ℕ → Got) (outcome : Result Plan Refusal) (act : ActTree) → IsBegunAct order s who seen results outcome act → GoesOnAs act
+begun_goes order s who seen results (Err refusal) act is = closes_as act (refusal_number refusal) is
+begun_goes order s who seen results (Ok plan) act is = query_goes order s who seen plan results act is
 
 -- so it is of each reading
-pub goes_on_as : (s : LogState) (who : Who) (seen : LogState) (p : Progress) (reading : Result StmtTree Refusal) → GoesOnAs (later_act s who seen p reading)
-goes_on_as s who seen p (Err refusal) = Closes _ refl
-goes_on_as s who seen p (Ok (Select query)) = begun_goes s who seen p _
-goes_on_as s who seen p (Ok (ExplainSelect query)) = Closes _ refl
-goes_on_as s who seen p (Ok statement) = Closes _ refl
+pub goes_on_as : (order : Order) (s : LogState) (who : Who) (seen : LogState) (results : ℕ → Got) (reading : Result StmtTree Refusal) (act : ActTree) → IsLaterAct order s who seen results reading act → GoesOnAs act
+goes_on_as order s who seen results (Err refusal) act is = closes_as act 0 is
+goes_on_as order s who seen results (Ok (Select query)) act is = begun_goes order s who seen results _ act is
+goes_on_as order s who seen results (Ok (ExplainSelect query)) act is = closes_as act _ is
+goes_on_as order s who seen results (Ok statement) act is = closes_as act 0 is
 
 -- ## Progress
 
 -- by a look or an admission no statement begins or ends
 pub pooled_ended : (at : ℕ) (act : ActTree) (p : Progress) → is_of_pool act ≡ true → (progress_by at act p).ended ≡ p.ended
-pooled_ended at (Looks instr key found) p is = looked_ended instr found p
+pooled_ended at (Looks instr key found) p is = refl
 pooled_ended at (Admits instr key result) p is = refl
 pooled_ended at (Begins code plan) p is = cc
 pooled_ended at (Writes statement code count) p is = cc
@@ -124,7 +127,7 @@ pooled_ended at (Ends code) p is = cc
 
 -- nor does another query begin
 pub pooled_begun : (at : ℕ) (act : ActTree) (p : Progress) → is_of_pool act ≡ true → (progress_by at act p).begun ≡ p.begun
-pooled_begun at (Looks instr key found) p is = looked_begun instr found p
+pooled_begun at (Looks instr key found) p is = refl
 pooled_begun at (Admits instr key result) p is = refl
 pooled_begun at (Begins code plan) p is = cc
 pooled_begun at (Writes statement code count) p is = cc

@@ -16,7 +16,7 @@ use Rattle.session_run.specs.declared.session.Session.{Session}
 use Rattle.session_run.specs.Progress.{Progress, progress_by, progress_of}
 use Rattle.session_run.specs.Readings.{AreReadings}
 use Rattle.session_run.specs.Kept.{Stands, opened as placed_now}
-use Rattle.session_run.specs.Turns.{IsNext, next_act, state_before, who_at}
+use Rattle.session_run.specs.Turns.{IsNext, IsNextAct, Order, state_before, who_at}
 use Rattle.session_run.proofs.LogLemmas.{ArePlaced, other_progress, own_progress, place_next, tables_next, tables_stay}
 use Rattle.session_run.proofs.OtherLemmas.{opened_above, readings_count, stands_placed}
 use Rattle.run_sessions.specs.Ordered.{HasOpened, IsInOrder, IsOpenedAs}
@@ -138,19 +138,16 @@ module _ (options : PoolOptions) (log : List EventTree) (x : Session) (s : Stand
 
   -- ## Its own
 
-  module _ (each : EachReadsAsOne) (next : IsNext options x.pieces x.number log event)
+  module _ (each : EachReadsAsOne) (order : Order) (next : IsNext order options x.pieces x.number log event)
       (ends : (code : ℕ) → event.act ≡ Ends code → code ≡ code_of (shown_over (tables_met log event.session event.statement) next.reading)) (o : IsInOrder log x) where
     abbrev q : Progress
     q = progress_by (length log + 1) event.act p
 
     own : event.session ≡ x.number
-    own = ap (λ (e : EventTree). e.session) next.is
+    own = next.own
 
     numbered : event.statement ≡ x.ended + 1
-    numbered = ap (λ (e : EventTree). e.statement) next.is ∙ ap (λ n. n + 1) s.ended
-
-    acted : event.act ≡ next_act options log (who_at x.number p) p p.begun next.reading
-    acted = ap (λ (e : EventTree). e.act) next.is
+    numbered = next.numbered ∙ ap (λ n. n + 1) s.ended
 
     text_here : slice_get x.pieces x.ended ≡ Some next.piece
     text_here = ap (slice_get x.pieces) (sym s.ended) ∙ next.here
@@ -278,8 +275,8 @@ module _ (options : PoolOptions) (log : List EventTree) (x : Session) (s : Stand
         where
           go : (begun : Option ℕ) → p.begun ≡ begun → IsInOrder later y
           go None is =
-              let act = acted ∙ ap (λ b. next_act options log (who_at x.number p) p b next.reading) is in
+              let act = subst (λ b. IsNextAct order options log (who_at x.number p) p b next.reading event.act) is next.act in
               starts is (subst (StartsAs (run_of options log).db next.reading) (sym act) (starts_as (run_of options log) next.reading))
           go (Some at) is =
-              let act = acted ∙ ap (λ b. next_act options log (who_at x.number p) p b next.reading) is in
-              goes_on at is (subst GoesOnAs (sym act) (goes_on_as (run_of options log) (who_at x.number p) (state_before options log at) p next.reading))
+              let act = subst (λ b. IsNextAct order options log (who_at x.number p) p b next.reading event.act) is next.act in
+              goes_on at is (goes_on_as order (run_of options log) (who_at x.number p) (state_before options log at) p.results next.reading event.act act)

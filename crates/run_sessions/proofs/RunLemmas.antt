@@ -14,22 +14,23 @@ use Rattle.session_run.specs.declared.session.Session.{Session}
 use Rattle.session_run.specs.Kept.{IsStage, Stands}
 use Rattle.session_run.specs.Progress.{progress_of}
 use Rattle.session_run.specs.Readings.{AreReadings}
-use Rattle.session_run.specs.Turns.{IsDone}
+use Rattle.session_run.specs.Turns.{InPlan, IsDone}
 use Rattle.session_run.proofs.RunLemmas.{done_is, done_text}
 use Rattle.run_sessions.specs.Played.{IsPlayed, IsScheduled, RiseFrom, Starts}
-use Rattle.run_sessions.specs.Tables.{AreOver, AreStanding, AreTexts, HasRun, HaveEnded, HavePlayed, IsOver, IsText, scripts_of}
+use Rattle.run_sessions.specs.Tables.{AreInPlan, AreOver, AreStanding, AreTexts, HasRun, HaveEnded, HavePlayed, IsOver, IsText, scripts_of}
 use Rattle.run_sessions.specs.Ordered.{IsInOrder, IsOpenedAs}
 use Rattle.run_sessions.proofs.ListedLemmas.{readings_one}
 use Rattle.run_sessions.proofs.PlaceLemmas.{map_there, same_or}
 
 -- ## Turns behind turns
 
-pub none_played : (book : BookView) (sessions : List Session) → AreStanding book.options (log_tree book.log) sessions → HavePlayed book book sessions sessions []
-none_played book sessions standing = record {
+pub none_played : (book : BookView) (sessions : List Session) → AreStanding book.options (log_tree book.log) sessions → AreInPlan sessions → HavePlayed book book sessions sessions []
+none_played book sessions standing in_plan = record {
   options = refl;
   scripts = refl;
   standing = standing;
-  played = λ earlier before. subst (λ turns. IsPlayed book.options (scripts_of sessions) turns (log_tree book.log)) (sym (append-nil earlier)) before;
+  in_plan = in_plan;
+  played = λ earlier before. subst (λ turns. IsPlayed InPlan book.options (scripts_of sessions) turns (log_tree book.log)) (sym (append-nil earlier)) before;
 }
 
 pub then_played : (a b c : BookView) (x y z : List Session) (first more : List ℕ) → HavePlayed a b x y first → HavePlayed b c y z more → HavePlayed a c x z (first ++ more)
@@ -37,12 +38,13 @@ then_played a b c x y z first more p q = record {
   options = q.options ∙ p.options;
   scripts = q.scripts ∙ p.scripts;
   standing = q.standing;
+  in_plan = q.in_plan;
   played = λ earlier before.
-      subst (λ turns. IsPlayed a.options (scripts_of x) turns (log_tree c.log)) (append_assoc earlier first more)
-      (subst (λ (o : PoolOptions). IsPlayed o (scripts_of x) ((earlier ++ first) ++ more) (log_tree c.log)) p.options
-      (subst (λ scripts. IsPlayed b.options scripts ((earlier ++ first) ++ more) (log_tree c.log)) p.scripts
-      (q.played (earlier ++ first) (subst (λ scripts. IsPlayed b.options scripts (earlier ++ first) (log_tree b.log)) (sym p.scripts)
-      (subst (λ (o : PoolOptions). IsPlayed o (scripts_of x) (earlier ++ first) (log_tree b.log)) (sym p.options) (p.played earlier before))))));
+      subst (λ turns. IsPlayed InPlan a.options (scripts_of x) turns (log_tree c.log)) (append_assoc earlier first more)
+      (subst (λ (o : PoolOptions). IsPlayed InPlan o (scripts_of x) ((earlier ++ first) ++ more) (log_tree c.log)) p.options
+      (subst (λ scripts. IsPlayed InPlan b.options scripts ((earlier ++ first) ++ more) (log_tree c.log)) p.scripts
+      (q.played (earlier ++ first) (subst (λ scripts. IsPlayed InPlan b.options scripts (earlier ++ first) (log_tree b.log)) (sym p.scripts)
+      (subst (λ (o : PoolOptions). IsPlayed InPlan o (scripts_of x) (earlier ++ first) (log_tree b.log)) (sym p.options) (p.played earlier before))))));
 }
 
 -- no session comes or goes
@@ -55,11 +57,11 @@ pub rise_lower : (low high : ℕ) → low ≤ high → (later : List ℕ) → Ri
 rise_lower low high below [] rises = tt
 rise_lower low high below (turn ∷ later) rises = (let first = rises.0 in omega (arith, below, first), rises.1)
 
-pub none_run : (book : BookView) (sessions : List Session) (place : ℕ) → AreStanding book.options (log_tree book.log) sessions → HasRun book book sessions sessions place
-none_run book sessions place standing = record {
+pub none_run : (book : BookView) (sessions : List Session) (place : ℕ) → AreStanding book.options (log_tree book.log) sessions → AreInPlan sessions → HasRun book book sessions sessions place
+none_run book sessions place standing in_plan = record {
   turns = [];
   own = λ low below later rises. rise_lower low (place + 1) below later rises;
-  played = none_played book sessions standing;
+  played = none_played book sessions standing in_plan;
 }
 
 pub more_run : (a b c : BookView) (x y z : List Session) (place : ℕ) → HasRun a b x y place → HavePlayed b c y z ((place + 1) ∷ []) → HasRun a c x z place
@@ -78,11 +80,11 @@ pub record HaveRun (old new : BookView) (before after : List Session) (n : ℕ) 
   pub played : HavePlayed old new before after rest
   pub over : AreOver n after
 
-pub none_have_run : (book : BookView) (sessions : List Session) → AreStanding book.options (log_tree book.log) sessions → HaveRun book book sessions sessions 0
-none_have_run book sessions standing = record {
+pub none_have_run : (book : BookView) (sessions : List Session) → AreStanding book.options (log_tree book.log) sessions → AreInPlan sessions → HaveRun book book sessions sessions 0
+none_have_run book sessions standing in_plan = record {
   rest = [];
   rises = λ later rises. rises;
-  played = none_played book sessions standing;
+  played = none_played book sessions standing in_plan;
   over = λ place x low there. absurd (let none : ⊥ = omega (arith, low) in none);
 }
 
@@ -119,9 +121,9 @@ scheduled a b c x y z options scripts turns new of p e =
     record {
       rest = e.rest;
       rises = e.rises;
-      played = subst (λ (o : PoolOptions). IsPlayed o scripts (turns ++ e.rest) (log_tree c.log)) start
-          (subst (λ scripts. IsPlayed a.options scripts (turns ++ e.rest) (log_tree c.log)) of
-          (all.played [] (subst (IsPlayed a.options (scripts_of x) []) (sym empty) Starts)));
+      played = subst (λ (o : PoolOptions). IsPlayed InPlan o scripts (turns ++ e.rest) (log_tree c.log)) start
+          (subst (λ scripts. IsPlayed InPlan a.options scripts (turns ++ e.rest) (log_tree c.log)) of
+          (all.played [] (subst (IsPlayed InPlan a.options (scripts_of x) []) (sym empty) Starts)));
       done = λ session pieces low there.
           map_there (λ (s : Session). s.pieces) z (session - 1) pieces (ap (λ scripts. slice_get scripts (session - 1)) kept ∙ there)
           (λ s at same.

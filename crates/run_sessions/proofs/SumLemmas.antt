@@ -12,6 +12,7 @@ use Rattle.run_log.specs.Events.{EventTree}
 use Rattle.session_run.specs.declared.session.Session.{Session}
 use Rattle.session_run.specs.Work.{event_work, session_work, sessions_work, sum_behind}
 use Rattle.session_run.specs.Works.{done_by, held_in}
+use Rattle.session_run.specs.Turns.{Order}
 use Rattle.run_sessions.specs.Played.{IsPlayed, Starts, Does, Passes}
 use Rattle.run_sessions.specs.Tables.{AreOver, AreStanding}
 use Rattle.run_sessions.proofs.PlaceLemmas.{same_or}
@@ -23,10 +24,10 @@ abbrev pub IsOfOne : ℕ → EventTree → Type 0
 IsOfOne many event = (1 ≤ event.session) × (event.session ≤ many)
 
 -- those of sessions that take turns
-pub played_sessions : (options : PoolOptions) (scripts : List (List (List ℕ))) (turns : List ℕ) (log : List EventTree) → IsPlayed options scripts turns log → AllByRecursion (IsOfOne (length scripts)) log
+pub played_sessions : {order : Order} (options : PoolOptions) (scripts : List (List (List ℕ))) (turns : List ℕ) (log : List EventTree) → IsPlayed order options scripts turns log → AllByRecursion (IsOfOne (length scripts)) log
 played_sessions options scripts turns log Starts = tt
 played_sessions options scripts turns log (Does before events session pieces event played low here next) =
-    let own : event.session ≡ session = ap (λ (e : EventTree). e.session) next.is in
+    let own : event.session ≡ session = next.own in
     let high = slice_get_within scripts _ pieces here in
     all_append (IsOfOne (length scripts)) events (event ∷ []) (played_sessions options scripts before events played) ((omega (arith, own, low), omega (arith, own, low, high)), tt)
 played_sessions options scripts turns log (Passes before events session pieces played low here done) = played_sessions options scripts before log played

@@ -1,5 +1,5 @@
 -- One turn of a session.
-use Rattle.std.proofs.Common.{◌≡◌, ◌≢◌, ℕ, ◌+◌, ◌-◌, ◌≤◌, ◌<◌, List, [], ◌∷◌, ◌++◌, length, Bool, true, false, Some, refl, ap, sym, ◌∙◌, subst, arith, slice_set}
+use Rattle.std.proofs.Common.{◌≡◌, ◌≢◌, ℕ, ◌+◌, ◌-◌, ◌≤◌, ◌<◌, List, [], ◌∷◌, ◌++◌, length, Bool, true, false, cond, Some, refl, ap, sym, ◌∙◌, subst, arith, slice_set}
 use Rattle.std.specs.Prelude.{slice_get, option_map, Ok, Err}
 use Rattle.std.proofs.lemmas.Option.{slice_get-map, slice_get_within}
 use Rattle.pool_policy.specs.declared.options.PoolOptions.{PoolOptions}
@@ -7,8 +7,6 @@ use Rattle.sql_parse.specs.Answered.{EachReadsAsOne}
 use Rattle.run_log.specs.Events.{EventTree, event_tree, log_tree}
 use Rattle.book_core.specs.BookView.{BookView}
 use Rattle.book_core.specs.Lawful.{IsLawful}
-use Rattle.table_store.specs.Content.{Content}
-use Rattle.mal_meaning.specs.declared.plan.Plan.{Plan}
 use Rattle.query_run.specs.declared.step.Query.{Query}
 use Rattle.query_run.specs.declared.step.Step.{Step}
 use Rattle.query_run.specs.declared.step.Step.TheVariants as step
@@ -20,11 +18,11 @@ use Rattle.query_run.specs.Steps.{Computes, IsSoundStep}
 use Rattle.session_run.specs.declared.session.Session.{Session}
 use Rattle.session_run.specs.declared.stage.Stage.{Stage}
 use Rattle.session_run.specs.declared.stage.Stage.TheVariants as stage
-use Rattle.session_run.specs.Kept.{IsStage, Stands}
+use Rattle.session_run.specs.Kept.{IsStage, Stands, order_of}
 use Rattle.session_run.specs.Progress.{progress_of}
-use Rattle.session_run.specs.Stages.{ComesTo, HasComputed, HasDone, IsReady, IsSoundStage, ReadsOn}
+use Rattle.session_run.specs.Stages.{ComesTo, GoesInPlan, HasComputed, HasDone, IsReady, IsSoundStage, ReadsOn}
 use Rattle.session_run.specs.Works.{IsWorked, done_by}
-use Rattle.session_run.specs.Turns.{IsDone, IsNext, next_event}
+use Rattle.session_run.specs.Turns.{AsReady, InPlan, IsDone, IsNext, IsNextAct, who_at}
 use Rattle.session_run.proofs.DoesLemmas.{done_log, lawful_then}
 use Rattle.session_run.proofs.OtherLemmas.{others_stay}
 use Rattle.session_run.proofs.RunLemmas.{done_is, next_other}
@@ -32,34 +30,34 @@ use Rattle.session_run.proofs.StageLemmas.{computed_stands, stage_sound}
 use Rattle.session_run.proofs.WorkLemmas.{others_worked}
 use Rattle.run_sessions.specs.Played.{IsPlayed, Does, Passes}
 use Rattle.run_sessions.specs.Ordered.{IsInOrder}
-use Rattle.run_sessions.specs.Tables.{AreStanding, CountsTurns, HasTurned, HavePlayed, IsOver, scripts_of}
+use Rattle.run_sessions.specs.Tables.{AreInPlan, AreStanding, CountsTurns, HasTurned, HavePlayed, IsOver, scripts_of}
 use Rattle.run_sessions.proofs.OrderLemmas.{ordered_as, others_ordered, own_ordered}
 use Rattle.run_sessions.proofs.PlaceLemmas.{map_set, set_all, sum_set}
 
 -- ## A stage that was computed
 
-query_ready : (snap : Content) (plan : Plan) (ids : List ℕ) (to : Step) → QueryComesTo snap plan ids to → IsReady (stage.Querying to)
-query_ready snap plan ids (step.Asking q key) comes = tt
-query_ready snap plan ids (step.Ending reply work) comes = tt
-query_ready snap plan ids (step.Begun q) comes = absurd comes
-query_ready snap plan ids (step.Found q found parts) comes = absurd comes
-query_ready snap plan ids (step.Offering q offer) comes = absurd comes
-query_ready snap plan ids (step.Gained q value id) comes = absurd comes
+query_ready : (q : Query) (to : Step) → QueryComesTo q to → IsReady (stage.Querying to)
+query_ready q (step.Asking to n key) comes = tt
+query_ready q (step.Ending reply work) comes = tt
+query_ready q (step.Begun to) comes = absurd comes
+query_ready q (step.Open to) comes = absurd comes
+query_ready q (step.Found to n found parts) comes = absurd comes
+query_ready q (step.Offering to n offer) comes = absurd comes
 
-result_ready : (q : Query) (instr : Instr) (what : Found) (parts : List Part) (to : Step) → BecomesOf q instr what parts to → IsReady (stage.Querying to)
-result_ready q instr what parts (step.Offering to offer) becomes = tt
-result_ready q instr what parts (step.Ending reply work) becomes = tt
-result_ready q instr what parts (step.Begun to) becomes = absurd becomes
-result_ready q instr what parts (step.Asking to key) becomes = absurd becomes
-result_ready q instr what parts (step.Found to found pieces) becomes = absurd becomes
-result_ready q instr what parts (step.Gained to value id) becomes = absurd becomes
+result_ready : (q : Query) (n : ℕ) (instr : Instr) (what : Found) (parts : List Part) (to : Step) → BecomesOf q n instr what parts to → IsReady (stage.Querying to)
+result_ready q n instr what parts (step.Offering to at offer) becomes = tt
+result_ready q n instr what parts (step.Ending reply work) becomes = tt
+result_ready q n instr what parts (step.Begun to) becomes = absurd becomes
+result_ready q n instr what parts (step.Open to) becomes = absurd becomes
+result_ready q n instr what parts (step.Asking to at key) becomes = absurd becomes
+result_ready q n instr what parts (step.Found to at found pieces) becomes = absurd becomes
 
 step_ready : (from to : Step) → IsSoundStep from → Computes from to → IsReady (stage.Querying to)
-step_ready (step.Begun q) to sound comes = query_ready q.snap q.plan q.ids.items to comes
-step_ready (step.Gained q value id) to sound comes = query_ready q.snap q.plan (q.ids.items ++ id ∷ []) to comes
-step_ready (step.Found q found parts) to sound comes = result_ready q sound.1.0 found parts.items to (comes sound.1.0 sound.1.1)
-step_ready (step.Asking q key) to sound comes = subst (λ at. IsReady (stage.Querying at)) (sym comes) tt
-step_ready (step.Offering q offer) to sound comes = subst (λ at. IsReady (stage.Querying at)) (sym comes) tt
+step_ready (step.Begun q) to sound comes = query_ready comes.0 to comes.2
+step_ready (step.Open q) to sound comes = query_ready q to comes
+step_ready (step.Found q n found parts) to sound comes = result_ready q n sound.1.0 found parts.items to (comes sound.1.0 sound.1.1)
+step_ready (step.Asking q n key) to sound comes = subst (λ at. IsReady (stage.Querying at)) (sym comes) tt
+step_ready (step.Offering q n offer) to sound comes = subst (λ at. IsReady (stage.Querying at)) (sym comes) tt
 step_ready (step.Ending reply work) to sound comes = subst (λ at. IsReady (stage.Querying at)) (sym comes) tt
 
 -- what is read where a statement is left
@@ -119,13 +117,29 @@ over_is options log x s quiet all = record { between = go x.stage refl quiet s.s
     go (stage.Explaining plan) is is_quiet has = absurd is_quiet
     go (stage.Telling reply) is is_quiet has = absurd is_quiet
 
+-- a session that goes through its plans in their order may compute at any stage
+pub in_plan_goes : (x : Session) → x.wide ≡ false → GoesInPlan x x.stage
+in_plan_goes x narrow = go x.stage
+  where
+    go : (at : Stage) → GoesInPlan x at
+    go (stage.Querying (step.Begun q)) = narrow
+    go (stage.Querying (step.Open q)) = narrow
+    go (stage.Querying (step.Found q n what parts)) = narrow
+    go (stage.Querying (step.Asking q n key)) = tt
+    go (stage.Querying (step.Offering q n offer)) = tt
+    go (stage.Querying (step.Ending reply work)) = tt
+    go (stage.Explaining plan) = tt
+    go (stage.Reading read) = tt
+    go (stage.Telling reply) = tt
+    go stage.Between = tt
+
 -- so where it has computed
-pub computed_over : (options : PoolOptions) (log : List EventTree) (x new : Session) → Stands options log x → HasComputed x new → length new.pieces ≤ new.ended → IsOver new
-computed_over options log x new s c all = over_is options log new (computed_stands options log x s new c) (settled x x.stage new.stage new.text.items c.stage) all
+pub computed_over : (options : PoolOptions) (log : List EventTree) (x new : Session) → GoesInPlan x x.stage → Stands options log x → HasComputed x new → length new.pieces ≤ new.ended → IsOver new
+computed_over options log x new in_plan s c all = over_is options log new (computed_stands options log x s in_plan new c) (settled x x.stage new.stage new.text.items c.stage) all
 
 -- an event of the session as it stood before it computed
-pub done_before : (old new : BookView) (x mid y : Session) → mid.number ≡ x.number → mid.pieces ≡ x.pieces → HasDone old new mid y → HasDone old new x y
-done_before old new x mid y number pieces d = record {
+pub done_before : (old new : BookView) (x mid y : Session) → mid.number ≡ x.number → mid.pieces ≡ x.pieces → mid.wide ≡ x.wide → HasDone old new mid y → HasDone old new x y
+done_before old new x mid y number pieces wide d = record {
   event = d.event;
   log = d.log;
   next = record {
@@ -133,7 +147,11 @@ done_before old new x mid y number pieces d = record {
     here = (λ i. slice_get (sym pieces i) (progress_of (sym number i) (log_tree old.log)).ended) ∙ d.next.here;
     reading = d.next.reading;
     read = d.next.read;
-    is = d.next.is ∙ ap (λ n. next_event old.options (log_tree old.log) n d.next.reading) number;
+    own = d.next.own ∙ number;
+    numbered = d.next.numbered ∙ ap (λ n. (progress_of n (log_tree old.log)).ended + 1) number;
+    act = subst (λ o. IsNextAct o old.options (log_tree old.log) (who_at x.number (progress_of x.number (log_tree old.log))) (progress_of x.number (log_tree old.log)) (progress_of x.number (log_tree old.log)).begun d.next.reading (event_tree d.event).act)
+        (ap (λ b. cond b AsReady InPlan) wide)
+        (subst (λ n. IsNextAct (order_of mid) old.options (log_tree old.log) (who_at n (progress_of n (log_tree old.log))) (progress_of n (log_tree old.log)) (progress_of n (log_tree old.log)).begun d.next.reading (event_tree d.event).act) number d.next.act);
   };
   stands = d.stands;
   worked = d.worked;
@@ -173,7 +191,7 @@ module _ (old new : BookView) (sessions : List Session) (place : ℕ) (x y : Ses
       let more = done_log old new x y d in
       let was = standing other z there in
       let far : x.number ≡ z.number → ⊥ = λ same. apart (let a = was.0 in let b = numbered in omega (arith, a, b, same)) in
-      let none = next_other old.options x.pieces x.number z.number log event d.next far in (
+      let none = next_other (order_of x) old.options x.pieces x.number z.number log event d.next far in (
         was.0,
         subst (λ (o : PoolOptions). Stands o (log_tree new.log) z) (sym options)
             (subst (λ (l : List EventTree). Stands old.options l z) (sym more) (others_stay old.options log z event (lawful_then old new event options more lawful) was.1 none)),
@@ -191,7 +209,7 @@ module _ (old new : BookView) (sessions : List Session) (place : ℕ) (x y : Ses
         number ∙ numbered,
         d.stands,
         d.worked,
-        subst (λ (l : List EventTree). IsInOrder l y) (sym more) (own_ordered old.options log x stood.1 (event_tree d.event) each d.next d.ends stood.3 y number pieces ended),
+        subst (λ (l : List EventTree). IsInOrder l y) (sym more) (own_ordered old.options log x stood.1 (event_tree d.event) each (order_of x) d.next d.ends stood.3 y number pieces ended),
       )
 
   -- where it does none
@@ -201,21 +219,28 @@ module _ (old new : BookView) (sessions : List Session) (place : ℕ) (x y : Ses
       let ended = sym stood.1.ended ∙ ap (λ n. (progress_of n log).ended) (sym number) ∙ s.ended in
       (number ∙ numbered, s, w, ordered_as log x y (sym number) (sym pieces) ended stood.3)
 
+  in_plan_stay : AreInPlan sessions → y.wide ≡ x.wide → AreInPlan after
+  in_plan_stay in_plan wide = set_all (λ at (z : Session). z.wide ≡ false) sessions place y (wide ∙ in_plan place x here) (λ other z apart there. in_plan other z there)
+
   -- the sessions take this turn
-  pub turn_played : EachReadsAsOne → (more : Bool) → HasTurned old new x y more → HavePlayed old new sessions after ((place + 1) ∷ [])
-  turn_played each true d = record {
+  pub turn_played : EachReadsAsOne → AreInPlan sessions → y.wide ≡ x.wide → (more : Bool) → HasTurned old new x y more → HavePlayed old new sessions after ((place + 1) ∷ [])
+  turn_played each in_plan wide true d = record {
     options = options;
     scripts = scripts_stay;
+    in_plan = in_plan_stay in_plan wide;
     standing = set_all (StandsAt new) sessions place y (own_stands each d) (other_stands d);
-    played = λ earlier before. subst (IsPlayed old.options (scripts_of sessions) (earlier ++ (place + 1) ∷ [])) (sym (done_log old new x y d))
-        (Does earlier (log_tree old.log) (place + 1) x.pieces (event_tree d.event) before (omega arith) script (subst (λ n. IsNext old.options x.pieces n (log_tree old.log) (event_tree d.event)) numbered d.next));
+    played = λ earlier before. subst (IsPlayed InPlan old.options (scripts_of sessions) (earlier ++ (place + 1) ∷ [])) (sym (done_log old new x y d))
+        (Does earlier (log_tree old.log) (place + 1) x.pieces (event_tree d.event) before (omega arith) script
+        (subst (λ o. IsNext o old.options x.pieces (place + 1) (log_tree old.log) (event_tree d.event)) (ap (λ b. cond b AsReady InPlan) (in_plan place x here))
+        (subst (λ n. IsNext (order_of x) old.options x.pieces n (log_tree old.log) (event_tree d.event)) numbered d.next)));
   }
-  turn_played each false d = record {
+  turn_played each in_plan wide false d = record {
     options = options;
     scripts = scripts_stay;
+    in_plan = in_plan_stay in_plan wide;
     standing = subst (λ (book : BookView). AreStanding book.options (log_tree book.log) after) (sym d.0)
         (set_all (StandsAt old) sessions place y (same_stands d.1 d.2) (λ other z apart there. standing other z there));
-    played = λ earlier before. subst (λ (book : BookView). IsPlayed old.options (scripts_of sessions) (earlier ++ (place + 1) ∷ []) (log_tree book.log)) (sym d.0)
+    played = λ earlier before. subst (λ (book : BookView). IsPlayed InPlan old.options (scripts_of sessions) (earlier ++ (place + 1) ∷ []) (log_tree book.log)) (sym d.0)
         (Passes earlier (log_tree old.log) (place + 1) x.pieces before (omega arith) script
         (subst (λ n. IsDone x.pieces n (log_tree old.log)) (number ∙ numbered) (subst (λ ps. IsDone ps y.number (log_tree old.log)) pieces (done_is old.options (log_tree old.log) y d.1 d.3.all))));
   }

@@ -2,24 +2,24 @@
 use Rattle.std.specs.Prelude.{◌≡◌, ℕ, ◌-◌, ◌≤◌, List, [], ◌∷◌, ◌++◌, slice_get, Some}
 use Rattle.pool_policy.specs.declared.options.PoolOptions.{PoolOptions}
 use Rattle.run_log.specs.Events.{EventTree}
-use Rattle.session_run.specs.Turns.{IsDone, IsNext}
+use Rattle.session_run.specs.Turns.{InPlan, IsDone, IsNext, Order}
 
--- sessions that take these turns, in order, do these events: each turn lets a session do its next event; a turn of a session that is done is passed over
-pub data IsPlayed (options : PoolOptions) (scripts : List (List (List ℕ))) : List ℕ → List EventTree → Type 0 where
-  Starts : IsPlayed options scripts [] []
-  Does : (turns : List ℕ) (log : List EventTree) (session : ℕ) (pieces : List (List ℕ)) (event : EventTree) → IsPlayed options scripts turns log
-      → 1 ≤ session → slice_get scripts (session - 1) ≡ Some pieces → IsNext options pieces session log event → IsPlayed options scripts (turns ++ session ∷ []) (log ++ event ∷ [])
-  Passes : (turns : List ℕ) (log : List EventTree) (session : ℕ) (pieces : List (List ℕ)) → IsPlayed options scripts turns log
-      → 1 ≤ session → slice_get scripts (session - 1) ≡ Some pieces → IsDone pieces session log → IsPlayed options scripts (turns ++ session ∷ []) log
+-- sessions that go through their plans in this order and take these turns do these events: each turn lets a session do its next event; a turn of a session that is done is passed over
+pub data IsPlayed (order : Order) (options : PoolOptions) (scripts : List (List (List ℕ))) : List ℕ → List EventTree → Type 0 where
+  Starts : IsPlayed order options scripts [] []
+  Does : (turns : List ℕ) (log : List EventTree) (session : ℕ) (pieces : List (List ℕ)) (event : EventTree) → IsPlayed order options scripts turns log
+      → 1 ≤ session → slice_get scripts (session - 1) ≡ Some pieces → IsNext order options pieces session log event → IsPlayed order options scripts (turns ++ session ∷ []) (log ++ event ∷ [])
+  Passes : (turns : List ℕ) (log : List EventTree) (session : ℕ) (pieces : List (List ℕ)) → IsPlayed order options scripts turns log
+      → 1 ≤ session → slice_get scripts (session - 1) ≡ Some pieces → IsDone pieces session log → IsPlayed order options scripts (turns ++ session ∷ []) log
 
 -- the turns never fall
 abbrev pub RiseFrom : ℕ → List ℕ → Type 0
 RiseFrom low [] = Unit {0}
 RiseFrom low (turn ∷ turns) = (low ≤ turn) × RiseFrom turn turns
 
--- the log of a schedule: behind its turns session 1 runs to its end, then session 2, and so on
+-- the log of a schedule, in which each session goes through its plans in their order: behind its turns session 1 runs to its end, then session 2, and so on
 pub record IsScheduled (options : PoolOptions) (scripts : List (List (List ℕ))) (schedule : List ℕ) (log : List EventTree) : Type 0 where
   pub rest : List ℕ
   pub rises : RiseFrom 1 rest
-  pub played : IsPlayed options scripts (schedule ++ rest) log
+  pub played : IsPlayed InPlan options scripts (schedule ++ rest) log
   pub done : (session : ℕ) (pieces : List (List ℕ)) → 1 ≤ session → slice_get scripts (session - 1) ≡ Some pieces → IsDone pieces session log

@@ -12,6 +12,7 @@ use Rattle.session_run.specs.declared.stage.Stage.TheVariants.{Between}
 use Rattle.session_run.specs.Kept.{Stands}
 use Rattle.session_run.specs.Readings.{AreReadings}
 use Rattle.session_run.specs.Stages.{HasDone}
+use Rattle.session_run.specs.Turns.{InPlan}
 use Rattle.session_run.specs.Works.{IsWorked, done_by, lost_of}
 use Rattle.run_sessions.specs.Ordered.{IsInOrder}
 use Rattle.run_sessions.specs.Played.{IsPlayed, RiseFrom}
@@ -35,6 +36,10 @@ AreOver n sessions = (place : ℕ) (x : Session) → place < n → slice_get ses
 
 -- ## Turns
 
+-- each goes through its plans in their order
+abbrev pub AreInPlan : List Session → Type 0
+AreInPlan sessions = (place : ℕ) (x : Session) → slice_get sessions place ≡ Some x → x.wide ≡ false
+
 -- a session's turn: it does its next event, or is over
 abbrev pub HasTurned : BookView → BookView → Session → Session → Bool → Type 0
 HasTurned old new before after true = HasDone old new before after
@@ -54,7 +59,8 @@ pub record HavePlayed (old new : BookView) (before after : List Session) (turns 
   pub options : new.options ≡ old.options
   pub scripts : scripts_of after ≡ scripts_of before
   pub standing : AreStanding new.options (log_tree new.log) after
-  pub played : (earlier : List ℕ) → IsPlayed old.options (scripts_of before) earlier (log_tree old.log) → IsPlayed old.options (scripts_of before) (earlier ++ turns) (log_tree new.log)
+  pub in_plan : AreInPlan after
+  pub played : (earlier : List ℕ) → IsPlayed InPlan old.options (scripts_of before) earlier (log_tree old.log) → IsPlayed InPlan old.options (scripts_of before) (earlier ++ turns) (log_tree new.log)
 
 -- one session takes some turns
 pub record HasRun (old new : BookView) (before after : List Session) (place : ℕ) : Type 0 where

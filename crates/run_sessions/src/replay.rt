@@ -10,7 +10,7 @@ ghost use Rattle.session_run.specs.Work.{run_lost, run_totals};
 ghost use Rattle.session_run.specs.Works.{done_by};
 ghost use Rattle.store_changes.specs.Work.{Counts};
 ghost use Rattle.run_sessions.specs.Played.{IsScheduled};
-ghost use Rattle.run_sessions.specs.Tables.{AreOver, AreStanding, AreTexts, CountsTurns, HasRun, HaveEnded, HavePlayed, IsOver, scripts_of};
+ghost use Rattle.run_sessions.specs.Tables.{AreInPlan, AreOver, AreStanding, AreTexts, CountsTurns, HasRun, HaveEnded, HavePlayed, IsOver, scripts_of};
 
 use crate::finish::{Run, finish_run};
 use crate::turn::take_turn;
@@ -74,12 +74,13 @@ fn all_sessions(alloc: Global, scripts: Vec<Sequence<Word>>) -> Result<Vec<Sessi
     requires short { AllByRecursion (λ (pieces : List (List ℕ)). length pieces ≤ 256) scripts.items }
     ensures scripts { IfOk result (λ sessions. scripts_of sessions.items ≡ scripts.items) }
     ensures standing { IfOk result (λ sessions. (options : OptionsSeen) → AreStanding options [] sessions.items) }
+    ensures in_plan { IfOk result (λ sessions. AreInPlan sessions.items) }
     ensures done { IfOk result (λ sessions. sum_by done_by sessions.items ≡ 0) }
 {
     let mut sessions = Vec::new(alloc);
     'scripts: for pieces in scripts {
         let number = sessions.len() as u32 + 1;
-        sessions.push(Session::new(alloc, number, pieces))?;
+        sessions.push(Session::new(alloc, number, pieces, false))?;
     }
     Ok(sessions)
 }
@@ -98,6 +99,7 @@ fn take_turns<E: Operate, L: Ledger>(
     requires weights { scorer.now.weights.items ≡ book.old.options.weights }
     requires turns { AllByRecursion (λ turn. (1 ≤ turn) × (turn ≤ length sessions.old.items)) turns.now }
     requires standing { AreStanding book.old.options (log_tree book.old.log) sessions.old.items }
+    requires in_plan { AreInPlan sessions.old.items }
     ensures played { OnOk result (HavePlayed book.old book.new sessions.old.items sessions.new.items turns.now) }
     ensures counts { OnOk result (CountsTurns book.old book.new sessions.old.items sessions.new.items steps.old steps.new) }
 {
@@ -122,6 +124,7 @@ fn run_on<E: Operate, L: Ledger>(
     requires weights { scorer.now.weights.items ≡ book.old.options.weights }
     requires inside { place < length sessions.old.items }
     requires standing { AreStanding book.old.options (log_tree book.old.log) sessions.old.items }
+    requires in_plan { AreInPlan sessions.old.items }
     ensures run { OnOk result (HasRun book.old book.new sessions.old.items sessions.new.items place) }
     ensures counts { OnOk result (CountsTurns book.old book.new sessions.old.items sessions.new.items steps.old steps.new) }
     ensures others { OnOk result ((other : ℕ) → other ≢ place → slice_get sessions.new.items other ≡ slice_get sessions.old.items other) }
@@ -147,6 +150,7 @@ fn run_all<E: Operate, L: Ledger>(
     requires kind { scorer.now.kind ≡ book.old.options.evict }
     requires weights { scorer.now.weights.items ≡ book.old.options.weights }
     requires standing { AreStanding book.old.options (log_tree book.old.log) sessions.old.items }
+    requires in_plan { AreInPlan sessions.old.items }
     ensures ended { OnOk result (HaveEnded book.old book.new sessions.old.items sessions.new.items) }
     ensures counts { OnOk result (CountsTurns book.old book.new sessions.old.items sessions.new.items steps.old steps.new) }
 {

@@ -4,7 +4,7 @@ ghost use Rattle.run_log.specs.Events.{log_tree};
 ghost use Rattle.session_run.specs.Kept.{Stands};
 ghost use Rattle.session_run.specs.Works.{IsWorked};
 ghost use Rattle.session_run.specs.declared.session.Session.{Session as SessionSeen};
-ghost use Rattle.run_sessions.specs.Tables.{AreStanding, CountsTurns, HasTurned, HavePlayed, IsOver};
+ghost use Rattle.run_sessions.specs.Tables.{AreInPlan, AreStanding, CountsTurns, HasTurned, HavePlayed, IsOver};
 
 use bat_core::Operate;
 use book_core::Book;
@@ -28,9 +28,11 @@ fn step<E: Operate, L: Ledger>(
     requires weights { scorer.now.weights.items ≡ book.old.options.weights }
     requires stands { Stands book.old.options (log_tree book.old.log) session.old }
     requires worked { IsWorked book.old.options (log_tree book.old.log) session.old }
+    requires in_plan { session.old.wide ≡ false }
     ensures options { OnOk result (book.new.options ≡ book.old.options) }
     ensures number { OnOk result (session.new.number ≡ session.old.number) }
     ensures pieces { OnOk result (session.new.pieces ≡ session.old.pieces) }
+    ensures wide { OnOk result (session.new.wide ≡ session.old.wide) }
     ensures turned { IfOk result (λ more. HasTurned book.old book.new session.old session.new more) }
     ensures counts { OnOk result (CountsTurns book.old book.new (session.old ∷ []) (session.new ∷ []) steps.old steps.new) }
 {
@@ -57,6 +59,7 @@ pub(crate) fn take_turn<E: Operate, L: Ledger>(
     requires weights { scorer.now.weights.items ≡ book.old.options.weights }
     requires inside { place < length sessions.old.items }
     requires standing { AreStanding book.old.options (log_tree book.old.log) sessions.old.items }
+    requires in_plan { AreInPlan sessions.old.items }
     ensures played { OnOk result (HavePlayed book.old book.new sessions.old.items sessions.new.items ((place + 1) ∷ [])) }
     ensures counts { OnOk result (CountsTurns book.old book.new sessions.old.items sessions.new.items steps.old steps.new) }
     ensures others { OnOk result ((other : ℕ) → other ≢ place → slice_get sessions.new.items other ≡ slice_get sessions.old.items other) }

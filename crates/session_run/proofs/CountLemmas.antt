@@ -134,29 +134,29 @@ module _ (old new : BookView) (x y : Session) (options : new.options ≡ old.opt
       started before after is same none
       (change_counts old new x (Writes (Some statement) code count) options log work (write_lost statement (state_of old).db) before after more counts refl)
 
-  looked_holds : (q : Query) (pool : PoolState) (key : Key) (to : Step) → IsLooked q pool key to → held to ≡ q.work
-  looked_holds q pool key (step.Gained to value id) l = ap (λ (r : Query). r.work) l.0
-  looked_holds q pool key (step.Found to what parts) l = ap (λ (r : Query). r.work) l.0
-  looked_holds q pool key (step.Begun to) none = absurd none
-  looked_holds q pool key (step.Asking to named) none = absurd none
-  looked_holds q pool key (step.Offering to offer) none = absurd none
-  looked_holds q pool key (step.Ending reply work) none = absurd none
+  looked_holds : (q : Query) (n : ℕ) (pool : PoolState) (key : Key) (to : Step) → IsLooked q n pool key to → held to ≡ q.work
+  looked_holds q n pool key (step.Open to) l = l.2.work_is
+  looked_holds q n pool key (step.Found to at what parts) l = l.1.work_is
+  looked_holds q n pool key (step.Begun to) none = absurd none
+  looked_holds q n pool key (step.Asking to at named) none = absurd none
+  looked_holds q n pool key (step.Offering to at offer) none = absurd none
+  looked_holds q n pool key (step.Ending reply work) none = absurd none
 
   -- a query that asks
-  pub look_counts : (q : Query) (pool : PoolState) (key : Key) (to : Step) (instr : ℕ) (found : Looked) → x.stage ≡ stage.Querying (step.Asking q key) → IsLooked q pool key to → y.work ≡ x.work → y.stage ≡ stage.Querying to
+  pub look_counts : (q : Query) (n : ℕ) (pool : PoolState) (key : Key) (to : Step) (instr : ℕ) (found : Looked) → x.stage ≡ stage.Querying (step.Asking q n key) → IsLooked q n pool key to → y.work ≡ x.work → y.stage ≡ stage.Querying to
       → Adds (Looks instr key found) → (steps : ℕ) → CountsInside old new x y steps steps
-  look_counts q pool key to instr found is looked work next log steps =
+  look_counts q n pool key to instr found is looked work next log steps =
       let held_before : held_in x.stage ≡ q.work = ap held_in is in
-      let held_after : held_in y.stage ≡ q.work = ap held_in next ∙ looked_holds q pool key to looked in
+      let held_after : held_in y.stage ≡ q.work = ap held_in next ∙ looked_holds q n pool key to looked in
       record {
         done = omega (arith, work, held_before, held_after);
         counts = subst (λ at. CountsAt old new x.number at steps steps) (sym is) (goes_count old new x (Looks instr key found) options log (look_keeps instr key found) steps);
       }
 
   -- a query that offers
-  pub offer_counts : (q : Query) (offer : Offer) (to : Step) (instr : ℕ) (key : Key) (result : Admitted) → x.stage ≡ stage.Querying (step.Offering q offer) → held to ≡ q.work → y.work ≡ x.work + offer.done
+  pub offer_counts : (q : Query) (n : ℕ) (offer : Offer) (to : Step) (instr : ℕ) (key : Key) (result : Admitted) → x.stage ≡ stage.Querying (step.Offering q n offer) → held to ≡ q.work → y.work ≡ x.work + offer.done
       → y.stage ≡ stage.Querying to → Adds (Admits instr key result) → (steps : ℕ) → CountsInside old new x y steps steps
-  offer_counts q offer to instr key result is kept work next log steps =
+  offer_counts q n offer to instr key result is kept work next log steps =
       let held_before : held_in x.stage ≡ q.work + offer.done = ap held_in is in
       let held_after : held_in y.stage ≡ q.work = ap held_in next ∙ kept in
       record {

@@ -1,6 +1,7 @@
 -- What an event of a book is to the session that did it.
-use Rattle.std.proofs.Common.{◌≡◌, ℕ, ◌+◌, List, [], ◌∷◌, ◌++◌, length, Option, Some, None, refl, ap, sym, ◌∙◌, subst}
+use Rattle.std.proofs.Common.{◌≡◌, ℕ, ◌+◌, ◌<◌, List, [], ◌∷◌, ◌++◌, length, Option, Some, None, refl, ap, sym, ◌∙◌, subst}
 use Rattle.std.specs.Prelude.{Bool, true, Result, Ok, Err, IfOk, slice_get}
+use Rattle.std.proofs.lemmas.Option.{slice_get_within}
 use Rattle.mal_meaning.specs.declared.plan.Plan.{Plan}
 use Rattle.mal_meaning.specs.Meaning.{plan_rows}
 use Rattle.mal_check.specs.Checked.{plan_fault}
@@ -25,7 +26,7 @@ use Rattle.pool_policy.specs.declared.options.Admitted.{Admitted}
 use Rattle.pool_policy.specs.Admits.{admit_of}
 use Rattle.pool_policy.specs.Looks.{look_of}
 use Rattle.run_log.specs.declared.event.Act.TheVariants as act
-use Rattle.run_log.specs.Fold.{LogState, key_offer}
+use Rattle.run_log.specs.Fold.{LogState, key_offer, run_of}
 use Rattle.answer_text.specs.declared.shown.Shown.TheVariants as shown
 use Rattle.answer_text.specs.Log.{code_of, shown_over, shown_reply, tables_met}
 use Rattle.book_core.specs.Begins.{begin_act, code_in, logged_plan, marks_in, unless_refused}
@@ -37,7 +38,8 @@ use Rattle.query_run.specs.declared.step.Query.{Query}
 use Rattle.query_run.specs.declared.step.Offer.{Offer}
 use Rattle.query_run.specs.declared.step.Step.{Step}
 use Rattle.query_run.specs.declared.step.Step.TheVariants as step
-use Rattle.query_run.specs.Queries.{IsLooked}
+use Rattle.bat_core.specs.declared.shared.Obj.TheVariants as obj
+use Rattle.query_run.specs.Queries.{HasGained, IsLooked, IsUnderWay}
 use Rattle.query_run.specs.Steps.{held}
 use Rattle.pool_policy.specs.declared.entry.Who.{Who}
 use Rattle.pool_policy.specs.declared.options.PoolOptions.{PoolOptions}
@@ -51,9 +53,10 @@ use Rattle.book_core.specs.Lawful.{IsLawful}
 use Rattle.session_run.specs.declared.session.Session.{Session}
 use Rattle.session_run.specs.declared.stage.Stage.{Stage}
 use Rattle.session_run.specs.declared.stage.Stage.TheVariants as stage
-use Rattle.session_run.specs.Kept.{Stands}
+use Rattle.session_run.specs.Progress.{progress_of}
+use Rattle.session_run.specs.Kept.{IsStage, IsUnder, Stands, order_of}
 use Rattle.session_run.specs.Stages.{BeginsWith, HasDone, at_stage, explained, with_reply}
-use Rattle.session_run.specs.Turns.{IsNext}
+use Rattle.session_run.specs.Turns.{IsNext, state_before}
 use Rattle.session_run.specs.Works.{CountsInside, IsWorked, held_in}
 use Rattle.session_run.proofs.OutsideLemmas.{restaged}
 use Rattle.session_run.proofs.OwnLemmas.{event_by, now_is, replied, tree_more}
@@ -84,7 +87,7 @@ EndsSo log x act reading = (code : ℕ) → act ≡ Ends code → code ≡ code_
 
 -- the session has done it
 pub has_done : (old new : BookView) (before made after : Session) (act : Act) → after ≡ made → new.options ≡ old.options → new.log ≡ old.log ++ entry_by before act ∷ []
-    → (does : IsNext old.options before.pieces before.number (log_tree old.log) (event_by before (act_tree act)) × Stands old.options (log_tree old.log ++ event_by before (act_tree act) ∷ []) made)
+    → (does : IsNext (order_of before) old.options before.pieces before.number (log_tree old.log) (event_by before (act_tree act)) × Stands old.options (log_tree old.log ++ event_by before (act_tree act) ∷ []) made)
     → IsWorked old.options (log_tree old.log ++ event_by before (act_tree act) ∷ []) made → EndsSo (log_tree old.log) before (act_tree act) does.0.reading → HasDone old new before after
 has_done old new before made after act same options more does worked ends =
     let event = event_by before (act_tree act) in
@@ -103,7 +106,7 @@ pub done_as : (old new : BookView) (x after : Session) (now : Stage) → HasDone
 done_as old new x after now d = record {
   event = d.event;
   log = d.log;
-  next = record { piece = d.next.piece; here = d.next.here; reading = d.next.reading; read = d.next.read; is = d.next.is };
+  next = record { piece = d.next.piece; here = d.next.here; reading = d.next.reading; read = d.next.read; own = d.next.own; numbered = d.next.numbered; act = d.next.act };
   stands = d.stands;
   worked = d.worked;
   ends = d.ends;
@@ -201,7 +204,7 @@ module _ (old new : BookView) (who : Who) (x after : Session) (s : Stands old.op
       pub meaning : IfOk outcome (λ plan. plan_rows plan now.db ≡ answer_of_stmt statement now.db)
 
     begin_done : (statement : StmtTree) → new.log ≡ old.log ++ event_of who (begin_act statement outcome) ∷ [] → held_in next ≡ 0
-        → IsNext old.options x.pieces x.number (log_tree old.log) (event_by x (act_tree (begin_act statement outcome))) × Stands old.options (log_tree old.log ++ event_by x (act_tree (begin_act statement outcome)) ∷ []) (at_stage x next)
+        → IsNext (order_of x) old.options x.pieces x.number (log_tree old.log) (event_by x (act_tree (begin_act statement outcome))) × Stands old.options (log_tree old.log ++ event_by x (act_tree (begin_act statement outcome)) ∷ []) (at_stage x next)
         → IsWorked old.options (log_tree old.log ++ event_by x (act_tree (begin_act statement outcome)) ∷ []) (at_stage x next) → DoneSo old new x after
     begin_done statement log none does worked =
         let code = code_in outcome in
@@ -232,6 +235,21 @@ module _ (old new : BookView) (who : Who) (x after : Session) (s : Stands old.op
 
 -- ## A query goes on
 
+-- the instruction that it asks for, or offers the result of, is one of its plan
+pub asks_within : (options : PoolOptions) (log : List EventTree) (x : Session) → Stands options log x → (q : Query) (n : ℕ) (key : Key) → x.stage ≡ stage.Querying (step.Asking q n key) → IsUnderWay q × (n < length q.plan.instrs)
+asks_within options log x s q n key is =
+    let p = progress_of x.number log in
+    let has = subst (IsStage options log x p) is s.stage in
+    let run = subst (IsUnder (order_of x) (state_before options log has.at) (run_of options log).given p.results has.statement) is has.under in
+    (run.step.0.under, slice_get_within q.plan.instrs n run.step.3.instr run.step.3.at.here)
+
+pub offers_within : (options : PoolOptions) (log : List EventTree) (x : Session) → Stands options log x → (q : Query) (n : ℕ) (offer : Offer) → x.stage ≡ stage.Querying (step.Offering q n offer) → IsUnderWay q × (n < length q.plan.instrs)
+offers_within options log x s q n offer is =
+    let p = progress_of x.number log in
+    let has = subst (IsStage options log x p) is s.stage in
+    let run = subst (IsUnder (order_of x) (state_before options log has.at) (run_of options log).given p.results has.statement) is has.under in
+    (run.step.0.under, slice_get_within q.plan.instrs n run.step.5.0 run.step.5.1.here)
+
 module _ (old new : BookView) (who : Who) (x after : Session) (s : Stands old.options (log_tree old.log) x) (named : IsWho x who) (options : new.options ≡ old.options) where
   abbrev state : LogState
   state = state_of old
@@ -239,40 +257,41 @@ module _ (old new : BookView) (who : Who) (x after : Session) (s : Stands old.op
   abbrev Worked : Type 0
   Worked = IsWorked old.options (log_tree old.log) x
 
-  pub look_does : Worked → (q : Query) (key : Key) (to : Step) → x.stage ≡ stage.Querying (step.Asking q key) → IsLawful old.options (log_tree old.log) → IsLawful new.options (log_tree new.log)
-      → new.log ≡ old.log ++ event_of who (act.Look (length q.values + 1) key (looked_of (look_of state.pool key))) ∷ [] → IsLooked q state.pool key to → after ≡ at_stage x (stage.Querying to) → DoneSo old new x after
-  look_does w q key to is lawful later log looked same =
+  pub look_does : Worked → (q : Query) (n : ℕ) (key : Key) (to : Step) → x.stage ≡ stage.Querying (step.Asking q n key) → IsLawful old.options (log_tree old.log) → IsLawful new.options (log_tree new.log)
+      → new.log ≡ old.log ++ event_of who (act.Look (n + 1) key (looked_of (look_of state.pool key))) ∷ [] → IsLooked q n state.pool key to → after ≡ at_stage x (stage.Querying to) → DoneSo old new x after
+  look_does w q n key to is lawful later log looked same =
       let found = looked_of (look_of state.pool key) in
-      let look : Act = act.Look (length q.values + 1) key found in
+      let look : Act = act.Look (n + 1) key found in
       let grown = added old.log new.log who look x log named in
       let more = logged old.log new.log look x grown in (
         has_done old new x (at_stage x (stage.Querying to)) after look same options grown
-            (query_looks old.options (log_tree old.log) lawful x s q key is to x.work (lawful_then old new (event_by x (act_tree look)) options more later) looked)
-            (look_worked old.options (log_tree old.log) x s w q key found to is looked)
-            (λ code ends. absurd (looks_apart (length q.values + 1) key found code ends)),
-        look_counts old new x after options q state.pool key to (length q.values + 1) found is looked (ap (λ (y : Session). y.work) same) (ap (λ (y : Session). y.stage) same) more,
+            (query_looks old.options (log_tree old.log) lawful x s q n key is to x.work (lawful_then old new (event_by x (act_tree look)) options more later) looked)
+            (look_worked old.options (log_tree old.log) x s w q n key to is looked)
+            (λ code ends. absurd (looks_apart (n + 1) key found code ends)),
+        look_counts old new x after options q n state.pool key to (n + 1) found is looked (ap (λ (y : Session). y.work) same) (ap (λ (y : Session). y.stage) same) more,
       )
 
-  pub can_offer : (q : Query) (offer : Offer) → x.stage ≡ stage.Querying (step.Offering q offer) → IsLawful old.options (log_tree old.log) → CanOffer offer.key offer.value offer.work state
-  can_offer q offer is lawful = query_can_offer old.options (log_tree old.log) lawful x s q offer is
+  pub can_offer : (q : Query) (n : ℕ) (offer : Offer) → x.stage ≡ stage.Querying (step.Offering q n offer) → IsLawful old.options (log_tree old.log) → CanOffer offer.key offer.value offer.work state
+  can_offer q n offer is lawful = query_can_offer old.options (log_tree old.log) lawful x s q n offer is
 
-  pub offer_does : Worked → (q : Query) (offer : Offer) (to : Step) → x.stage ≡ stage.Querying (step.Offering q offer) → IsLawful old.options (log_tree old.log) → IsLawful new.options (log_tree new.log)
-      → new.log ≡ old.log ++ event_of who (act.Admit (length q.values + 1) offer.key (admit_of who (now_of old) (key_offer offer.key state) state.pool).0) ∷ []
-      → to ≡ step.Gained q offer.value (id_given (admit_of who (now_of old) (key_offer offer.key state) state.pool).0) → after ≡ restaged x (x.work + offer.done) (stage.Querying to) → DoneSo old new x after
-  offer_does w q offer to is lawful later log gained same =
+  pub offer_does : Worked → (q : Query) (n : ℕ) (offer : Offer) (next : Step) → x.stage ≡ stage.Querying (step.Offering q n offer) → IsLawful old.options (log_tree old.log) → IsLawful new.options (log_tree new.log)
+      → new.log ≡ old.log ++ event_of who (act.Admit (n + 1) offer.key (admit_of who (now_of old) (key_offer offer.key state) state.pool).0) ∷ []
+      → (to : Query) → next ≡ step.Open to → HasGained q n (obj.Bat offer.value) (id_given (admit_of who (now_of old) (key_offer offer.key state) state.pool).0) q.work to
+      → after ≡ restaged x (x.work + offer.done) (stage.Querying next) → DoneSo old new x after
+  offer_does w q n offer next is lawful later log to opens gained same =
       let me : Who = record { session = x.number; statement = x.ended + 1 } in
       let said : (admit_of who (now_of old) (key_offer offer.key state) state.pool).0 ≡ (admit_of me (state.at + 1) (key_offer offer.key state) state.pool).0 = λ i. (admit_of (named i) (now_is old i) (key_offer offer.key state) state.pool).0 in
       let answer = (admit_of me (state.at + 1) (key_offer offer.key state) state.pool).0 in
-      let admit : Act = act.Admit (length q.values + 1) offer.key answer in
-      let grown = added old.log new.log who admit x (log ∙ ap (λ (a : Admitted). old.log ++ event_of who (act.Admit (length q.values + 1) offer.key a) ∷ []) said) named in
+      let admit : Act = act.Admit (n + 1) offer.key answer in
+      let grown = added old.log new.log who admit x (log ∙ ap (λ (a : Admitted). old.log ++ event_of who (act.Admit (n + 1) offer.key a) ∷ []) said) named in
       let more = logged old.log new.log admit x grown in
-      let to_is = gained ∙ ap (λ (a : Admitted). step.Gained q offer.value (id_given a)) said in (
-        has_done old new x (restaged x (x.work + offer.done) (stage.Querying (step.Gained q offer.value (id_given answer)))) after admit
-            (same ∙ ap (λ (t : Step). restaged x (x.work + offer.done) (stage.Querying t)) to_is) options grown
-            (query_offers old.options (log_tree old.log) lawful x s q offer is (x.work + offer.done) (lawful_then old new (event_by x (act_tree admit)) options more later))
-            (offer_worked old.options (log_tree old.log) x w q offer answer offer.value (id_given answer) is)
-            (λ code ends. absurd (admits_apart (length q.values + 1) offer.key answer code ends)),
-        offer_counts old new x after options q offer to (length q.values + 1) offer.key answer is (ap held to_is) (ap (λ (y : Session). y.work) same) (ap (λ (y : Session). y.stage) same) more,
+      let g = subst (λ (a : Admitted). HasGained q n (obj.Bat offer.value) (id_given a) q.work to) said gained in (
+        has_done old new x (restaged x (x.work + offer.done) (stage.Querying (step.Open to))) after admit
+            (same ∙ ap (λ (t : Step). restaged x (x.work + offer.done) (stage.Querying t)) opens) options grown
+            (query_offers old.options (log_tree old.log) lawful x s q n offer is to (x.work + offer.done) g (lawful_then old new (event_by x (act_tree admit)) options more later))
+            (offer_worked old.options (log_tree old.log) x s w q n offer answer (id_given answer) is to g)
+            (λ code ends. absurd (admits_apart (n + 1) offer.key answer code ends)),
+        offer_counts old new x after options q n offer next (n + 1) offer.key answer is (ap held opens ∙ g.work_is) (ap (λ (y : Session). y.work) same) (ap (λ (y : Session). y.stage) same) more,
       )
 
   pub end_open : (reply : Shown) (told : ℕ) → x.stage ≡ stage.Querying (step.Ending reply told) → is_open who.session old ≡ true

@@ -37,9 +37,9 @@ use Rattle.query_run.specs.declared.step.Step.TheVariants as step
 use Rattle.query_run.specs.Queries.{all_values, unmarked_load}
 use Rattle.session_run.specs.declared.session.Session.{Session}
 use Rattle.session_run.specs.declared.stage.Stage.TheVariants as stage
-use Rattle.session_run.specs.Progress.{Progress, progress_by, progress_of}
-use Rattle.session_run.specs.Turns.{IsNext, begun_act, first_act, next_act, state_before, who_at}
-use Rattle.session_run.specs.Kept.{HasBegun, IsStage, IsUnder, Knows, Stands, untold}
+use Rattle.session_run.specs.Progress.{Progress, nothing_got, progress_of}
+use Rattle.session_run.specs.Turns.{IsBegunAct, IsNext, IsNextAct, first_act, state_before, who_at}
+use Rattle.session_run.specs.Kept.{Began, HasBegun, IsStage, IsUnder, Stands, order_of, untold}
 use Rattle.session_run.specs.Kept.{EndsWith as EndsSo}
 use Rattle.session_run.proofs.LogLemmas.{is_begun, open_is_begun}
 use Rattle.session_run.proofs.OutsideLemmas.{restaged}
@@ -81,36 +81,6 @@ refused_by : (why : Option Refusal) (refusal : Refusal) (over : Plan) → Err re
 refused_by None refusal over is = cc
 refused_by (Some other) refusal over is = cc
 
--- ## Queries by themselves
-
--- a query over the tables of a state that has no results yet
-pub record IsFresh (seen : LogState) (plan : Plan) (q : Query) : Type 0 where
-  pub db : q.snap.db ≡ seen.db
-  pub versions : HasVersions seen.versions q.snap
-  pub plan_is : q.plan ≡ plan
-  pub marks : q.marks.items ≡ marks_of plan
-  pub ids : q.ids.items ≡ []
-  pub values : q.values ≡ []
-  pub work : q.work ≡ 0
-  pub checked : plan_fault plan ≡ None
-  pub fits : FitsDb plan seen.db
-
-fresh_knows : (seen : LogState) (given : List Face) (plan over : Plan) (q : Query) → plan ≡ over → IsFresh seen plan q → Knows seen given over q
-fresh_knows seen given plan over q same f = record {
-  under = record {
-    checked = ap plan_fault f.plan_is ∙ f.checked;
-    fits = subst (λ pl. FitsDb pl q.snap.db) (sym f.plan_is) (subst (FitsDb plan) (sym f.db) f.fits);
-    marks = f.marks ∙ ap marks_of (sym f.plan_is);
-    ids = ap length f.ids ∙ sym (ap length f.values);
-    values = subst (λ (objs : List Obj). map Some (values_of objs) ≡ take (length objs) (all_values q)) (sym f.values) refl;
-    work = f.work ∙ ap (λ (objs : List Obj). unmarked_load q.snap.db (all_values q) (take (length objs) q.plan.instrs) (take (length objs) (marks_of q.plan))) (sym f.values);
-  };
-  plan_is = f.plan_is ∙ same;
-  db = f.db;
-  versions = f.versions;
-  ids = subst (λ ids. AreIdsOf given ids (plan_values seen.db over.instrs)) (sym f.ids) tt;
-}
-
 -- ## A statement begins
 
 module _ (options : PoolOptions) (log : List EventTree) (x : Session) (s : Stands options log x) (is : x.stage ≡ stage.Between) (piece : List ℕ) (here : slice_get x.pieces x.ended ≡ Some piece) where
@@ -122,7 +92,7 @@ module _ (options : PoolOptions) (log : List EventTree) (x : Session) (s : Stand
 
   -- the session's next event, and where it stands behind it
   abbrev Does : ActTree → Session → Type 0
-  Does act new = IsNext options x.pieces x.number log (event_by x act) × Stands options (log ++ event_by x act ∷ []) new
+  Does act new = IsNext (order_of x) options x.pieces x.number log (event_by x act) × Stands options (log ++ event_by x act ∷ []) new
 
   quiet : untold x.ended x.stage ≡ []
   quiet = ap (untold x.ended) is
@@ -130,8 +100,8 @@ module _ (options : PoolOptions) (log : List EventTree) (x : Session) (s : Stand
   none : p.begun ≡ None
   none = subst (IsStage options log x p) is s.stage
 
-  next_first : (reading : Result StmtTree Refusal) → Reads piece reading → (act : ActTree) → act ≡ first_act now reading → IsNext options x.pieces x.number log (event_by x act)
-  next_first reading read act first = next_is options log x s piece here reading read act (first ∙ sym (ap (λ b. next_act options log (who_at x.number p) p b reading) none))
+  next_first : (reading : Result StmtTree Refusal) → Reads piece reading → (act : ActTree) → act ≡ first_act now reading → IsNext (order_of x) options x.pieces x.number log (event_by x act)
+  next_first reading read act first = next_is options log x s piece here reading read act (subst (λ b. IsNextAct (order_of x) options log (who_at x.number p) p b reading act) (sym none) first)
 
   -- a text that is refused
   pub text_refused : (refusal : Refusal) (work : ℕ) → Reads piece (Err refusal) → Does (Writes None (refusal_number refusal) 0) (replied x work (shown.Refused refusal))
@@ -150,7 +120,7 @@ module _ (options : PoolOptions) (log : List EventTree) (x : Session) (s : Stand
 
   module _ (query : QueryTree) where
     -- a query begins
-    pub query_begins : (plan : Plan) (q : Query) (work : ℕ) → Reads piece (Ok (Select query)) → Ok plan ≡ unless_refused (refusal_over now.db (Select query)) (plan_over now.db query) → IsFresh now plan q
+    pub query_begins : (plan : Plan) (q : Query) (work : ℕ) → Reads piece (Ok (Select query)) → Ok plan ≡ unless_refused (refusal_over now.db (Select query)) (plan_over now.db query) → Began now plan q
         → plan_rows plan now.db ≡ answer_of_stmt (Select query) now.db → Does (act_tree (begin_act (Select query) (Ok plan))) (restaged x work (stage.Querying (step.Begun q)))
     query_begins plan q work read outcome fresh meaning =
         let accepted = accepted_by (refusal_over now.db (Select query)) plan (plan_over now.db query) outcome in
@@ -162,7 +132,7 @@ module _ (options : PoolOptions) (log : List EventTree) (x : Session) (s : Stand
                 select = refl;
                 accepted = accepted;
                 meaning = ap (λ pl. plan_rows pl now.db) (sym same) ∙ meaning;
-                step = (fresh_knows now given plan (plan_over now.db query) q same fresh, fresh.ids, refl);
+                step = (record { fresh = fresh.fresh; plan_is = fresh.plan_is ∙ same; db = fresh.db; versions = fresh.versions }, λ n. refl);
               })
               (λ has. has),
         )
@@ -175,7 +145,7 @@ module _ (options : PoolOptions) (log : List EventTree) (x : Session) (s : Stand
           next_first (Ok (Select query)) read (act_tree (begin_act (Select query) (Err refusal))) (ap (λ o. act_tree (begin_act (Select query) o)) outcome),
           begun_stands options log x s (refusal_number refusal) None work (stage.Querying (step.Ending (shown.Refused refusal) 0)) quiet refl none piece here (Select query) read
               (λ given. record {
-                act = λ t who. ap (begun_act t who now (progress_by (length log + 1) (Begins (refusal_number refusal) None) p)) (sym outcome);
+                act = λ t who. subst (λ o. IsBegunAct (order_of x) t who now nothing_got o (Ends (refusal_number refusal))) outcome refl;
                 shows = sym (ap (λ w. shown_query w (answer query now.db)) why);
               })
               (λ has. has),
@@ -205,7 +175,7 @@ module _ (options : PoolOptions) (log : List EventTree) (x : Session) (s : Stand
           next_first (Ok (ExplainSelect query)) read (act_tree (begin_act (ExplainSelect query) (Err refusal))) (ap (λ o. act_tree (begin_act (ExplainSelect query) o)) outcome),
           begun_stands options log x s (refusal_number refusal) None work (stage.Querying (step.Ending (shown.Refused refusal) 0)) quiet refl none piece here (ExplainSelect query) read
               (λ given. record {
-                act = λ t who. ap (λ o. Ends (code_in o)) (sym outcome);
+                act = λ t who. ap (λ o. Ends (code_in o)) outcome;
                 shows = sym (ap (λ w. shown_explain w (plan_text (plan_over now.db query))) why);
               })
               (λ has. has),
@@ -217,16 +187,16 @@ module _ (options : PoolOptions) (log : List EventTree) (x : Session) (s : Stand
   ending : HasBegun options log x (progress_of x.number log)
   ending = subst (IsStage options log x (progress_of x.number log)) is s.stage
 
-  ends_so : EndsSo (state_before options log ending.at) (progress_of x.number log) ending.statement reply
-  ends_so = subst (IsUnder (state_before options log ending.at) (run_of options log).given (progress_of x.number log) ending.statement) is ending.under
+  ends_so : EndsSo (order_of x) (state_before options log ending.at) (progress_of x.number log).results ending.statement reply
+  ends_so = subst (IsUnder (order_of x) (state_before options log ending.at) (run_of options log).given (progress_of x.number log).results ending.statement) is ending.under
 
   -- a query or an EXPLAIN ends
-  pub statement_ends : (work : ℕ) → IsNext options x.pieces x.number log (event_by x (Ends (code_of reply))) × Stands options (log ++ event_by x (Ends (code_of reply)) ∷ []) (replied x work reply)
+  pub statement_ends : (work : ℕ) → IsNext (order_of x) options x.pieces x.number log (event_by x (Ends (code_of reply))) × Stands options (log ++ event_by x (Ends (code_of reply)) ∷ []) (replied x work reply)
   statement_ends work =
       let p = progress_of x.number log in
       let who = who_at x.number p in (
         next_is options log x s ending.piece ending.here (Ok ending.statement) ending.read (Ends (code_of reply))
-            (sym (ap (λ b. next_act options log who p b (Ok ending.statement)) ending.begun ∙ ends_so.act (run_of options log) who)),
+            (subst (λ b. IsNextAct (order_of x) options log who p b (Ok ending.statement) (Ends (code_of reply))) (sym ending.begun) (ends_so.act (run_of options log) who)),
         end_stands options log x s (code_of reply) work reply (ap (untold x.ended) is) ending ends_so.shows,
       )
 
@@ -237,7 +207,7 @@ module _ (options : PoolOptions) (log : List EventTree) (x : Session) (s : Stand
       let p = progress_of x.number log in
       let who = who_at x.number p in
       let reads = next_reads options log x s ending.piece ending.here (Ok ending.statement) ending.read (Ends (code_of reply))
-      (sym (ap (λ b. next_act options log who p b (Ok ending.statement)) ending.begun ∙ ends_so.act (run_of options log) who)) in
+      (subst (λ b. IsNextAct (order_of x) options log who p b (Ok ending.statement) (Ends (code_of reply))) (sym ending.begun) (ends_so.act (run_of options log) who)) in
       ends_so.shows ∙ ap (λ db. shown_over db (Ok ending.statement)) (sym (begun_met options log x s ending)) ∙ ap (shown_over (tables_met log x.number (x.ended + 1))) (sym reads)
 
   -- it is open until then

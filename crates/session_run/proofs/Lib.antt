@@ -1,5 +1,8 @@
 pub mod LogLemmas
 pub mod OtherLemmas
+pub mod NotedLemmas
+pub mod GainedLemmas
+pub mod OweLemmas
 pub mod OutsideLemmas
 pub mod OwnLemmas
 pub mod InsideLemmas
@@ -11,3 +14,4 @@ pub mod StageLemmas
 pub mod DoesLemmas
 pub mod WorkedLemmas
 pub mod RunLemmas
+pub mod MoveLemmas

@@ -12,8 +12,6 @@ use Rattle.pool_policy.specs.declared.options.PoolOptions.{PoolOptions}
 use Rattle.pool_policy.specs.Keeps.{Face}
 use Rattle.pool_policy.specs.Worths.{WorthsStay}
 use Rattle.run_log.specs.Events.{ActTree, Begins, Looks, Admits, Writes, Ends, EventTree, commits, log_tree, tables_at}
-use Rattle.run_log.specs.declared.event.Looked.{Looked}
-use Rattle.run_log.specs.declared.event.Looked.TheVariants.{Exact, Within, Across, Miss}
 use Rattle.run_log.specs.Fold.{LogState, after, log_start, run_of}
 use Rattle.run_log.specs.Laws.{IsFormedAct, IsSound, MayFollow}
 use Rattle.run_log.proofs.LogLemmas.{logs_tell_holds, run_more}
@@ -24,7 +22,7 @@ use Rattle.book_core.specs.BookView.{BookView, and_opened, is_open, opened_by}
 use Rattle.book_core.specs.Lawful.{FollowAll, IsLawful}
 use Rattle.query_keys.specs.Laws.{Remembers}
 use Rattle.query_keys.proofs.RememberLemmas.{remembers}
-use Rattle.session_run.specs.Progress.{Progress, looked_up, not_begun, progress_after, progress_by, progress_from, progress_of}
+use Rattle.session_run.specs.Progress.{Progress, not_begun, progress_after, progress_by, progress_from, progress_of}
 use Rattle.session_run.specs.Turns.{state_before}
 
 pub log_long : (log : List EventTree) (event : EventTree) → length (log ++ event ∷ []) ≡ length log + 1
@@ -62,21 +60,9 @@ abbrev pub is_begun : Option ℕ → Bool
 is_begun None = false
 is_begun (Some at) = true
 
-pub looked_ended : (instr : ℕ) (found : Looked) (p : Progress) → (looked_up instr found p).ended ≡ p.ended
-looked_ended instr (Exact id) p = refl
-looked_ended instr (Within id) p = refl
-looked_ended instr (Across pieces) p = refl
-looked_ended instr Miss p = refl
-
-pub looked_begun : (instr : ℕ) (found : Looked) (p : Progress) → (looked_up instr found p).begun ≡ p.begun
-looked_begun instr (Exact id) p = refl
-looked_begun instr (Within id) p = refl
-looked_begun instr (Across pieces) p = refl
-looked_begun instr Miss p = refl
-
 act_opens : (at : ℕ) (act : ActTree) (p : Progress) (up : Bool) → up ≡ is_begun p.begun → opened_by act up ≡ is_begun (progress_by at act p).begun
 act_opens at (Begins code plan) p up is = refl
-act_opens at (Looks instr key found) p up is = is ∙ ap is_begun (sym (looked_begun instr found p))
+act_opens at (Looks instr key found) p up is = is
 act_opens at (Admits instr key result) p up is = is
 act_opens at (Writes statement code count) p up is = is
 act_opens at (Ends code) p up is = refl

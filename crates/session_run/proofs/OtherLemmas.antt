@@ -19,10 +19,10 @@ use Rattle.query_run.specs.declared.step.Step.TheVariants as step
 use Rattle.session_run.specs.declared.session.Session.{Session}
 use Rattle.session_run.specs.declared.stage.Stage.{Stage}
 use Rattle.session_run.specs.declared.stage.Stage.TheVariants as stage
-use Rattle.session_run.specs.Progress.{Progress, progress_of}
+use Rattle.session_run.specs.Progress.{Got, Progress, progress_of}
 use Rattle.session_run.specs.Readings.{AreReadings}
-use Rattle.session_run.specs.Turns.{state_before}
-use Rattle.session_run.specs.Kept.{HasBegun, IsRun, IsStage, IsStep, IsUnder, Knows, Stands, opened}
+use Rattle.session_run.specs.Turns.{Order, state_before}
+use Rattle.session_run.specs.Kept.{HasBegun, IsRun, IsStage, IsStep, IsUnder, Knows, Stands, opened, order_of}
 use Rattle.session_run.proofs.LogLemmas.{ArePlaced, log_long, other_progress, place_stays, placed_other, replies_stay, state_stays, worths_next}
 
 -- ## Readings
@@ -56,35 +56,34 @@ module _ (seen : LogState) (given later : List Face) (stay : WorthsStay given la
     ids = ids_stay given later stay q.ids.items (plan_values seen.db plan.instrs) k.ids;
   }
 
-  pub step_stays : (plan : Plan) (ids : List ℕ) (asked : Bool) (at : Step) → IsStep seen given plan ids asked at → IsStep seen later plan ids asked at
-  step_stays plan ids asked (step.Begun q) is = (knows_stays plan q is.0, is.1, is.2)
-  step_stays plan ids asked (step.Asking q key) is = (knows_stays plan q is.0, is.1, is.2)
-  step_stays plan ids asked (step.Found q found parts) is = (knows_stays plan q is.0, is.1, is.2, is.3)
-  step_stays plan ids asked (step.Offering q offer) is = (knows_stays plan q is.0, is.1, is.2, is.3)
-  step_stays plan ids asked (step.Gained q value id) is =
-      (knows_stays plan q is.0, is.1, is.2, is.3, is.4, λ above. let one = is.5 above in stay id (subst (λ o. IsSome o) (sym one) refl) ∙ one)
-  step_stays plan ids asked (step.Ending reply work) is = is
+  pub step_stays : (order : Order) (plan : Plan) (results : ℕ → Got) (at : Step) → IsStep order seen given plan results at → IsStep order seen later plan results at
+  step_stays order plan results (step.Begun q) is = is
+  step_stays order plan results (step.Open q) is = (knows_stays plan q is.0, is.1, is.2)
+  step_stays order plan results (step.Asking q n key) is = (knows_stays plan q is.0, is.1, is.2, is.3, is.4, is.5)
+  step_stays order plan results (step.Found q n found parts) is = (knows_stays plan q is.0, is.1, is.2, is.3, is.4, is.5)
+  step_stays order plan results (step.Offering q n offer) is = (knows_stays plan q is.0, is.1, is.2, is.3, is.4, is.5)
+  step_stays order plan results (step.Ending reply work) is = is
 
-  run_stays : (p : Progress) (statement : StmtTree) (at : Step) → IsRun seen given p statement at → IsRun seen later p statement at
-  run_stays p statement at run = record {
+  run_stays : (order : Order) (results : ℕ → Got) (statement : StmtTree) (at : Step) → IsRun order seen given results statement at → IsRun order seen later results statement at
+  run_stays order results statement at run = record {
     query = run.query;
     select = run.select;
     accepted = run.accepted;
     meaning = run.meaning;
-    step = step_stays _ p.ids p.asked at run.step;
+    step = step_stays order _ results at run.step;
   }
 
-  pub under_stays : (p : Progress) (statement : StmtTree) (at : Stage) → IsUnder seen given p statement at → IsUnder seen later p statement at
-  under_stays p statement (stage.Querying (step.Begun q)) is = run_stays p statement (step.Begun q) is
-  under_stays p statement (stage.Querying (step.Asking q key)) is = run_stays p statement (step.Asking q key) is
-  under_stays p statement (stage.Querying (step.Found q found parts)) is = run_stays p statement (step.Found q found parts) is
-  under_stays p statement (stage.Querying (step.Offering q offer)) is = run_stays p statement (step.Offering q offer) is
-  under_stays p statement (stage.Querying (step.Gained q value id)) is = run_stays p statement (step.Gained q value id) is
-  under_stays p statement (stage.Querying (step.Ending reply work)) is = is
-  under_stays p statement (stage.Explaining plan) is = is
-  under_stays p statement stage.Between is = is
-  under_stays p statement (stage.Telling reply) is = is
-  under_stays p statement (stage.Reading read) is = is
+  pub under_stays : (order : Order) (results : ℕ → Got) (statement : StmtTree) (at : Stage) → IsUnder order seen given results statement at → IsUnder order seen later results statement at
+  under_stays order results statement (stage.Querying (step.Begun q)) is = run_stays order results statement (step.Begun q) is
+  under_stays order results statement (stage.Querying (step.Open q)) is = run_stays order results statement (step.Open q) is
+  under_stays order results statement (stage.Querying (step.Asking q n key)) is = run_stays order results statement (step.Asking q n key) is
+  under_stays order results statement (stage.Querying (step.Found q n found parts)) is = run_stays order results statement (step.Found q n found parts) is
+  under_stays order results statement (stage.Querying (step.Offering q n offer)) is = run_stays order results statement (step.Offering q n offer) is
+  under_stays order results statement (stage.Querying (step.Ending reply work)) is = is
+  under_stays order results statement (stage.Explaining plan) is = is
+  under_stays order results statement stage.Between is = is
+  under_stays order results statement (stage.Telling reply) is = is
+  under_stays order results statement (stage.Reading read) is = is
 
 -- ## Sessions
 
@@ -103,8 +102,8 @@ module _ (options : PoolOptions) (log : List EventTree) (x : Session) (event : E
     here = has.here;
     statement = has.statement;
     read = has.read;
-    under = subst (λ (s : LogState). IsUnder s (run_of options later).given p has.statement x.stage) (sym (state_stays options log event has.at (let before = has.within in omega (arith, before))))
-        (under_stays (state_before options log has.at) (run_of options log).given (run_of options later).given (worths_next options log event lawful) p has.statement x.stage has.under);
+    under = subst (λ (s : LogState). IsUnder (order_of x) s (run_of options later).given p.results has.statement x.stage) (sym (state_stays options log event has.at (let before = has.within in omega (arith, before))))
+        (under_stays (state_before options log has.at) (run_of options log).given (run_of options later).given (worths_next options log event lawful) (order_of x) p.results has.statement x.stage has.under);
   }
 
   stage_stays : (p : Progress) (at : Stage) → IsStage options log x p at → IsStage options later x p at

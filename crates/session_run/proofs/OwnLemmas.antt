@@ -21,10 +21,10 @@ use Rattle.query_keys.proofs.InstrLemmas.{get_none}
 use Rattle.session_run.specs.declared.session.Session.{Session}
 use Rattle.session_run.specs.declared.stage.Stage.{Stage}
 use Rattle.session_run.specs.declared.stage.Stage.TheVariants as stage
-use Rattle.session_run.specs.Progress.{Progress, progress_by, progress_of}
+use Rattle.session_run.specs.Progress.{Progress, nothing_got, progress_by, progress_of}
 use Rattle.session_run.specs.Readings.{AreReadings}
-use Rattle.session_run.specs.Turns.{IsNext, next_act, state_before, who_at}
-use Rattle.session_run.specs.Kept.{HasBegun, IsStage, IsUnder, Stands, opened, untold}
+use Rattle.session_run.specs.Turns.{IsNext, IsNextAct, state_before, who_at}
+use Rattle.session_run.specs.Kept.{HasBegun, IsStage, IsUnder, Stands, opened, order_of, untold}
 use Rattle.session_run.proofs.LogLemmas.{ArePlaced, log_long, own_progress, place_next, place_stays, placed_next, placed_quiet, replies_more, replies_stay, state_next, state_stays, tables_next, tables_stay}
 use Rattle.session_run.proofs.OtherLemmas.{stands_count, stands_placed}
 use Rattle.session_run.proofs.OutsideLemmas.{restaged}
@@ -69,18 +69,20 @@ module _ (options : PoolOptions) (log : List EventTree) (x : Session) (s : Stand
 
   -- it is the session's next
   pub next_is : (piece : List ℕ) → slice_get x.pieces x.ended ≡ Some piece → (reading : Result StmtTree Refusal) → Reads piece reading → (act : ActTree)
-      → act ≡ next_act options log (who_at x.number before) before before.begun reading → IsNext options x.pieces x.number log (event_by x act)
+      → IsNextAct (order_of x) options log (who_at x.number before) before before.begun reading act → IsNext (order_of x) options x.pieces x.number log (event_by x act)
   next_is piece here reading read act is = record {
     piece = piece;
     here = ap (slice_get x.pieces) s.ended ∙ here;
     reading = reading;
     read = read;
-    is = ap (λ a. event_by x a) is ∙ ap (λ n. let e : EventTree = record { session = x.number; statement = n + 1; act = next_act options log (who_at x.number before) before before.begun reading } in e) (sym s.ended);
+    own = refl;
+    numbered = ap (λ n. n + 1) (sym s.ended);
+    act = is;
   }
 
   -- by this reading of its text
   pub next_reads : (piece : List ℕ) (here : slice_get x.pieces x.ended ≡ Some piece) (reading : Result StmtTree Refusal) (read : Reads piece reading) (act : ActTree)
-      (is : act ≡ next_act options log (who_at x.number before) before before.begun reading) → (next_is piece here reading read act is).reading ≡ reading
+      (is : IsNextAct (order_of x) options log (who_at x.number before) before before.begun reading act) → (next_is piece here reading read act is).reading ≡ reading
   unfolding next_is
   next_reads piece here reading read act is = refl
 
@@ -157,7 +159,7 @@ module _ (options : PoolOptions) (log : List EventTree) (x : Session) (s : Stand
   -- a query or an EXPLAIN has begun
   pub begun_stands : (code : ℕ) (plan : Option Plan) (work : ℕ) (now : Stage) → untold x.ended x.stage ≡ [] → untold x.ended now ≡ [] → before.begun ≡ None
       → (piece : List ℕ) → slice_get x.pieces x.ended ≡ Some piece → (statement : StmtTree) → Reads piece (Ok statement)
-      → ((given : List Face) → IsUnder seen_now given (after (Begins code plan)) statement now)
+      → ((given : List Face) → IsUnder (order_of x) seen_now given nothing_got statement now)
       → (HasBegun options (log ++ event_by x (Begins code plan) ∷ []) (restaged x work now) (after (Begins code plan)) → IsStage options (log ++ event_by x (Begins code plan) ∷ []) (restaged x work now) (after (Begins code plan)) now)
       → Stands options (log ++ event_by x (Begins code plan) ∷ []) (restaged x work now)
   begun_stands code plan work now told tell none piece here statement read under is =
@@ -176,7 +178,7 @@ module _ (options : PoolOptions) (log : List EventTree) (x : Session) (s : Stand
         here = here;
         statement = statement;
         read = read;
-        under = subst (λ (t : LogState). IsUnder t (run_of options (log ++ event ∷ [])).given (after (Begins code plan)) statement now) (sym (state_next options log event)) (under (run_of options (log ++ event ∷ [])).given);
+        under = subst (λ (t : LogState). IsUnder (order_of x) t (run_of options (log ++ event ∷ [])).given nothing_got statement now) (sym (state_next options log event)) (under (run_of options (log ++ event ∷ [])).given);
       }))
 
   -- ## A statement goes on
@@ -186,7 +188,7 @@ module _ (options : PoolOptions) (log : List EventTree) (x : Session) (s : Stand
 
   -- a query has looked or offered
   pub goes_stands : (act : ActTree) (work : ℕ) (now : Stage) → is_opening act ≡ false → untold x.ended x.stage ≡ [] → untold x.ended now ≡ [] → (after act).ended ≡ before.ended → (after act).begun ≡ before.begun
-      → (has : HasBegun options log x before) → IsUnder (state_before options log has.at) (run_of options (log ++ event_by x act ∷ [])).given (after act) has.statement now
+      → (has : HasBegun options log x before) → IsUnder (order_of x) (state_before options log has.at) (run_of options (log ++ event_by x act ∷ [])).given (after act).results has.statement now
       → (HasBegun options (log ++ event_by x act ∷ []) (restaged x work now) (after act) → IsStage options (log ++ event_by x act ∷ []) (restaged x work now) (after act) now)
       → Stands options (log ++ event_by x act ∷ []) (restaged x work now)
   goes_stands act work now quiet told tell ended begun has under is =
@@ -206,7 +208,7 @@ module _ (options : PoolOptions) (log : List EventTree) (x : Session) (s : Stand
         here = has.here;
         statement = has.statement;
         read = has.read;
-        under = subst (λ (t : LogState). IsUnder t (run_of options (log ++ event ∷ [])).given (after act) has.statement now) (sym (state_stays options log event has.at (omega (arith, within)))) under;
+        under = subst (λ (t : LogState). IsUnder (order_of x) t (run_of options (log ++ event ∷ [])).given (after act).results has.statement now) (sym (state_stays options log event has.at (omega (arith, within)))) under;
       }))
 
   -- its statement meets the tables before its Begin

@@ -1,7 +1,8 @@
 -- A session's work through its own events.
-use Rattle.std.proofs.Common.{◌≡◌, ℕ, ◌+◌, ◌-◌, List, [], ◌∷◌, ◌++◌, length, Bool, true, false, cond, Option, Some, None, refl, ap, sym, ◌∙◌, subst, arith}
+use Rattle.std.proofs.Common.{◌≡◌, ℕ, ◌+◌, ◌-◌, List, [], ◌∷◌, ◌++◌, length, take, Bool, true, false, cond, Option, Some, None, refl, ap, sym, ◌∙◌, subst, arith}
 use Rattle.std.specs.Prelude.{Result, Ok, Err, slice_get, ◌==◌}
 use Rattle.std.specs.Option.{option_and_then, option_map_or}
+use Rattle.std.proofs.lemmas.Bool.{eq-eqb}
 use Rattle.std.proofs.lemmas.Option.{same_Some}
 use Rattle.cell_core.specs.declared.operator.Instr.{Instr}
 use Rattle.cell_core.specs.Pairs.{Pairs}
@@ -15,7 +16,16 @@ use Rattle.pool_policy.specs.declared.options.PoolOptions.{PoolOptions}
 use Rattle.pool_policy.specs.Looks.{look_of}
 use Rattle.table_store.specs.Content.{Content}
 use Rattle.run_log.specs.declared.event.Looked.{Looked}
-use Rattle.run_log.specs.Events.{ActTree, Begins, Looks, Admits, Writes, Ends, EventTree, act_tree}
+use Rattle.run_log.specs.Events.{ActTree, Begins, Looks, Admits, Writes, Ends, EventTree, act_tree, looked_of}
+use Rattle.query_keys.specs.Laws.{id_given}
+use Rattle.recycle_pool.specs.Answers.{HandsOut, told}
+use Rattle.recycle_pool.specs.declared.found.Found.{Found}
+use Rattle.recycle_pool.specs.declared.found.Part.{Part}
+use Rattle.pool_policy.specs.Looks.Finding.{Exact}
+use Rattle.pool_policy.specs.Pool.{PoolState}
+use Rattle.bat_core.specs.declared.shared.Obj.TheVariants as obj
+use Rattle.std.specs.declared.vec.Vec.{Vec}
+use Rattle.std.specs.declared.alloc.Global.{Global}
 use Rattle.run_log.specs.Fold.{LogState, run_of}
 use Rattle.answer_text.specs.declared.shown.Shown.{Shown}
 use Rattle.answer_text.specs.Log.{code_of}
@@ -25,20 +35,23 @@ use Rattle.query_run.specs.declared.step.Query.{Query}
 use Rattle.query_run.specs.declared.step.Offer.{Offer}
 use Rattle.query_run.specs.declared.step.Step.{Step}
 use Rattle.query_run.specs.declared.step.Step.TheVariants as step
-use Rattle.query_run.specs.Queries.{AsksFor, IsAt, IsLooked, unmarked_work, versions_in}
+use Rattle.query_run.specs.Queries.{AsksFor, HasAsked, HasGained, IsAt, IsLooked, IsUnderWay, key_in, unmarked_work, versions_in}
 use Rattle.session_run.specs.declared.session.Session.{Session}
 use Rattle.session_run.specs.declared.stage.Stage.{Stage}
 use Rattle.session_run.specs.declared.stage.Stage.TheVariants as stage
-use Rattle.session_run.specs.Progress.{Progress, progress_by, progress_of}
-use Rattle.session_run.specs.Kept.{IsStage, IsUnder, Stands}
+use Rattle.session_run.specs.Progress.{Asked, Got, Has, Progress, got_by, noted, progress_by, progress_of}
+use Rattle.session_run.specs.Kept.{IsStage, IsUnder, Stands, order_of}
 use Rattle.session_run.specs.Turns.{state_before}
 use Rattle.session_run.specs.Stages.{BeginsWith, explained}
-use Rattle.session_run.specs.Work.{act_work, plan_begun, plan_in, pool_looked, session_work, tables_begun}
-use Rattle.session_run.specs.Works.{IsLookedUp, IsPlanned, IsWorked, IsWorkedStage, IsWorkedStep}
-use Rattle.session_run.proofs.LogLemmas.{looked_begun, own_progress, state_next}
+use Rattle.session_run.specs.Work.{act_work, plan_begun, plan_in, pool_asked, session_work, tables_begun}
+use Rattle.session_run.specs.Works.{IsLookedUp, IsPlanned, IsWorked, IsWorkedStage, IsWorkedStep, OweLoads}
+use Rattle.session_run.proofs.GainedLemmas.{one_less}
+use Rattle.session_run.proofs.LogLemmas.{own_progress, state_next}
+use Rattle.session_run.proofs.OweLemmas.{asks_owe, gains_owe}
 use Rattle.session_run.proofs.OutsideLemmas.{restaged}
 use Rattle.session_run.proofs.OwnLemmas.{event_by, replied}
-use Rattle.session_run.proofs.WorkLemmas.{own_more, planned_next, progress_within}
+use Rattle.session_run.proofs.WorkLemmas.{own_more, planned_next, pool_stays, progress_within}
+use Rattle.session_run.proofs.TurnLemmas.{in_vain}
 
 get_last : {X : Type 0} (xs : List X) (x : X) → slice_get (xs ++ x ∷ []) (length xs) ≡ Some x
 get_last [] x = refl
@@ -133,45 +146,75 @@ module _ (options : PoolOptions) (log : List EventTree) (x : Session) where
   goes_planned : (act : ActTree) → (behind act).begun ≡ p.begun → (q : Query) → IsPlanned options log p q → IsPlanned options (later act) (behind act) q
   goes_planned act same q k = planned_next options log (event_by x act) p (progress_within x.number log) (behind act) same q k
 
-  module _ (q : Query) (key : Key) (found : Looked) (ids : List ℕ) (asks : AsksFor q.snap q.plan ids q key) (k : IsPlanned options log p q) where
+  -- the pool at a look is the same behind the next event
+  pools_stay : (act : ActTree) (m : ℕ) → pool_asked options (later act) (p.results m) ≡ pool_asked options log (p.results m)
+  pools_stay act m = pool_stays options log (event_by x act) p (progress_within x.number log) m
+
+  module _ (q : Query) (n : ℕ) (key : Key) (asks : AsksFor q n key) (under : IsUnderWay q) (k : IsPlanned options log p q) (owes : OweLoads options log p.results q (λ m. ⊥)) where
+    abbrev found : Looked
+    found = looked_of (look_of now.pool key)
+
     abbrev look : ActTree
-    look = Looks (length q.values + 1) key found
+    look = Looks (n + 1) key found
 
-    planned : IsPlanned options (later look) (behind look) q
-    planned = goes_planned look (looked_begun (length q.values + 1) found p) q k
+    planned : (r : ℕ → Got) (to : Query) → to.snap ≡ q.snap → to.plan ≡ q.plan → IsPlanned options (later look) (record (behind look) { results = r }) to
+    planned r to snap plan = let same = goes_planned look refl q k in record { plan = same.plan ∙ ap Some (sym plan); db = same.db ∙ ap (λ (content : Content). content.db) (sym snap) }
 
-    pool_next : pool_looked options (later look) (behind look) ≡ now.pool
-    pool_next = ap (λ (s : LogState). s.pool) (state_next options log (event_by x look))
+    abbrev Worked_at : ℕ → Step → Type 0
+    Worked_at m to = IsWorkedStep options (later look) (record (behind look) { results = noted m (got_by (length log + 1) found) p.results }) to
 
-    key_at : (instr : Instr) → IsAt q instr → key ≡ instr_key instr (versions_in q.snap) q.ids.items
-    key_at instr at = asks.key_is ∙ ap (λ i. instr_key i (versions_in q.snap) q.ids.items) (same_Some asks.instr instr (sym asks.at.here ∙ at.here))
+    look_open : (to : Query) (id : ℕ) (value : Pairs) → HasGained q n (obj.Bat value) id q.work to → Worked_at n (step.Open to)
+    look_open to id value g =
+        (planned _ to g.snap_is g.plan_is, gains_owe options log (later look) p.results q to n asks.instr (obj.Bat value) id q.work (got_by (length log + 1) found) asks.at under g (λ m none. absurd none) (pools_stay look) owes)
 
-    look_step : (to : Step) → IsLooked q now.pool key to → IsWorkedStep options (later look) (behind look) to
-    look_step (step.Gained to value id) l = subst (IsPlanned options (later look) (behind look)) (sym l.0) planned
-    look_step (step.Found to what parts) l =
-        subst (λ r. IsWorkedStep options (later look) (behind look) (step.Found r what parts)) (sym l.0)
-        (planned, subst (λ pool. IsLookedUp pool q what parts.items) (sym pool_next) (λ instr at. (l.1 ∙ ap (look_of now.pool) (key_at instr at), l.2)))
+    look_found : (to : Query) (what : Found) (parts : Vec Part Global) → HasAsked q n to → told what parts.items ≡ look_of now.pool key → HandsOut now.pool.entries what parts.items → ((id : ℕ) → look_of now.pool key ≡ Exact id → ⊥) → Worked_at n (step.Found to n what parts)
+    look_found to what parts a same out not_exact = (
+      planned _ to a.snap_is a.plan_is,
+      asks_owe options log (later look) p.results q to n (got_by (length log + 1) found) a (pools_stay look) owes,
+      subst (λ got. IsLookedUp (pool_asked options (later look) got) to n what parts.items) (sym (ap (λ b. cond b (got_by (length log + 1) found) (p.results n)) (eq-eqb n n refl) ∙ in_vain (length log + 1) (look_of now.pool key) not_exact)) looked,
+    )
+      where
+        pool_next : pool_asked options (later look) (Asked (length log + 1)) ≡ now.pool
+        pool_next = ap (λ (s : LogState). s.pool) (state_next options log (event_by x look))
+
+        looked : IsLookedUp (pool_asked options (later look) (Asked (length log + 1))) to n what parts.items
+        looked instr at =
+            let its : asks.instr ≡ instr = same_Some asks.instr instr (sym asks.at.here ∙ ap (λ (pl : Plan). slice_get pl.instrs n) (sym a.plan_is) ∙ at.here) in
+            let key_same : key ≡ key_in to n instr = asks.key_is ∙ ap (key_in q n) its ∙ (λ i. instr_key instr (versions_in (sym a.snap_is i)) (take n (sym a.ids_are i))) in
+            (same ∙ (λ i. look_of (sym pool_next i) (key_same i)), subst (λ (pool : PoolState). HandsOut pool.entries what parts.items) (sym pool_next) out)
+
+    look_step : (to : Step) → IsLooked q n now.pool key to → Worked_at n to
+    look_step (step.Open to) l = look_open to l.0 l.1 l.2
+    look_step (step.Found to at what parts) l = subst (λ m. Worked_at n (step.Found to m what parts)) (sym l.0) (look_found to what parts l.1 l.2 l.3 l.4)
     look_step (step.Begun to) none = absurd none
-    look_step (step.Asking to named) none = absurd none
-    look_step (step.Offering to offer) none = absurd none
+    look_step (step.Asking to at named) none = absurd none
+    look_step (step.Offering to at offer) none = absurd none
     look_step (step.Ending reply work) none = absurd none
 
   -- a query asks
-  pub look_worked : Stands options log x → IsWorked options log x → (q : Query) (key : Key) (found : Looked) (to : Step) → x.stage ≡ stage.Querying (step.Asking q key) → IsLooked q now.pool key to
-      → IsWorked options (later (Looks (length q.values + 1) key found)) (restaged x x.work (stage.Querying to))
-  look_worked s w q key found to is looked =
+  pub look_worked : Stands options log x → IsWorked options log x → (q : Query) (n : ℕ) (key : Key) (to : Step) → x.stage ≡ stage.Querying (step.Asking q n key) → IsLooked q n now.pool key to
+      → IsWorked options (later (Looks (n + 1) key (looked_of (look_of now.pool key)))) (restaged x x.work (stage.Querying to))
+  look_worked s w q n key to is looked =
       let has = subst (IsStage options log x p) is s.stage in
-      let run = subst (IsUnder (state_before options log has.at) now.given p has.statement) is has.under in
-      restaged_worked w (Looks (length q.values + 1) key found) x.work (stage.Querying to) (omega arith)
-      (look_step q key found p.ids run.step.1 (subst (IsWorkedStage options log p) is w.stage) to looked)
+      let run = subst (IsUnder (order_of x) (state_before options log has.at) now.given p.results has.statement) is has.under in
+      let worked = subst (IsWorkedStage options log p) is w.stage in
+      restaged_worked w (Looks (n + 1) key (looked_of (look_of now.pool key))) x.work (stage.Querying to) (omega arith)
+      (subst (λ m. Worked_at q n key run.step.3 run.step.0.under worked.0 worked.1 m to) (sym (one_less n)) (look_step q n key run.step.3 run.step.0.under worked.0 worked.1 to looked))
 
   -- a query offers
-  pub offer_worked : IsWorked options log x → (q : Query) (offer : Offer) (result : Admitted) (value : Pairs) (id : ℕ) → x.stage ≡ stage.Querying (step.Offering q offer)
-      → IsWorked options (later (Admits (length q.values + 1) offer.key result)) (restaged x (x.work + offer.done) (stage.Querying (step.Gained q value id)))
-  offer_worked w q offer result value id is =
-      let act = Admits (length q.values + 1) offer.key result in
-      let both = subst (IsWorkedStage options log p) is w.stage in
-      restaged_worked w act (x.work + offer.done) (stage.Querying (step.Gained q value id)) (ap (λ n. x.work + n) (both.1 result)) (goes_planned act refl q both.0)
+  pub offer_worked : Stands options log x → IsWorked options log x → (q : Query) (n : ℕ) (offer : Offer) (result : Admitted) (id : ℕ) → x.stage ≡ stage.Querying (step.Offering q n offer) → (to : Query) → HasGained q n (obj.Bat offer.value) id q.work to
+      → IsWorked options (later (Admits (n + 1) offer.key result)) (restaged x (x.work + offer.done) (stage.Querying (step.Open to)))
+  offer_worked s w q n offer result id is to g =
+      let act = Admits (n + 1) offer.key result in
+      let has = subst (IsStage options log x p) is s.stage in
+      let run = subst (IsUnder (order_of x) (state_before options log has.at) now.given p.results has.statement) is has.under in
+      let worked = subst (IsWorkedStage options log p) is w.stage in
+      let same = goes_planned act refl q worked.0 in
+      restaged_worked w act (x.work + offer.done) (stage.Querying (step.Open to)) (ap (λ m. x.work + m) (worked.2 result)) (
+        record { plan = same.plan ∙ ap Some (sym g.plan_is); db = same.db ∙ ap (λ (content : Content). content.db) (sym g.snap_is) },
+        subst (λ m. OweLoads options (later act) (noted m (Has (id_given result)) p.results) to (λ k. ⊥)) (sym (one_less n))
+            (gains_owe options log (later act) p.results q to n run.step.5.0 (obj.Bat offer.value) id q.work (Has (id_given result)) run.step.5.1 run.step.0.under g (λ m here. here) (pools_stay act) worked.1),
+      )
 
   -- a statement ends
   pub end_worked : IsWorked options log x → (reply : Shown) (told : ℕ) → x.stage ≡ stage.Querying (step.Ending reply told) → IsWorked options (later (Ends (code_of reply))) (replied x (x.work + told) reply)

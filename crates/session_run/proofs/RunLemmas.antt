@@ -14,7 +14,7 @@ use Rattle.book_core.specs.Lawful.{FollowAll, IsLawful}
 use Rattle.session_run.specs.declared.session.Session.{Session}
 use Rattle.session_run.specs.declared.stage.Stage.TheVariants as stage
 use Rattle.session_run.specs.Readings.{AreReadings}
-use Rattle.session_run.specs.Turns.{IsDone, IsNext}
+use Rattle.session_run.specs.Turns.{IsDone, IsNext, Order}
 use Rattle.session_run.specs.Kept.{Stands, untold}
 use Rattle.session_run.proofs.OtherLemmas.{others_stay}
 
@@ -37,8 +37,8 @@ others_along options x log (event ∷ more) lawful others s =
     (others_along options x (log ++ event ∷ []) more all others.1 (others_stay options log x event (lawful_front options (log ++ event ∷ []) more all) s others.0))
 
 -- an event of one session is none of another
-pub next_other : (options : PoolOptions) (pieces : List (List ℕ)) (session other : ℕ) (log : List EventTree) (event : EventTree) → IsNext options pieces session log event → (session ≡ other → ⊥) → (event.session == other) ≡ false
-next_other options pieces session other log event next apart = ne_eqb event.session other (λ same. apart (sym (ap (λ (e : EventTree). e.session) next.is) ∙ same))
+pub next_other : (order : Order) (options : PoolOptions) (pieces : List (List ℕ)) (session other : ℕ) (log : List EventTree) (event : EventTree) → IsNext order options pieces session log event → (session ≡ other → ⊥) → (event.session == other) ≡ false
+next_other order options pieces session other log event next apart = ne_eqb event.session other (λ same. apart (sym next.own ∙ same))
 
 -- a session is done where all its statements have ended
 pub done_is : (options : PoolOptions) (log : List EventTree) (x : Session) → Stands options log x → length x.pieces ≤ x.ended → IsDone x.pieces x.number log

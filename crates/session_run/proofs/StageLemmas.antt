@@ -8,6 +8,7 @@ use Rattle.mal_meaning.specs.Meaning.{plan_rows}
 use Rattle.mal_check.specs.Checked.{plan_fault}
 use Rattle.mal_check.specs.Runnable.{FitsDb}
 use Rattle.mal_print.specs.Canon.{plan_text}
+use Rattle.recycle_mark.specs.Marks.{marks_of}
 use Rattle.sql_tree.specs.declared.tree.Stmt.{Stmt}
 use Rattle.sql_tree.specs.Tree.{QueryTree}
 use Rattle.sql_tree.specs.Tree.StmtTree.{Select, ExplainSelect}
@@ -18,6 +19,7 @@ use Rattle.plan_queries.specs.Plans.{plan_over, refusal_over}
 use Rattle.pool_policy.specs.declared.options.PoolOptions.{PoolOptions}
 use Rattle.run_log.specs.Events.{ActTree, EventTree, act_tree}
 use Rattle.run_log.specs.Fold.{LogState, run_of}
+use Rattle.answer_text.specs.declared.shown.Shown.{Shown}
 use Rattle.table_store.specs.Content.{Content}
 use Rattle.book_core.specs.Begins.{begin_act, marks_in, unless_refused}
 use Rattle.book_core.specs.Versions.{HasVersions}
@@ -27,8 +29,8 @@ use Rattle.session_run.specs.declared.stage.Stage.TheVariants as stage
 use Rattle.session_run.specs.Progress.{Progress, progress_of}
 use Rattle.session_run.specs.Readings.{AreReadings}
 use Rattle.session_run.specs.Turns.{IsNext, state_before}
-use Rattle.session_run.specs.Kept.{HasBegun, HasRead, IsStage, IsUnder, Stands, untold}
-use Rattle.session_run.specs.Stages.{BeginsWith, ComesTo, HasComputed, IsSoundStage, ReadsOn, at_stage, explained}
+use Rattle.session_run.specs.Kept.{HasBegun, HasRead, IsStage, IsUnder, Stands, order_of, untold}
+use Rattle.session_run.specs.Stages.{BeginsWith, ComesTo, GoesInPlan, HasComputed, IsSoundStage, MayBegin, ReadsOn, at_stage, explained, with_reply}
 use Rattle.session_run.proofs.InsideLemmas.{explain_begins, explain_refused, query_begins, query_refused}
 use Rattle.session_run.proofs.OwnLemmas.{event_by}
 use Rattle.session_run.proofs.OutsideLemmas.{explain_computes, query_computes, query_sound, reply_told, restaged, stands_as}
@@ -127,10 +129,10 @@ module _ (options : PoolOptions) (log : List EventTree) (x : Session) (s : Stand
       go (stage.Querying from) is = query_sound options log x from s is
       go (stage.Explaining plan) is =
           let has = subst (IsStage options log x (progress_of x.number log)) is s.stage in
-          (subst (IsUnder (state_before options log has.at) (run_of options log).given (progress_of x.number log) has.statement) is has.under).checked
+          (subst (IsUnder (order_of x) (state_before options log has.at) (run_of options log).given (progress_of x.number log).results has.statement) is has.under).checked
 
-  computed_at : (at next : Stage) (text : Vec ℕ Global) (work : ℕ) → x.stage ≡ at → ComesTo x at next text.items → Stands options log (record x { text = text; work = work; stage = next })
-  computed_at stage.Between next text work is c =
+  computed_at : (at next : Stage) (text : Vec ℕ Global) (work : ℕ) → x.stage ≡ at → GoesInPlan x at → ComesTo x at next text.items → Stands options log (record x { text = text; work = work; stage = next })
+  computed_at stage.Between next text work is in_plan c =
       let same = retold_stands options log (restaged x work x.stage) text c.1 (worked work) in
       read_on options log (record x { text = text; work = work }) same is next c.0
     where
@@ -148,30 +150,31 @@ module _ (options : PoolOptions) (log : List EventTree) (x : Session) (s : Stand
         open_ = s.open_;
         stage = subst (IsStage options log (restaged x work x.stage) (progress_of x.number log)) (sym is) (subst (IsStage options log x (progress_of x.number log)) is s.stage);
       }
-  computed_at (stage.Telling reply) next text work is c =
+  computed_at (stage.Telling reply) next text work is in_plan c =
       read_on options log (record x { text = text; work = work; stage = stage.Between }) (reply_told options log x reply text work s is c.1) refl next c.0
-  computed_at (stage.Reading read) next text work is c =
+  computed_at (stage.Reading read) next text work is in_plan c =
       subst (λ to. Stands options log (record x { text = text; work = work; stage = to })) (sym c.0)
       (retold_stands options log (restaged x work (stage.Reading read)) text c.1
       (stands_as options log x s work (stage.Reading read) (ap (untold x.ended) is) (subst (IsStage options log x (progress_of x.number log)) is s.stage)))
-  computed_at (stage.Querying from) next text work is c =
+  computed_at (stage.Querying from) next text work is in_plan c =
       subst (λ to. Stands options log (record x { text = text; work = work; stage = to })) (sym c.1)
-      (retold_stands options log (restaged x work (stage.Querying c.0)) text c.3 (query_computes options log x from c.0 work s is c.2))
-  computed_at (stage.Explaining plan) next text work is c =
+      (retold_stands options log (restaged x work (stage.Querying c.0)) text c.3 (query_computes options log x from c.0 work in_plan s is c.2))
+  computed_at (stage.Explaining plan) next text work is in_plan c =
       subst (λ to. Stands options log (record x { text = text; work = work; stage = to })) (sym c.0)
       (retold_stands options log (restaged x work _) text c.1 (explain_computes options log x plan (plan_text plan) work s is refl))
 
   -- and stands as before
-  pub computed_stands : (new : Session) → HasComputed x new → Stands options log new
-  computed_stands new c =
+  pub computed_stands : GoesInPlan x x.stage → (new : Session) → HasComputed x new → Stands options log new
+  computed_stands in_plan new c =
       subst (Stands options log) (λ i. record {
         number = sym c.number i;
         pieces = sym c.pieces i;
         ended = sym c.ended i;
         text = new.text;
         work = new.work;
+        wide = sym c.wide i;
         stage = new.stage;
-      }) (computed_at x.stage new.stage new.text new.work refl c.stage)
+      }) (computed_at x.stage new.stage new.text new.work refl in_plan c.stage)
 
 -- ## A statement begins
 
@@ -181,7 +184,7 @@ module _ (options : PoolOptions) (log : List EventTree) (x : Session) (s : Stand
 
   -- the session's next event, and where it stands behind it
   abbrev Does : ActTree → Session → Type 0
-  Does act new = IsNext options x.pieces x.number log (event_by x act) × Stands options (log ++ event_by x act ∷ []) new
+  Does act new = IsNext (order_of x) options x.pieces x.number log (event_by x act) × Stands options (log ++ event_by x act ∷ []) new
 
   -- a query, with the plan that it began with or refused
   pub query_starts : (outcome : Result Plan Refusal) (snap : Content) (marks : List Bool) (next : Stage) (work : ℕ) → Reads piece (Ok (Select query))
@@ -196,12 +199,12 @@ module _ (options : PoolOptions) (log : List EventTree) (x : Session) (s : Stand
         db = ap (λ (content : Content). content.db) new.snap_is ∙ db;
         versions = subst (HasVersions now.versions) (sym new.snap_is) versions;
         plan_is = new.plan_is;
-        marks = new.marks_are ∙ marked;
-        ids = new.ids;
-        values = new.values;
-        work = new.work;
-        checked = checked;
-        fits = fits;
+        fresh = record {
+          checked = ap plan_fault new.plan_is ∙ checked;
+          fits = subst (λ pl. FitsDb pl q.snap.db) (sym new.plan_is) (subst (FitsDb plan) (sym (ap (λ (content : Content). content.db) new.snap_is ∙ db)) fits);
+          marks = new.marks_are ∙ marked ∙ ap marks_of (sym new.plan_is);
+          work = new.work;
+        };
       }) meaning)
   query_starts (Err refusal) snap marks next work read outcome db versions marked checked fits meaning begins =
       subst (λ to. Does (act_tree (begin_act (Select query) (Err refusal))) (restaged x work to)) (sym begins)
@@ -216,3 +219,16 @@ module _ (options : PoolOptions) (log : List EventTree) (x : Session) (s : Stand
   explain_starts (Err refusal) next work read outcome checked begins =
       subst (λ to. Does (act_tree (begin_act (ExplainSelect query) (Err refusal))) (restaged x work to)) (sym begins)
       (explain_refused options log x s is piece here query refusal work read outcome)
+
+-- and then it has just begun, or ends
+pub begins_so : (snap : Content) (marks : List Bool) (outcome : Result Plan Refusal) (next : Stage) → BeginsWith snap marks outcome next → MayBegin next
+begins_so snap marks (Ok plan) next begins = subst MayBegin (sym begins.1) tt
+begins_so snap marks (Err refusal) next begins = subst MayBegin (sym begins) tt
+
+pub explained_so : (outcome : Result Plan Refusal) (next : Stage) → next ≡ explained outcome → MayBegin next
+explained_so (Ok plan) next begins = subst MayBegin (sym begins) tt
+explained_so (Err refusal) next begins = subst MayBegin (sym begins) tt
+
+-- so behind a statement that has ended
+pub told_so : (x y : Session) (reply : Shown) → y ≡ with_reply x reply → MayBegin y.stage
+told_so x y reply is = subst (λ (z : Session). MayBegin z.stage) (sym is) tt

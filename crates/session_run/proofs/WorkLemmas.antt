@@ -12,6 +12,9 @@ use Rattle.pool_policy.specs.declared.options.PoolOptions.{PoolOptions}
 use Rattle.pool_policy.specs.Looks.{look_of}
 use Rattle.pool_policy.specs.Pool.{PoolState}
 use Rattle.store_changes.specs.Work.{lost_unless}
+use Rattle.run_log.specs.declared.event.Looked.{Looked}
+use Rattle.run_log.specs.declared.event.Looked.TheVariants.{Exact, Within, Across, Miss}
+use Rattle.query_keys.specs.Laws.{id_given}
 use Rattle.run_log.specs.Events.{ActTree, Begins, Looks, Admits, Writes, Ends, EventTree}
 use Rattle.run_log.specs.Fold.{LogState}
 use Rattle.run_log.proofs.LogLemmas.{each_log}
@@ -19,14 +22,14 @@ use Rattle.answer_text.specs.Log.{code_of}
 use Rattle.query_run.specs.declared.step.Query.{Query}
 use Rattle.query_run.specs.declared.step.Step.{Step}
 use Rattle.query_run.specs.declared.step.Step.TheVariants as step
-use Rattle.query_run.specs.Queries.{unmarked_work}
+use Rattle.query_run.specs.Queries.{key_in, unmarked_work}
 use Rattle.session_run.specs.declared.session.Session.{Session}
 use Rattle.session_run.specs.declared.stage.Stage.{Stage}
 use Rattle.session_run.specs.declared.stage.Stage.TheVariants as stage
-use Rattle.session_run.specs.Progress.{Progress, progress_after, progress_by, progress_of}
-use Rattle.session_run.specs.Work.{act_lost, act_work, event_lost, event_work, load_at, own_work, pairs_at, plan_begun, plan_in, pool_looked, run_lost, session_work, sum_behind, tables_begun, work_by}
-use Rattle.session_run.specs.Works.{IsLookedUp, IsPlanned, IsWorked, IsWorkedStage, IsWorkedStep}
-use Rattle.session_run.proofs.LogLemmas.{log_long, looked_begun, other_progress, progress_more, state_stays}
+use Rattle.session_run.specs.Progress.{Got, Has, Progress, got_by, noted, progress_after, progress_by, progress_of}
+use Rattle.session_run.specs.Work.{act_lost, act_work, asked_by, event_lost, event_work, load_at, own_work, pairs_at, plan_begun, plan_in, pool_asked, run_lost, session_work, sum_behind, tables_begun, work_by}
+use Rattle.session_run.specs.Works.{IsLookedUp, IsPlanned, IsWorked, IsWorkedStage, IsWorkedStep, OweLoads}
+use Rattle.session_run.proofs.LogLemmas.{log_long, other_progress, progress_more, state_stays}
 
 -- ## Sums
 
@@ -61,36 +64,52 @@ lost_more options log event = sum_more (event_lost options) log event
 
 -- the positions that a session's progress has are those of the first n events
 pub record IsWithin (n : ℕ) (p : Progress) : Type 0 where
-  pub looked : p.looked ≤ n
+  pub asked : (instr : ℕ) → asked_by (p.results instr) ≤ n
   pub begun : (at : ℕ) → p.begun ≡ Some at → (1 ≤ at) × (at ≤ n)
 
 -- where no other query begins
-goes_within : (n : ℕ) (p q : Progress) → q.begun ≡ p.begun → q.looked ≤ n + 1 → IsWithin n p → IsWithin (n + 1) q
-goes_within n p q same looked w = record {
-  looked = looked;
+goes_within : (n : ℕ) (p q : Progress) → q.begun ≡ p.begun → ((instr : ℕ) → asked_by (q.results instr) ≤ n + 1) → IsWithin n p → IsWithin (n + 1) q
+goes_within n p q same asked w = record {
+  asked = asked;
   begun = λ at is. let both = w.begun at (sym same ∙ is) in let high = both.1 in (both.0, omega (arith, high));
 }
 
+later_within : (n : ℕ) (p : Progress) → IsWithin n p → (instr : ℕ) → asked_by (p.results instr) ≤ n + 1
+later_within n p w instr = let asked = w.asked instr in omega (arith, asked)
+
+noted_within : (n : ℕ) (p : Progress) (place : ℕ) (got : Got) → asked_by got ≤ n + 1 → IsWithin n p → (instr : ℕ) → asked_by (noted place got p.results instr) ≤ n + 1
+noted_within n p place got low w instr = go (instr == place)
+  where
+    go : (b : Bool) → asked_by (cond b got (p.results instr)) ≤ n + 1
+    go true = low
+    go false = later_within n p w instr
+
+got_within : (n : ℕ) (found : Looked) → asked_by (got_by (n + 1) found) ≤ n + 1
+got_within n (Exact id) = omega arith
+got_within n (Within id) = omega arith
+got_within n (Across pieces) = omega arith
+got_within n Miss = omega arith
+
 act_within : (n : ℕ) (act : ActTree) (p : Progress) → IsWithin n p → IsWithin (n + 1) (progress_by (n + 1) act p)
 act_within n (Begins code plan) p w = record {
-  looked = (let looked = w.looked in omega (arith, looked));
+  asked = λ instr. omega arith;
   begun = λ at is. let same : n + 1 ≡ at = same_Some (n + 1) at is in (omega (arith, same), omega (arith, same));
 }
-act_within n (Looks instr key found) p w = goes_within n p (progress_by (n + 1) (Looks instr key found) p) (looked_begun instr found p) (omega arith) w
-act_within n (Admits instr key result) p w = goes_within n p (progress_by (n + 1) (Admits instr key result) p) refl (let looked = w.looked in omega (arith, looked)) w
-act_within n (Writes statement code count) p w = goes_within n p (progress_by (n + 1) (Writes statement code count) p) refl (let looked = w.looked in omega (arith, looked)) w
-act_within n (Ends code) p w = record { looked = (let looked = w.looked in omega (arith, looked)); begun = λ at is. absurd (cc) }
+act_within n (Looks instr key found) p w = goes_within n p (progress_by (n + 1) (Looks instr key found) p) refl (noted_within n p (instr - 1) (got_by (n + 1) found) (got_within n found) w) w
+act_within n (Admits instr key result) p w = goes_within n p (progress_by (n + 1) (Admits instr key result) p) refl (noted_within n p (instr - 1) (Has (id_given result)) (omega arith) w) w
+act_within n (Writes statement code count) p w = goes_within n p (progress_by (n + 1) (Writes statement code count) p) refl (later_within n p w) w
+act_within n (Ends code) p w = record { asked = λ instr. omega arith; begun = λ at is. absurd (cc) }
 
 event_within : (session n : ℕ) (event : EventTree) (p : Progress) → IsWithin n p → IsWithin (n + 1) (progress_after session (n + 1) p event)
 event_within session n event p w = go (event.session == session)
   where
     go : (b : Bool) → IsWithin (n + 1) (cond b (progress_by (n + 1) event.act p) p)
     go true = act_within n event.act p w
-    go false = goes_within n p p refl (let looked = w.looked in omega (arith, looked)) w
+    go false = goes_within n p p refl (later_within n p w) w
 
 -- those of a session's progress are within the log
 pub progress_within : (session : ℕ) (log : List EventTree) → IsWithin (length log) (progress_of session log)
-progress_within session = each_log (λ log. IsWithin (length log) (progress_of session log)) (record { looked = omega arith; begun = λ at is. absurd (cc) }) (λ log event w.
+progress_within session = each_log (λ log. IsWithin (length log) (progress_of session log)) (record { asked = λ instr. omega arith; begun = λ at is. absurd (cc) }) (λ log event w.
     subst (λ n. IsWithin n (progress_of session (log ++ event ∷ []))) (sym (log_long log event))
     (subst (IsWithin (length log + 1)) (sym (progress_more session log event)) (event_within session (length log) event (progress_of session log) w)))
 
@@ -132,8 +151,8 @@ module _ (options : PoolOptions) (log : List EventTree) (event : EventTree) (p :
       go None is = omega arith
       go (Some at) is = let high = (within.begun at is).1 in omega (arith, high)
 
-  pool_stays : pool_looked options later p ≡ pool_looked options log p
-  pool_stays = ap (λ (s : LogState). s.pool) (state_stays options log event p.looked (let looked = within.looked in omega (arith, looked)))
+  pub pool_stays : (instr : ℕ) → pool_asked options later (p.results instr) ≡ pool_asked options log (p.results instr)
+  pool_stays instr = ap (λ (s : LogState). s.pool) (state_stays options log event (asked_by (p.results instr)) (let asked = within.asked instr in omega (arith, asked)))
 
   -- the work of an act of the session is the same behind one event more
   pub act_work_stays : (act : ActTree) → act_work options later p act ≡ act_work options log p act
@@ -141,9 +160,9 @@ module _ (options : PoolOptions) (log : List EventTree) (event : EventTree) (p :
   act_work_stays (Looks instr key found) = refl
   act_work_stays (Writes statement code count) = refl
   act_work_stays (Admits instr key result) =
-      ap (λ pool. admit_counts pool (tables_begun options later p) (plan_begun later p) (Admits instr key result)) pool_stays
-      ∙ ap (λ db. admit_counts (pool_looked options log p) db (plan_begun later p) (Admits instr key result)) tables_stay
-      ∙ ap (λ plan. admit_counts (pool_looked options log p) (tables_begun options log p) plan (Admits instr key result)) plan_stays
+      ap (λ pool. admit_counts pool (tables_begun options later p) (plan_begun later p) (Admits instr key result)) (pool_stays (instr - 1))
+      ∙ ap (λ db. admit_counts (pool_asked options log (p.results (instr - 1))) db (plan_begun later p) (Admits instr key result)) tables_stay
+      ∙ ap (λ plan. admit_counts (pool_asked options log (p.results (instr - 1))) (tables_begun options log p) plan (Admits instr key result)) plan_stays
   act_work_stays (Ends code) =
       ap (λ db. cond (code == 0) (option_map_or (λ plan. unmarked_work plan db) (plan_begun later p) 0) 0) tables_stay
       ∙ ap (λ plan. cond (code == 0) (option_map_or (λ plan. unmarked_work plan (tables_begun options log p)) plan 0) 0) plan_stays
@@ -165,12 +184,17 @@ module _ (options : PoolOptions) (log : List EventTree) (event : EventTree) (p :
         db = ap (λ b. tables_begun options later (record p { begun = b })) same ∙ stays.db;
       }
 
+  owes_stay : (q : Query) (but : ℕ → Type 0) → OweLoads options log p.results q but → OweLoads options later p.results q but
+  owes_stay q but owes n instr at asked apart =
+      let both = owes n instr at asked apart in
+      (both.0, λ load pairs. subst (λ pool. work_by pool (look_of pool (key_in q n instr)) load pairs ≡ load) (sym (pool_stays n)) (both.1 load pairs))
+
   step_worked_stays : (at : Step) → IsWorkedStep options log p at → IsWorkedStep options later p at
   step_worked_stays (step.Begun q) is = planned_stays q is
-  step_worked_stays (step.Asking q key) is = planned_stays q is
-  step_worked_stays (step.Found q found parts) is = (planned_stays q is.0, subst (λ pool. IsLookedUp pool q found parts.items) (sym pool_stays) is.1)
-  step_worked_stays (step.Offering q offer) is = (planned_stays q is.0, λ result. is.1 result ∙ sym (act_work_stays (Admits (length q.values + 1) offer.key result)))
-  step_worked_stays (step.Gained q value id) is = planned_stays q is
+  step_worked_stays (step.Open q) is = (planned_stays q is.0, owes_stay q (λ m. ⊥) is.1)
+  step_worked_stays (step.Asking q n key) is = (planned_stays q is.0, owes_stay q (λ m. ⊥) is.1)
+  step_worked_stays (step.Found q n found parts) is = (planned_stays q is.0, owes_stay q (λ m. m ≡ n) is.1, subst (λ pool. IsLookedUp pool q n found parts.items) (sym (pool_stays n)) is.2)
+  step_worked_stays (step.Offering q n offer) is = (planned_stays q is.0, owes_stay q (λ m. m ≡ n) is.1, λ result. is.2 result ∙ sym (act_work_stays (Admits (n + 1) offer.key result)))
   step_worked_stays (step.Ending reply work) is = is ∙ sym (act_work_stays (Ends (code_of reply)))
 
   stage_worked_stays : (at : Stage) → IsWorkedStage options log p at → IsWorkedStage options later p at

@@ -1,5 +1,5 @@
 -- A session's work through what it computes.
-use Rattle.std.proofs.Common.{◌≡◌, ℕ, ◌+◌, ◌-◌, ◌≤◌, List, [], ◌∷◌, ◌++◌, map, length, Some, None, refl, ap, sym, ◌∙◌, subst, arith}
+use Rattle.std.proofs.Common.{◌≡◌, ℕ, ◌+◌, ◌-◌, ◌≤◌, List, [], ◌∷◌, ◌++◌, map, length, Some, None, refl, ap, sym, ◌∙◌, subst, arith, false, true}
 use Rattle.std.specs.Prelude.{sum_by, unwrap_or}
 use Rattle.std.specs.Option.{option_map_or}
 use Rattle.std.proofs.lemmas.List.Sums.{sum_by-cons}
@@ -30,17 +30,18 @@ use Rattle.query_run.specs.declared.step.Query.{Query}
 use Rattle.query_run.specs.declared.step.Offer.{Offer}
 use Rattle.query_run.specs.declared.step.Step.{Step}
 use Rattle.query_run.specs.declared.step.Step.TheVariants as step
-use Rattle.query_run.specs.Queries.{BecomesOf, ComesTo, EndsWith, IsAt, IsOffered, part_work, unmarked_work, work_from}
+use Rattle.query_run.specs.Queries.{BecomesOf, ComesTo, EndsWith, IsAt, IsOffered, key_in, part_work, unmarked_work, was_asked, work_from}
 use Rattle.query_run.specs.Queries.EndsWith.{HasRows, Overflows}
-use Rattle.query_run.specs.Steps.{Computes, IsSoundStep, lost_at}
+use Rattle.query_run.specs.Steps.{Computes, IsOpened, IsSoundStep, lost_at}
 use Rattle.session_run.specs.declared.session.Session.{Session}
 use Rattle.session_run.specs.declared.stage.Stage.{Stage}
 use Rattle.session_run.specs.declared.stage.Stage.TheVariants as stage
 use Rattle.session_run.specs.Progress.{Progress, progress_of}
 use Rattle.session_run.specs.Kept.{Stands}
-use Rattle.session_run.specs.Work.{act_lost, act_work, load_at, pairs_at, piece_work, pool_looked, session_work, tables_begun, work_by}
-use Rattle.session_run.specs.Works.{IsLookedUp, IsPlanned, IsWorked, IsWorkedStage, IsWorkedStep, lost_in, lost_next}
+use Rattle.session_run.specs.Work.{act_lost, act_work, load_at, pairs_at, piece_work, pool_asked, session_work, tables_begun, work_by}
+use Rattle.session_run.specs.Works.{IsLookedUp, IsPlanned, IsWorked, IsWorkedStage, IsWorkedStep, OweLoads, lost_in, lost_next}
 use Rattle.session_run.specs.Stages.{ComesTo as StageComesTo, HasComputed, IsSoundStage, ReadsOn}
+use Rattle.session_run.proofs.OweLemmas.{goes_owe}
 use Rattle.session_run.proofs.StageLemmas.{stage_sound}
 
 -- ## What is found
@@ -66,66 +67,77 @@ found_counts pool found.Miss parts load pairs out = refl
 -- ## Steps
 
 module _ (options : PoolOptions) (log : List EventTree) (p : Progress) where
-  abbrev pool : PoolState
-  pool = pool_looked options log p
-
-  planned_as : (q to : Query) → to.snap ≡ q.snap → to.plan ≡ q.plan → IsPlanned options log p q → IsPlanned options log p to
+  pub planned_as : (q to : Query) → to.snap ≡ q.snap → to.plan ≡ q.plan → IsPlanned options log p q → IsPlanned options log p to
   planned_as q to snap plan k = record { plan = k.plan ∙ ap Some (sym plan); db = k.db ∙ ap (λ (content : Content). content.db) (sym snap) }
 
   -- the End of a query that was run to its end counts its unmarked instructions
-  end_counts : (q : Query) → IsPlanned options log p q → act_work options log p (Ends 0) ≡ unmarked_work q.plan q.snap.db
+  pub end_counts : (q : Query) → IsPlanned options log p q → act_work options log p (Ends 0) ≡ unmarked_work q.plan q.snap.db
   end_counts q k = ap (λ plan. option_map_or (λ pl. unmarked_work pl (tables_begun options log p)) plan 0) k.plan ∙ ap (unmarked_work q.plan) k.db
 
-  ends_worked : (q : Query) → IsPlanned options log p q → (ids : List ℕ) (reply : Shown) (work : ℕ) → EndsWith q.snap q.plan ids reply work → work ≡ act_work options log p (Ends (code_of reply))
-  ends_worked q k ids reply work (Overflows next none is no_work) = no_work ∙ ap (λ r. act_work options log p (Ends (code_of r))) (sym is)
-  ends_worked q k ids reply work (HasRows rows next some is counted) = counted ∙ sym (end_counts q k) ∙ ap (λ r. act_work options log p (Ends (code_of r))) (sym is)
+  ends_worked : (q : Query) → IsPlanned options log p q → (reply : Shown) (work : ℕ) → EndsWith q reply work → work ≡ act_work options log p (Ends (code_of reply))
+  ends_worked q k reply work (Overflows to n goes before unmarked none no_rows is no_work) = no_work ∙ ap (λ r. act_work options log p (Ends (code_of r))) (sym is)
+  ends_worked q k reply work (HasRows to rows goes all_there some is counted) = counted ∙ sym (end_counts q k) ∙ ap (λ r. act_work options log p (Ends (code_of r))) (sym is)
 
-  comes_worked : (q : Query) → IsPlanned options log p q → (ids : List ℕ) (to : Step) → ComesTo q.snap q.plan ids to → IsWorkedStep options log p to
-  comes_worked q k ids (step.Asking to key) asks = planned_as q to asks.goes.snap_is asks.goes.plan_is k
-  comes_worked q k ids (step.Ending reply work) ends = ends_worked q k ids reply work ends
-  comes_worked q k ids (step.Begun to) none = absurd none
-  comes_worked q k ids (step.Found to what parts) none = absurd none
-  comes_worked q k ids (step.Offering to offer) none = absurd none
-  comes_worked q k ids (step.Gained to value id) none = absurd none
+  comes_worked : (q : Query) → IsPlanned options log p q → OweLoads options log p.results q (λ m. ⊥) → (to : Step) → ComesTo q to → IsWorkedStep options log p to
+  comes_worked q k owes (step.Asking to n key) comes = (planned_as q to comes.0.snap_is comes.0.plan_is k, goes_owe options log p.results q to comes.0 owes)
+  comes_worked q k owes (step.Ending reply work) ends = ends_worked q k reply work ends
+  comes_worked q k owes (step.Begun to) none = absurd none
+  comes_worked q k owes (step.Open to) none = absurd none
+  comes_worked q k owes (step.Found to n what parts) none = absurd none
+  comes_worked q k owes (step.Offering to n offer) none = absurd none
 
-  -- the work of the next result's Admit
-  abbrev admit_counts : Key → Plan → Db → ℕ → ℕ
-  admit_counts key plan db n = work_by pool (look_of pool key) (load_at plan db n) (pairs_at plan db n)
+  -- nothing is owed where there is room for results
+  pub opened_owe : (q to : Query) → IsOpened q to → OweLoads options log p.results to (λ m. ⊥)
+  opened_owe q to o n instr at asked free = absurd (let never : false ≡ true = sym (o.unasked n) ∙ asked in cc)
+
+  -- the work of a result's Admit
+  abbrev admit_counts : PoolState → Key → Plan → Db → ℕ → ℕ
+  admit_counts pool key plan db n = work_by pool (look_of pool key) (load_at plan db n) (pairs_at plan db n)
+
+  -- the pool as it was when a result was asked for
+  abbrev pool_at : ℕ → PoolState
+  pool_at n = pool_asked options log (p.results n)
+
+  -- it is by the pool as it was at its look, and by the plan
+  pub admit_is : (q : Query) → IsPlanned options log p q → (n : ℕ) (instr : Instr) → IsAt q n instr → (offer : Offer) → IsOffered q n instr offer → (result : Admitted)
+      → act_work options log p (Admits (n + 1) offer.key result) ≡ work_by (pool_asked options log (p.results n)) (look_of (pool_asked options log (p.results n)) (key_in q n instr)) offer.work (length offer.value)
+  admit_is q k n instr at offer offered result =
+      let last : (n + 1) - 1 ≡ n = omega arith in
+      ap (λ plan. option_map_or (λ pl. admit_counts (pool_asked options log (p.results ((n + 1) - 1))) offer.key pl (tables_begun options log p) ((n + 1) - 1)) plan 0) k.plan
+      ∙ ap (λ db. admit_counts (pool_asked options log (p.results ((n + 1) - 1))) offer.key q.plan db ((n + 1) - 1)) k.db
+      ∙ ap (λ m. admit_counts (pool_asked options log (p.results m)) offer.key q.plan q.snap.db m) last
+      ∙ ap (λ o. work_by (pool_at n) (look_of (pool_at n) offer.key) (option_map_or (instr_load q.snap.db (plan_values q.snap.db q.plan.instrs)) o 0) (pairs_at q.plan q.snap.db n)) at.here
+      ∙ ap (λ load. work_by (pool_at n) (look_of (pool_at n) offer.key) load (pairs_at q.plan q.snap.db n)) (sym offered.work)
+      ∙ ap (λ o. work_by (pool_at n) (look_of (pool_at n) offer.key) offer.work (option_map_or pair_count (unwrap_or o None) 0)) offered.value
+      ∙ ap (λ key. work_by (pool_at n) (look_of (pool_at n) key) offer.work (length offer.value)) offered.key
 
   -- it is that which was done
-  offer_worked : (q : Query) → IsPlanned options log p q → (instr : Instr) → IsAt q instr → (what : Found) (parts : List Part) → IsLookedUp pool q what parts → (offer : Offer) → IsOffered q instr offer
-      → offer.done ≡ work_from what parts offer.work (length offer.value) → (result : Admitted) → offer.done ≡ act_work options log p (Admits (length q.values + 1) offer.key result)
-  offer_worked q k instr at what parts looked offer offered done result =
-      let n = length q.values in
+  offer_worked : (q : Query) → IsPlanned options log p q → (n : ℕ) (instr : Instr) → IsAt q n instr → (what : Found) (parts : List Part) → IsLookedUp (pool_asked options log (p.results n)) q n what parts → (offer : Offer) → IsOffered q n instr offer
+      → offer.done ≡ work_from what parts offer.work (length offer.value) → (result : Admitted) → offer.done ≡ act_work options log p (Admits (n + 1) offer.key result)
+  offer_worked q k n instr at what parts looked offer offered done result =
       let found = looked instr at in
-      let last : (n + 1) - 1 ≡ n = omega arith in
-      done ∙ sym (
-      ap (λ plan. option_map_or (λ pl. admit_counts offer.key pl (tables_begun options log p) ((n + 1) - 1)) plan 0) k.plan
-      ∙ ap (λ db. admit_counts offer.key q.plan db ((n + 1) - 1)) k.db
-      ∙ ap (admit_counts offer.key q.plan q.snap.db) last
-      ∙ ap (λ o. work_by pool (look_of pool offer.key) (option_map_or (instr_load q.snap.db (plan_values q.snap.db q.plan.instrs)) o 0) (pairs_at q.plan q.snap.db n)) at.here
-      ∙ ap (λ load. work_by pool (look_of pool offer.key) load (pairs_at q.plan q.snap.db n)) (sym offered.work)
-      ∙ ap (λ o. work_by pool (look_of pool offer.key) offer.work (option_map_or pair_count (unwrap_or o None) 0)) offered.value
-      ∙ ap (λ finding. work_by pool finding offer.work (length offer.value)) (ap (look_of pool) offered.key ∙ sym found.0)
-      ∙ found_counts pool what parts offer.work (length offer.value) found.1
-      )
+      done ∙ sym (admit_is q k n instr at offer offered result
+      ∙ ap (λ finding. work_by (pool_asked options log (p.results n)) finding offer.work (length offer.value)) (sym found.0)
+      ∙ found_counts (pool_asked options log (p.results n)) what parts offer.work (length offer.value) found.1)
 
-  becomes_worked : (q : Query) → IsPlanned options log p q → (instr : Instr) → IsAt q instr → (what : Found) (parts : List Part) → IsLookedUp pool q what parts → (to : Step) → BecomesOf q instr what parts to → IsWorkedStep options log p to
-  becomes_worked q k instr at what parts looked (step.Offering to offer) b =
-      subst (λ r. IsWorkedStep options log p (step.Offering r offer)) (sym b.0) (k, offer_worked q k instr at what parts looked offer b.1 b.2)
-  becomes_worked q k instr at what parts looked (step.Ending reply work) b = b.3 ∙ ap (λ r. act_work options log p (Ends (code_of r))) (sym b.2)
-  becomes_worked q k instr at what parts looked (step.Begun to) none = absurd none
-  becomes_worked q k instr at what parts looked (step.Asking to key) none = absurd none
-  becomes_worked q k instr at what parts looked (step.Found to other pieces) none = absurd none
-  becomes_worked q k instr at what parts looked (step.Gained to value id) none = absurd none
+  pub becomes_worked : (q : Query) → IsPlanned options log p q → (n : ℕ) → OweLoads options log p.results q (λ m. m ≡ n) → (instr : Instr) → IsAt q n instr → (what : Found) (parts : List Part) → IsLookedUp (pool_asked options log (p.results n)) q n what parts
+      → (to : Step) → BecomesOf q n instr what parts to → IsWorkedStep options log p to
+  becomes_worked q k n owes instr at what parts looked (step.Offering to m offer) b =
+      subst (λ r. IsWorkedStep options log p (step.Offering r m offer)) (sym b.0)
+      (subst (λ j. IsWorkedStep options log p (step.Offering q j offer)) (sym b.1) (k, owes, offer_worked q k n instr at what parts looked offer b.2 b.3))
+  becomes_worked q k n owes instr at what parts looked (step.Ending reply work) b = b.3 ∙ ap (λ r. act_work options log p (Ends (code_of r))) (sym b.2)
+  becomes_worked q k n owes instr at what parts looked (step.Begun to) none = absurd none
+  becomes_worked q k n owes instr at what parts looked (step.Open to) none = absurd none
+  becomes_worked q k n owes instr at what parts looked (step.Asking to m key) none = absurd none
+  becomes_worked q k n owes instr at what parts looked (step.Found to m other pieces) none = absurd none
 
   step_computes : (from to : Step) → IsSoundStep from → IsWorkedStep options log p from → Computes from to → IsWorkedStep options log p to
-  step_computes (step.Begun q) to sound is c = comes_worked q is q.ids.items to c
-  step_computes (step.Asking q key) to sound is c = subst (IsWorkedStep options log p) (sym c) is
-  step_computes (step.Found q what parts) to sound is c =
-      becomes_worked q is.0 sound.1.0 sound.1.1 what parts.items is.1 to (c sound.1.0 sound.1.1)
-  step_computes (step.Offering q offer) to sound is c = subst (IsWorkedStep options log p) (sym c) is
-  step_computes (step.Gained q value id) to sound is c = comes_worked q is (q.ids.items ++ id ∷ []) to c
+  step_computes (step.Begun q) to sound is c = comes_worked c.0 (planned_as q c.0 c.1.snap_is c.1.plan_is is) (opened_owe q c.0 c.1) to c.2
+  step_computes (step.Open q) to sound is c = comes_worked q is.0 is.1 to c
+  step_computes (step.Asking q n key) to sound is c = subst (IsWorkedStep options log p) (sym c) is
+  step_computes (step.Found q n what parts) to sound is c =
+      becomes_worked q is.0 n is.1 sound.1.0 sound.1.1 what parts.items is.2 to (c sound.1.0 sound.1.1)
+  step_computes (step.Offering q n offer) to sound is c = subst (IsWorkedStep options log p) (sym c) is
   step_computes (step.Ending reply work) to sound is c = subst (IsWorkedStep options log p) (sym c) is
 
   -- ## Stages
@@ -172,17 +184,17 @@ module _ (book : BookView) (session : ℕ) where
   query_lost : (q : Query) → IsPlanned book.options (log_tree book.log) p q → (to : Step) → lost_at q to ≤ lost_next book session (stage.Querying to)
   query_lost q k (step.Ending reply work) = let loses = end_loses book.options (log_tree book.log) p q k (code_of reply) in omega (arith, loses)
   query_lost q k (step.Begun to) = omega arith
-  query_lost q k (step.Asking to key) = omega arith
-  query_lost q k (step.Found to what parts) = omega arith
-  query_lost q k (step.Offering to offer) = omega arith
-  query_lost q k (step.Gained to value id) = omega arith
+  query_lost q k (step.Open to) = omega arith
+  query_lost q k (step.Asking to n key) = omega arith
+  query_lost q k (step.Found to n what parts) = omega arith
+  query_lost q k (step.Offering to n offer) = omega arith
 
   step_lost : (from to : Step) → Worked from → lost_in (stage.Querying from) (stage.Querying to) ≤ lost_next book session (stage.Querying to)
   step_lost (step.Begun q) to is = query_lost q is to
-  step_lost (step.Found q what parts) to is = query_lost q is.0 to
-  step_lost (step.Gained q value id) to is = query_lost q is to
-  step_lost (step.Asking q key) to is = omega arith
-  step_lost (step.Offering q offer) to is = omega arith
+  step_lost (step.Open q) to is = query_lost q is.0 to
+  step_lost (step.Found q n what parts) to is = query_lost q is.0 to
+  step_lost (step.Asking q n key) to is = omega arith
+  step_lost (step.Offering q n offer) to is = omega arith
   step_lost (step.Ending reply work) to is = omega arith
 
   stage_lost : (x : Session) (at next : Stage) (text : List ℕ) → IsWorkedStage book.options (log_tree book.log) p at → StageComesTo x at next text → lost_in at next ≤ lost_next book session next

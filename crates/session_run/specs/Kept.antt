@@ -1,11 +1,9 @@
 -- What a session knows of the log.
-use Rattle.std.specs.Prelude.{◌≡◌, ℕ, ◌+◌, ◌≤◌, ◌<◌, List, [], ◌∷◌, ◌++◌, length, take, Bool, true, false, Option, Some, None, Result, Ok, Err, slice_get}
+use Rattle.std.specs.Prelude.{◌≡◌, ℕ, ◌+◌, ◌≤◌, ◌<◌, List, [], ◌++◌, length, take, Bool, true, false, if◌then◌else◌, Option, Some, None, Result, Ok, Err, slice_get}
 use Rattle.cell_core.specs.declared.operator.Instr.{Instr}
-use Rattle.cell_core.specs.declared.operator.Value.TheVariants.{Bat}
 use Rattle.mal_meaning.specs.declared.plan.Plan.{Plan}
 use Rattle.mal_meaning.specs.Meaning.{plan_rows, plan_values}
 use Rattle.mal_check.specs.Checked.{plan_fault}
-use Rattle.recycle_mark.specs.Marks.{marks_of}
 use Rattle.sql_tree.specs.declared.tree.Stmt.{Stmt}
 use Rattle.sql_tree.specs.Tree.{QueryTree, StmtTree, stmt_tree}
 use Rattle.sql_tree.specs.Tree.StmtTree.{Select, ExplainSelect}
@@ -17,7 +15,6 @@ use Rattle.plan_queries.specs.Plans.{plan_over, refusal_over}
 use Rattle.pool_policy.specs.declared.entry.Who.{Who}
 use Rattle.pool_policy.specs.declared.options.PoolOptions.{PoolOptions}
 use Rattle.pool_policy.specs.Keeps.{Face}
-use Rattle.pool_policy.specs.Worths.{worth}
 use Rattle.run_log.specs.Events.{EventTree, Ends}
 use Rattle.run_log.specs.Fold.{LogState, run_of}
 use Rattle.answer_text.specs.declared.shown.Shown.{Shown}
@@ -28,13 +25,14 @@ use Rattle.query_keys.specs.Keys.{AreIdsOf}
 use Rattle.query_run.specs.declared.step.Query.{Query}
 use Rattle.query_run.specs.declared.step.Step.{Step}
 use Rattle.query_run.specs.declared.step.Step.TheVariants as step
-use Rattle.query_run.specs.Queries.{AsksFor, IsAt, IsOffered, IsUnderWay, Serves, next_value}
+use Rattle.query_run.specs.Queries.{AsksFor, HasArgs, HasBefore, HasMark, IsAt, IsOffered, IsUnderWay, Serves, has_result, id_at, was_asked}
+use Rattle.query_run.specs.Steps.{IsFresh}
 use Rattle.session_run.specs.declared.session.Session.{Session}
 use Rattle.session_run.specs.declared.stage.Stage.{Stage}
 use Rattle.session_run.specs.declared.stage.Stage.TheVariants as stage
-use Rattle.session_run.specs.Progress.{Progress, progress_of}
+use Rattle.session_run.specs.Progress.{Asked, Got, Has, Progress, Unasked, progress_of}
 use Rattle.session_run.specs.Readings.{AreReadings}
-use Rattle.session_run.specs.Turns.{later_act, state_before}
+use Rattle.session_run.specs.Turns.{AsReady, InPlan, IsLaterAct, Order, state_before}
 
 -- ## Queries
 
@@ -46,29 +44,59 @@ pub record Knows (seen : LogState) (given : List Face) (plan : Plan) (q : Query)
   pub versions : HasVersions seen.versions q.snap
   pub ids : AreIdsOf given q.ids.items (plan_values seen.db plan.instrs)
 
--- the step of a query whose events so far gave these ids, and that asked for the next result in vain or not
-abbrev pub IsStep : LogState → List Face → Plan → List ℕ → Bool → Step → Type 0
-IsStep seen given plan ids asked (step.Begun q) = Knows seen given plan q × (q.ids.items ≡ ids) × (asked ≡ false)
-IsStep seen given plan ids asked (step.Asking q key) = Knows seen given plan q × AsksFor q.snap q.plan ids q key × (asked ≡ false)
-IsStep seen given plan ids asked (step.Found q found parts) = Knows seen given plan q × (q.ids.items ≡ ids) × (asked ≡ true) × ((instr : Instr) × IsAt q instr × Serves q instr found parts.items)
-IsStep seen given plan ids asked (step.Offering q offer) = Knows seen given plan q × (q.ids.items ≡ ids) × (asked ≡ true) × ((instr : Instr) × IsAt q instr × IsOffered q instr offer)
-IsStep seen given plan ids asked (step.Gained q value id) = Knows seen given plan q × (next_value q ≡ Some (Some (Bat value))) × (slice_get (marks_of q.plan) (length q.values) ≡ Some true) × (ids ≡ q.ids.items ++ id ∷ []) × (asked ≡ false) × (0 < id → worth given id ≡ Some value)
-IsStep seen given plan ids asked (step.Ending reply work) = ⊥
+-- a query that has begun knows them too
+pub record Began (seen : LogState) (plan : Plan) (q : Query) : Type 0 where
+  pub fresh : IsFresh q
+  pub plan_is : q.plan ≡ plan
+  pub db : q.snap.db ≡ seen.db
+  pub versions : HasVersions seen.versions q.snap
+
+-- the log has noted a result as the query has it: whether it is marked, whether it is there, its id, and whether the pool was asked for it
+abbrev pub IsNoted : Got → Bool → Bool → ℕ → Bool → Type 0
+IsNoted got false there id asked = got ≡ Unasked
+IsNoted got true true id asked = got ≡ Has id
+IsNoted got true false id true = (at : ℕ) × (got ≡ Asked at)
+IsNoted got true false id false = got ≡ Unasked
+
+-- so each
+abbrev pub AreNoted : (ℕ → Got) → Query → Type 0
+AreNoted results q = (n : ℕ) (mark : Bool) → HasMark q n mark → IsNoted (results n) mark (has_result q n) (id_at q n) (was_asked q n)
+
+-- what holds besides where a query goes through its plan in order: all before an instruction is there
+abbrev pub IsInTurn : Order → Query → ℕ → Type 0
+IsInTurn InPlan q n = HasBefore q n
+IsInTurn AsReady q n = Unit {0}
+
+-- and nothing else was asked for in vain
+abbrev pub OwesNone : Order → Query → (ℕ → Type 0) → Type 0
+OwesNone InPlan q but = (n : ℕ) → has_result q n ≡ false → (but n → ⊥) → was_asked q n ≡ false
+OwesNone AsReady q but = Unit {0}
+
+-- the step of a query that has these results by its events
+abbrev pub IsStep : Order → LogState → List Face → Plan → (ℕ → Got) → Step → Type 0
+IsStep order seen given plan results (step.Begun q) = Began seen plan q × ((n : ℕ) → results n ≡ Unasked)
+IsStep order seen given plan results (step.Open q) = Knows seen given plan q × AreNoted results q × OwesNone order q (λ m. ⊥)
+IsStep order seen given plan results (step.Asking q n key) = Knows seen given plan q × AreNoted results q × OwesNone order q (λ m. ⊥) × AsksFor q n key × (was_asked q n ≡ false) × IsInTurn order q n
+IsStep order seen given plan results (step.Found q n found parts) = Knows seen given plan q × AreNoted results q × OwesNone order q (λ m. m ≡ n)
+    × (was_asked q n ≡ true) × IsInTurn order q n × ((instr : Instr) × IsAt q n instr × HasArgs q instr × Serves q n instr found parts.items)
+IsStep order seen given plan results (step.Offering q n offer) = Knows seen given plan q × AreNoted results q × OwesNone order q (λ m. m ≡ n) × (was_asked q n ≡ true) × IsInTurn order q n
+    × ((instr : Instr) × IsAt q n instr × IsOffered q n instr offer)
+IsStep order seen given plan results (step.Ending reply work) = ⊥
 
 -- ## Statements that have begun
 
 -- it ends with this reply, whatever others do
-pub record EndsWith (seen : LogState) (p : Progress) (statement : StmtTree) (reply : Shown) : Type 0 where
-  pub act : (s : LogState) (who : Who) → later_act s who seen p (Ok statement) ≡ Ends (code_of reply)
+pub record EndsWith (order : Order) (seen : LogState) (results : ℕ → Got) (statement : StmtTree) (reply : Shown) : Type 0 where
+  pub act : (s : LogState) (who : Who) → IsLaterAct order s who seen results (Ok statement) (Ends (code_of reply))
   pub shows : reply ≡ shown_over seen.db (Ok statement)
 
 -- a query that is run
-pub record IsRun (seen : LogState) (given : List Face) (p : Progress) (statement : StmtTree) (at : Step) : Type 0 where
+pub record IsRun (order : Order) (seen : LogState) (given : List Face) (results : ℕ → Got) (statement : StmtTree) (at : Step) : Type 0 where
   pub query : QueryTree
   pub select : statement ≡ Select query
   pub accepted : refusal_over seen.db (Select query) ≡ None
   pub meaning : plan_rows (plan_over seen.db query) seen.db ≡ answer query seen.db
-  pub step : IsStep seen given (plan_over seen.db query) p.ids p.asked at
+  pub step : IsStep order seen given (plan_over seen.db query) results at
 
 -- an EXPLAIN that shows a plan
 pub record IsExplained (seen : LogState) (statement : StmtTree) (plan : Plan) : Type 0 where
@@ -78,11 +106,15 @@ pub record IsExplained (seen : LogState) (statement : StmtTree) (plan : Plan) : 
   pub checked : plan_fault plan ≡ None
   pub plan_is : plan ≡ plan_over seen.db query
 
-abbrev pub IsUnder : LogState → List Face → Progress → StmtTree → Stage → Type 0
-IsUnder seen given p statement (stage.Querying (step.Ending reply work)) = EndsWith seen p statement reply
-IsUnder seen given p statement (stage.Querying at) = IsRun seen given p statement at
-IsUnder seen given p statement (stage.Explaining plan) = IsExplained seen statement plan
-IsUnder seen given p statement _ = ⊥
+abbrev pub IsUnder : Order → LogState → List Face → (ℕ → Got) → StmtTree → Stage → Type 0
+IsUnder order seen given results statement (stage.Querying (step.Ending reply work)) = EndsWith order seen results statement reply
+IsUnder order seen given results statement (stage.Querying at) = IsRun order seen given results statement at
+IsUnder order seen given results statement (stage.Explaining plan) = IsExplained seen statement plan
+IsUnder order seen given results statement _ = ⊥
+
+-- in which order a session goes through its plans
+abbrev pub order_of : Session → Order
+order_of x = if x.wide then AsReady else InPlan
 
 -- the session's next statement has begun at a place of the log
 pub record HasBegun (options : PoolOptions) (log : List EventTree) (x : Session) (p : Progress) : Type 0 where
@@ -95,7 +127,7 @@ pub record HasBegun (options : PoolOptions) (log : List EventTree) (x : Session)
   pub here : slice_get x.pieces x.ended ≡ Some piece
   pub statement : StmtTree
   pub read : Reads piece (Ok statement)
-  pub under : IsUnder (state_before options log at) (run_of options log).given p statement x.stage
+  pub under : IsUnder (order_of x) (state_before options log at) (run_of options log).given p.results statement x.stage
 
 -- ## Sessions
 

@@ -1,5 +1,5 @@
 -- How one stage of a session follows from another.
-use Rattle.std.specs.Prelude.{◌≡◌, ℕ, ◌+◌, ◌≤◌, List, [], ◌∷◌, ◌++◌, length, Bool, None, Result, Ok, Err}
+use Rattle.std.specs.Prelude.{◌≡◌, ℕ, ◌+◌, ◌≤◌, List, [], ◌∷◌, ◌++◌, length, Bool, false, None, Result, Ok, Err}
 use Rattle.mal_meaning.specs.declared.plan.Plan.{Plan}
 use Rattle.sql_semantics.specs.declared.refusal.Refusal.{Refusal}
 use Rattle.table_store.specs.Content.{Content}
@@ -16,12 +16,33 @@ use Rattle.book_core.specs.BookView.{BookView}
 use Rattle.query_run.specs.declared.step.Step.{Step}
 use Rattle.query_run.specs.declared.step.Step.TheVariants as step
 use Rattle.query_run.specs.Steps.{Computes, IsSoundStep}
+use Rattle.query_run.specs.Ready.{Moves}
+use Rattle.query_run.specs.Queries.{HasGained, IsLooked}
+use Rattle.bat_core.specs.declared.shared.Obj.TheVariants as obj
+use Rattle.pool_policy.specs.Pool.{PoolState}
 use Rattle.session_run.specs.declared.session.Session.{Session}
 use Rattle.session_run.specs.declared.stage.Stage.{Stage}
 use Rattle.session_run.specs.declared.stage.Stage.TheVariants as stage
-use Rattle.session_run.specs.Kept.{HasRead, Stands}
+use Rattle.session_run.specs.Kept.{HasRead, Stands, order_of}
 use Rattle.session_run.specs.Turns.{IsNext}
 use Rattle.session_run.specs.Works.{IsWorked}
+
+-- ## Stages
+
+-- no query is under way in its plan
+abbrev pub IsAside : Stage → Type 0
+IsAside (stage.Querying (step.Ending reply work)) = Unit {0}
+IsAside (stage.Querying at) = ⊥
+IsAside at = Unit {0}
+
+-- or it has just begun
+abbrev pub MayBegin : Stage → Type 0
+MayBegin (stage.Querying (step.Begun q)) = Unit {0}
+MayBegin at = IsAside at
+
+-- a session in another stage
+abbrev pub at_stage : Session → Stage → Session
+at_stage x next = record x { stage = next }
 
 -- ## Outside
 
@@ -51,21 +72,41 @@ pub record HasComputed (old new : Session) : Type 0 where
   pub pieces : new.pieces ≡ old.pieces
   pub ended : new.ended ≡ old.ended
   pub work : new.work ≡ old.work
+  pub wide : new.wide ≡ old.wide
   pub stage : ComesTo old old.stage new.stage new.text.items
+
+-- a query goes through its plan in order, where its step computes
+abbrev pub GoesInPlan : Session → Stage → Type 0
+GoesInPlan x (stage.Querying (step.Begun q)) = x.wide ≡ false
+GoesInPlan x (stage.Querying (step.Open q)) = x.wide ≡ false
+GoesInPlan x (stage.Querying (step.Found q n what parts)) = x.wide ≡ false
+GoesInPlan x _ = Unit {0}
+
+-- ## As results are ready
+
+-- a session's query moves by itself: nothing of the session changes but its stage
+pub record HasMoved (old new : Session) : Type 0 where
+  pub from : Step
+  pub to : Step
+  pub was : old.stage ≡ stage.Querying from
+  pub is : new ≡ at_stage old (stage.Querying to)
+  pub moves : Moves from to
 
 -- ## Inside
 
 -- its next event stands
 abbrev pub IsReady : Stage → Type 0
 IsReady (stage.Reading read) = Unit {0}
-IsReady (stage.Querying (step.Asking q key)) = Unit {0}
-IsReady (stage.Querying (step.Offering q offer)) = Unit {0}
+IsReady (stage.Querying (step.Asking q n key)) = Unit {0}
+IsReady (stage.Querying (step.Offering q n offer)) = Unit {0}
 IsReady (stage.Querying (step.Ending reply work)) = Unit {0}
 IsReady _ = ⊥
 
--- a session in another stage
-abbrev pub at_stage : Session → Stage → Session
-at_stage x next = record x { stage = next }
+-- what comes of an event: a query that asked has its result, or what that is computed from, and one that offered has its result; behind any other event no query is under way in its plan
+abbrev pub Follows : Stage → Stage → Type 0
+Follows (stage.Querying (step.Asking q n key)) next = (to : Step) × (pool : PoolState) × (next ≡ stage.Querying to) × IsLooked q n pool key to
+Follows (stage.Querying (step.Offering q n offer)) next = (to : Query) × (id : ℕ) × (next ≡ stage.Querying (step.Open to)) × HasGained q n (obj.Bat offer.value) id q.work to
+Follows from next = MayBegin next
 
 -- one statement more has ended, with this reply
 abbrev pub with_reply : Session → Shown → Session
@@ -75,20 +116,18 @@ with_reply x reply = record x { ended = x.ended + 1; stage = stage.Telling reply
 pub record HasDone (old new : BookView) (before after : Session) : Type 0 where
   pub event : Event
   pub log : new.log ≡ old.log ++ event ∷ []
-  pub next : IsNext old.options before.pieces before.number (log_tree old.log) (event_tree event)
+  pub next : IsNext (order_of before) old.options before.pieces before.number (log_tree old.log) (event_tree event)
   pub stands : Stands new.options (log_tree new.log) after
   pub worked : IsWorked new.options (log_tree new.log) after
   pub ends : (code : ℕ) → act_tree event.act ≡ Ends code → code ≡ code_of (shown_over (tables_met (log_tree old.log) event.session event.statement) next.reading)
 
 -- ## A query begins
 
--- a query without results, over this snapshot by this plan
+-- a query that has no room for results yet, over this snapshot by this plan
 pub record IsNew (q : Query) (snap : Content) (plan : Plan) (marks : List Bool) : Type 0 where
   pub snap_is : q.snap ≡ snap
   pub plan_is : q.plan ≡ plan
   pub marks_are : q.marks.items ≡ marks
-  pub ids : q.ids.items ≡ []
-  pub values : q.values ≡ []
   pub work : q.work ≡ 0
 
 -- the stage of a query that has begun with a plan, or that is refused

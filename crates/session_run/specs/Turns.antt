@@ -1,9 +1,12 @@
 -- The next event of a session, behind a log.
-use Rattle.std.specs.Prelude.{◌≡◌, ℕ, ◌+◌, ◌-◌, ◌≤◌, List, ◌∷◌, length, drop, take, Bool, true, false, Option, Some, None, Result, Ok, Err, slice_get}
+use Rattle.std.specs.Prelude.{◌≡◌, ℕ, ◌+◌, ◌-◌, ◌≤◌, List, ◌∷◌, length, take, Bool, true, false, Option, Some, None, IsSome, Result, Ok, Err, slice_get}
+use Rattle.std.specs.List.{AllByRecursion}
+use Rattle.cell_core.specs.declared.operator.Arg.{Arg}
+use Rattle.cell_core.specs.declared.operator.Arg.TheVariants.{Const, Var}
 use Rattle.cell_core.specs.declared.operator.Instr.{Instr}
 use Rattle.cell_core.specs.declared.operator.Value.{Value}
 use Rattle.mal_meaning.specs.declared.plan.Plan.{Plan}
-use Rattle.mal_meaning.specs.Meaning.{plan_values}
+use Rattle.mal_meaning.specs.Meaning.{plan_rows, plan_values}
 use Rattle.recycle_mark.specs.Marks.{marks_of}
 use Rattle.lineage_key.specs.declared.key.Key.{Key}
 use Rattle.sql_tree.specs.Tree.{StmtTree}
@@ -24,8 +27,7 @@ use Rattle.run_log.specs.Fold.{LogState, key_offer, run_of}
 use Rattle.book_core.specs.Begins.{begin_act, code_in, unless_refused}
 use Rattle.book_core.specs.Writes.{reply_code, reply_count}
 use Rattle.query_keys.specs.Keys.{instr_key}
-use Rattle.query_run.specs.Next.{Next, Asks, Faults, Finishes, next_from, padded}
-use Rattle.session_run.specs.Progress.{Progress, progress_of}
+use Rattle.session_run.specs.Progress.{Asked, Got, Has, Progress, Unasked, ids_before, progress_of}
 
 -- ## A statement begins
 
@@ -41,37 +43,87 @@ first_act s (Ok statement) = Writes (Some statement) (reply_code (effect stateme
 abbrev pub overflow_code : ℕ
 overflow_code = refusal_number Overflow
 
--- a query that waits for no result asks for the next one, or ends
-abbrev pub act_of_next : LogState → Versions → List ℕ → Next → ActTree
-act_of_next s versions ids (Asks n instr) =
-    let key = instr_key instr versions (padded n ids) in Looks (n + 1) key (looked_of (look_of s.pool key))
-act_of_next s versions ids Faults = Ends overflow_code
-act_of_next s versions ids Finishes = Ends 0
+-- the key of an instruction's result, of a query that sees these versions and has these results
+abbrev pub key_at : Versions → (ℕ → Got) → ℕ → Instr → Key
+key_at versions results n instr = instr_key instr versions (ids_before results n)
 
--- a query that asked for the result of instruction n in vain offers what it computed, or ends where there is none
-abbrev pub act_of_value : LogState → Who → ℕ → Key → Option Value → ActTree
-act_of_value s who n key (Some value) = Admits (n + 1) key (admit_of who (s.at + 1) (key_offer key s) s.pool).0
-act_of_value s who n key None = Ends overflow_code
+-- it asks the pool for the result of an instruction, in a state
+abbrev pub look_at : LogState → Versions → (ℕ → Got) → ℕ → Instr → ActTree
+look_at s versions results n instr = let key = key_at versions results n instr in Looks (n + 1) key (looked_of (look_of s.pool key))
 
-abbrev pub act_of_offer : LogState → Who → Versions → List ℕ → List Instr → List (Option Value) → ActTree
-act_of_offer s who versions ids (instr ∷ instrs) (value ∷ values) = act_of_value s who (length ids) (instr_key instr versions ids) value
-act_of_offer s who versions ids _ _ = Ends 0
+-- it offers that result
+abbrev pub admit_at : LogState → Who → Versions → (ℕ → Got) → ℕ → Instr → ActTree
+admit_at s who versions results n instr = let key = key_at versions results n instr in Admits (n + 1) key (admit_of who (s.at + 1) (key_offer key s) s.pool).0
 
--- what a query does next, in a state, that began in another and whose results so far have these ids
-abbrev pub query_act : LogState → Who → LogState → Plan → List ℕ → Bool → ActTree
-query_act s who seen plan ids true = act_of_offer s who seen.versions ids (drop (length ids) plan.instrs) (drop (length ids) (plan_values seen.db plan.instrs))
-query_act s who seen plan ids false = act_of_next s seen.versions ids
-    (next_from (length ids) (drop (length ids) plan.instrs) (drop (length ids) (marks_of plan)) (drop (length ids) (plan_values seen.db plan.instrs)))
+-- ### In the order of the plan
 
-abbrev pub begun_act : LogState → Who → LogState → Progress → Result Plan Refusal → ActTree
-begun_act s who seen p (Err refusal) = Ends (refusal_number refusal)
-begun_act s who seen p (Ok plan) = query_act s who seen plan p.ids p.asked
+-- the first instruction that a query comes to: it asks for its result, or offers its value, where there is one; or that has no value; or none is left
+pub data Next : Type 0 where
+  Asks : ℕ → Instr → Next
+  Offers : ℕ → Instr → Option Value → Next
+  Faults : Next
+  Finishes : Next
+
+-- by a marked instruction, before the rest
+abbrev pub next_by : Got → ℕ → Instr → Option Value → Next → Next
+next_by Unasked n instr value rest = Asks n instr
+next_by (Asked at) n instr value rest = Offers n instr value
+next_by (Has id) n instr value rest = rest
+
+-- from instruction n on
+abbrev pub next_from : (ℕ → Got) → ℕ → List Instr → List Bool → List (Option Value) → Next
+next_from results n (instr ∷ instrs) (true ∷ marks) (value ∷ values) = next_by (results n) n instr value (next_from results (n + 1) instrs marks values)
+next_from results n (instr ∷ instrs) (false ∷ marks) (Some value ∷ values) = next_from results (n + 1) instrs marks values
+next_from results n (instr ∷ instrs) (false ∷ marks) (None ∷ values) = Faults
+next_from results n _ _ _ = Finishes
+
+abbrev pub act_of_next : LogState → Who → Versions → (ℕ → Got) → Next → ActTree
+act_of_next s who versions results (Asks n instr) = look_at s versions results n instr
+act_of_next s who versions results (Offers n instr (Some value)) = admit_at s who versions results n instr
+act_of_next s who versions results (Offers n instr None) = Ends overflow_code
+act_of_next s who versions results Faults = Ends overflow_code
+act_of_next s who versions results Finishes = Ends 0
+
+-- what a query does next, in a state, that began in another and has these results
+abbrev pub query_act : LogState → Who → LogState → Plan → (ℕ → Got) → ActTree
+query_act s who seen plan results = act_of_next s who seen.versions results (next_from results 0 plan.instrs (marks_of plan) (plan_values seen.db plan.instrs))
+
+-- ### As results are ready
+
+-- the result that an argument names is there, where it is marked
+abbrev pub IsKnown : Plan → (ℕ → Got) → Arg → Type 0
+IsKnown plan results (Const cell) = Unit {0}
+IsKnown plan results (Var m) = slice_get (marks_of plan) m ≡ Some true → (id : ℕ) × (results m ≡ Has id)
+
+-- a query may ask for any result whose arguments are there, offer any that it asked for in vain, and end where all are there, or where one has no value
+pub data MayDo (s : LogState) (who : Who) (seen : LogState) (plan : Plan) (results : ℕ → Got) (act : ActTree) : Type 0 where
+  MayAsk : (n : ℕ) (instr : Instr) → slice_get plan.instrs n ≡ Some instr → slice_get (marks_of plan) n ≡ Some true → results n ≡ Unasked → AllByRecursion (IsKnown plan results) instr.args
+      → act ≡ look_at s seen.versions results n instr → MayDo s who seen plan results act
+  MayOffer : (n at : ℕ) (instr : Instr) (value : Value) → slice_get plan.instrs n ≡ Some instr → results n ≡ Asked at → slice_get (plan_values seen.db plan.instrs) n ≡ Some (Some value)
+      → act ≡ admit_at s who seen.versions results n instr → MayDo s who seen plan results act
+  MayOverflow : plan_rows plan seen.db ≡ None → act ≡ Ends overflow_code → MayDo s who seen plan results act
+  MayFinish : ((n : ℕ) → slice_get (marks_of plan) n ≡ Some true → (id : ℕ) × (results n ≡ Has id)) → IsSome (plan_rows plan seen.db) → act ≡ Ends 0 → MayDo s who seen plan results act
+
+-- ### In either order
+
+-- in which order a session goes through the plan of a query
+pub data Order : Type 0 where
+  InPlan : Order
+  AsReady : Order
+
+abbrev pub IsQueryAct : Order → LogState → Who → LogState → Plan → (ℕ → Got) → ActTree → Type 0
+IsQueryAct InPlan s who seen plan results act = act ≡ query_act s who seen plan results
+IsQueryAct AsReady s who seen plan results act = MayDo s who seen plan results act
+
+abbrev pub IsBegunAct : Order → LogState → Who → LogState → (ℕ → Got) → Result Plan Refusal → ActTree → Type 0
+IsBegunAct order s who seen results (Err refusal) act = act ≡ Ends (refusal_number refusal)
+IsBegunAct order s who seen results (Ok plan) act = IsQueryAct order s who seen plan results act
 
 -- what a statement does that began in some state
-abbrev pub later_act : LogState → Who → LogState → Progress → Result StmtTree Refusal → ActTree
-later_act s who seen p (Ok (Select query)) = begun_act s who seen p (unless_refused (refusal_over seen.db (Select query)) (plan_over seen.db query))
-later_act s who seen p (Ok (ExplainSelect query)) = Ends (code_in (unless_refused (refusal_over seen.db (ExplainSelect query)) (plan_over seen.db query)))
-later_act s who seen p _ = Ends 0
+abbrev pub IsLaterAct : Order → LogState → Who → LogState → (ℕ → Got) → Result StmtTree Refusal → ActTree → Type 0
+IsLaterAct order s who seen results (Ok (Select query)) act = IsBegunAct order s who seen results (unless_refused (refusal_over seen.db (Select query)) (plan_over seen.db query)) act
+IsLaterAct order s who seen results (Ok (ExplainSelect query)) act = act ≡ Ends (code_in (unless_refused (refusal_over seen.db (ExplainSelect query)) (plan_over seen.db query)))
+IsLaterAct order s who seen results _ act = act ≡ Ends 0
 
 -- ## The next event
 
@@ -79,27 +131,23 @@ later_act s who seen p _ = Ends 0
 abbrev pub state_before : PoolOptions → List EventTree → ℕ → LogState
 state_before options log at = run_of options (take (at - 1) log)
 
-abbrev pub next_act : PoolOptions → List EventTree → Who → Progress → Option ℕ → Result StmtTree Refusal → ActTree
-next_act options log who p None reading = first_act (run_of options log) reading
-next_act options log who p (Some at) reading = later_act (run_of options log) who (state_before options log at) p reading
+abbrev pub IsNextAct : Order → PoolOptions → List EventTree → Who → Progress → Option ℕ → Result StmtTree Refusal → ActTree → Type 0
+IsNextAct order options log who p None reading act = act ≡ first_act (run_of options log) reading
+IsNextAct order options log who p (Some at) reading act = IsLaterAct order (run_of options log) who (state_before options log at) p.results reading act
 
 -- the statement that a session is at
 abbrev pub who_at : ℕ → Progress → Who
 who_at session p = record { session = session; statement = p.ended + 1 }
 
--- the next event of a session whose next text reads so
-abbrev pub next_event : PoolOptions → List EventTree → ℕ → Result StmtTree Refusal → EventTree
-next_event options log session reading =
-    let p = progress_of session log in
-    record { session = session; statement = p.ended + 1; act = next_act options log (who_at session p) p p.begun reading }
-
 -- the texts of a session's script, from its first on, are these: it does its next event
-pub record IsNext (options : PoolOptions) (pieces : List (List ℕ)) (session : ℕ) (log : List EventTree) (event : EventTree) : Type 0 where
+pub record IsNext (order : Order) (options : PoolOptions) (pieces : List (List ℕ)) (session : ℕ) (log : List EventTree) (event : EventTree) : Type 0 where
   pub piece : List ℕ
   pub here : slice_get pieces (progress_of session log).ended ≡ Some piece
   pub reading : Result StmtTree Refusal
   pub read : Reads piece reading
-  pub is : event ≡ next_event options log session reading
+  pub own : event.session ≡ session
+  pub numbered : event.statement ≡ (progress_of session log).ended + 1
+  pub act : IsNextAct order options log (who_at session (progress_of session log)) (progress_of session log) (progress_of session log).begun reading event.act
 
 -- all its statements have ended
 abbrev pub IsDone : List (List ℕ) → ℕ → List EventTree → Type 0

@@ -17,7 +17,7 @@ use Rattle.run_log.specs.declared.event.Totals.{Totals}
 use Rattle.run_log.specs.Events.{ActTree, Begins, Admits, Writes, Ends, EventTree}
 use Rattle.run_log.specs.Fold.{run_of}
 use Rattle.query_run.specs.Queries.{unmarked_work}
-use Rattle.session_run.specs.Progress.{Progress, progress_of}
+use Rattle.session_run.specs.Progress.{Asked, Got, Progress, progress_of}
 use Rattle.session_run.specs.Turns.{state_before}
 
 -- ## Results
@@ -53,14 +53,19 @@ plan_begun log p = option_and_then (λ at. option_and_then (λ (event : EventTre
 abbrev pub tables_begun : PoolOptions → List EventTree → Progress → Db
 tables_begun options log p = (state_before options log (unwrap_or p.begun 0)).db
 
--- the pool at its last look
-abbrev pub pool_looked : PoolOptions → List EventTree → Progress → PoolState
-pool_looked options log p = (state_before options log p.looked).pool
+-- the position of the look for a result that the pool was asked for in vain
+abbrev pub asked_by : Got → ℕ
+asked_by (Asked at) = at
+asked_by got = 0
+
+-- the pool as it was then
+abbrev pub pool_asked : PoolOptions → List EventTree → Got → PoolState
+pool_asked options log got = (state_before options log (asked_by got)).pool
 
 -- the work that a session's act counts, which comes next behind a log: an Admit counts that of its result, in the way that its look said, and the End of a query that was run to its end that of the instructions that aren't marked
 abbrev pub act_work : PoolOptions → List EventTree → Progress → ActTree → ℕ
 act_work options log p (Admits instr key result) =
-    let pool = pool_looked options log p in
+    let pool = pool_asked options log (p.results (instr - 1)) in
     let db = tables_begun options log p in
     option_map_or (λ plan. work_by pool (look_of pool key) (load_at plan db (instr - 1)) (pairs_at plan db (instr - 1))) (plan_begun log p) 0
 act_work options log p (Ends code) = if code == 0 then option_map_or (λ plan. unmarked_work plan (tables_begun options log p)) (plan_begun log p) 0 else 0

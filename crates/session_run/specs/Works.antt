@@ -1,5 +1,5 @@
 -- What a session knows of its work, and what a counter tells of it.
-use Rattle.std.specs.Prelude.{◌≡◌, ℕ, ◌+◌, ◌≤◌, List, length, Some, None}
+use Rattle.std.specs.Prelude.{◌≡◌, ℕ, ◌+◌, ◌≤◌, List, true, Some, None}
 use Rattle.cell_core.specs.declared.operator.Instr.{Instr}
 use Rattle.pool_policy.specs.declared.options.Admitted.{Admitted}
 use Rattle.pool_policy.specs.declared.options.PoolOptions.{PoolOptions}
@@ -11,17 +11,16 @@ use Rattle.recycle_pool.specs.declared.found.Part.{Part}
 use Rattle.run_log.specs.Events.{Admits, Ends, EventTree, log_tree}
 use Rattle.answer_text.specs.Log.{code_of}
 use Rattle.book_core.specs.BookView.{BookView, state_of}
-use Rattle.query_keys.specs.Keys.{instr_key}
 use Rattle.query_run.specs.declared.step.Query.{Query}
 use Rattle.query_run.specs.declared.step.Step.{Step}
 use Rattle.query_run.specs.declared.step.Step.TheVariants as step
-use Rattle.query_run.specs.Queries.{IsAt, versions_in}
+use Rattle.query_run.specs.Queries.{HasArgs, IsAt, key_in, was_asked}
 use Rattle.query_run.specs.Steps.{held, lost_between}
 use Rattle.session_run.specs.declared.session.Session.{Session}
 use Rattle.session_run.specs.declared.stage.Stage.{Stage}
 use Rattle.session_run.specs.declared.stage.Stage.TheVariants as stage
-use Rattle.session_run.specs.Progress.{Progress, progress_of}
-use Rattle.session_run.specs.Work.{act_lost, act_work, plan_begun, pool_looked, run_lost, session_work, tables_begun}
+use Rattle.session_run.specs.Progress.{Got, Progress, progress_of}
+use Rattle.session_run.specs.Work.{act_lost, act_work, plan_begun, pool_asked, run_lost, session_work, tables_begun, work_by}
 
 -- ## What it knows
 
@@ -30,17 +29,22 @@ pub record IsPlanned (options : PoolOptions) (log : List EventTree) (p : Progres
   pub plan : plan_begun log p ≡ Some q.plan
   pub db : tables_begun options log p ≡ q.snap.db
 
--- what was found for its next instruction is what its last look found
-abbrev pub IsLookedUp : PoolState → Query → Found → List Part → Type 0
-IsLookedUp pool q found parts = (instr : Instr) → IsAt q instr → (told found parts ≡ look_of pool (instr_key instr (versions_in q.snap) q.ids.items)) × HandsOut pool.entries found parts
+-- what was found for an instruction is what its look found
+abbrev pub IsLookedUp : PoolState → Query → ℕ → Found → List Part → Type 0
+IsLookedUp pool q n found parts = (instr : Instr) → IsAt q n instr → (told found parts ≡ look_of pool (key_in q n instr)) × HandsOut pool.entries found parts
+
+-- results that the pool was asked for in vain, and that aren't there yet, but for some, have their arguments, and are computed from these alone
+abbrev pub OweLoads : PoolOptions → List EventTree → (ℕ → Got) → Query → (ℕ → Type 0) → Type 0
+OweLoads options log results q but = (n : ℕ) (instr : Instr) → IsAt q n instr → was_asked q n ≡ true → (but n → ⊥)
+    → HasArgs q instr × ((load pairs : ℕ) → work_by (pool_asked options log (results n)) (look_of (pool_asked options log (results n)) (key_in q n instr)) load pairs ≡ load)
 
 -- the work that its next event counts is that which was done
 abbrev pub IsWorkedStep : PoolOptions → List EventTree → Progress → Step → Type 0
 IsWorkedStep options log p (step.Begun q) = IsPlanned options log p q
-IsWorkedStep options log p (step.Asking q key) = IsPlanned options log p q
-IsWorkedStep options log p (step.Found q found parts) = IsPlanned options log p q × IsLookedUp (pool_looked options log p) q found parts.items
-IsWorkedStep options log p (step.Offering q offer) = IsPlanned options log p q × ((result : Admitted) → offer.done ≡ act_work options log p (Admits (length q.values + 1) offer.key result))
-IsWorkedStep options log p (step.Gained q value id) = IsPlanned options log p q
+IsWorkedStep options log p (step.Open q) = IsPlanned options log p q × OweLoads options log p.results q (λ m. ⊥)
+IsWorkedStep options log p (step.Asking q n key) = IsPlanned options log p q × OweLoads options log p.results q (λ m. ⊥)
+IsWorkedStep options log p (step.Found q n found parts) = IsPlanned options log p q × OweLoads options log p.results q (λ m. m ≡ n) × IsLookedUp (pool_asked options log (p.results n)) q n found parts.items
+IsWorkedStep options log p (step.Offering q n offer) = IsPlanned options log p q × OweLoads options log p.results q (λ m. m ≡ n) × ((result : Admitted) → offer.done ≡ act_work options log p (Admits (n + 1) offer.key result))
 IsWorkedStep options log p (step.Ending reply work) = work ≡ act_work options log p (Ends (code_of reply))
 
 abbrev pub IsWorkedStage : PoolOptions → List EventTree → Progress → Stage → Type 0

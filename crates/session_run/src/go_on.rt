@@ -5,7 +5,7 @@ ghost use Rattle.answer_text.specs.Log.{code_of as code_shown};
 ghost use Rattle.query_run.specs.declared.step.Step.TheVariants as step;
 ghost use Rattle.session_run.specs.declared.stage.Stage.TheVariants as stage;
 ghost use Rattle.session_run.specs.Kept.{Stands};
-ghost use Rattle.session_run.specs.Stages.{HasDone, IsReady, at_stage};
+ghost use Rattle.session_run.specs.Stages.{Follows, HasDone, IsReady, at_stage};
 ghost use Rattle.session_run.specs.Works.{CountsInside, IsWorked};
 
 use crate::session::Session;
@@ -36,64 +36,78 @@ impl Session {
         ensures options { book.new.options ≡ book.old.options }
         ensures number { OnOk result (self.new.number ≡ self.old.number) }
         ensures pieces { OnOk result (self.new.pieces ≡ self.old.pieces) }
+        ensures wide { OnOk result (self.new.wide ≡ self.old.wide) }
+        ensures follows { OnOk result (Follows (stage.Querying step) self.new.stage) }
         ensures does { OnOk result (HasDone book.old book.new (at_stage self.old (stage.Querying step)) self.new) }
         ensures counts { OnOk result ((steps : ℕ) → CountsInside book.old book.new (at_stage self.old (stage.Querying step)) self.new steps steps) }
         ensures same { OnErr result (book.new ≡ book.old) }
     {
         match step {
-            Step::Asking(query, key) => self.ask(alloc, book, query, key),
-            Step::Offering(query, offer) => self.offer(alloc, book, scorer, query, offer),
+            Step::Asking(query, n, key) => self.ask(alloc, book, query, n, key),
+            Step::Offering(query, n, offer) => self.offer(alloc, book, scorer, query, n, offer),
             Step::Ending(shown, work) => self.end(book, shown, work),
-            Step::Begun(_) | Step::Found(..) | Step::Gained(..) => unreachable!(),
+            Step::Begun(_) | Step::Open(_) | Step::Found(..) => unreachable!(),
         }
     }
 
-    /// Asks the pool for the next result.
-    fn ask(&mut self, alloc: Global, book: &mut Book, query: Query, key: Key) -> Result<(), Memory>
-        requires stands { Stands book.old.options (log_tree book.old.log) (at_stage self.old (stage.Querying (step.Asking query key))) }
-        requires worked { IsWorked book.old.options (log_tree book.old.log) (at_stage self.old (stage.Querying (step.Asking query key))) }
+    /// Asks the pool for the result of an instruction.
+    fn ask(
+        &mut self,
+        alloc: Global,
+        book: &mut Book,
+        query: Query,
+        n: usize,
+        key: Key,
+    ) -> Result<(), Memory>
+        requires stands { Stands book.old.options (log_tree book.old.log) (at_stage self.old (stage.Querying (step.Asking query n key))) }
+        requires worked { IsWorked book.old.options (log_tree book.old.log) (at_stage self.old (stage.Querying (step.Asking query n key))) }
         requires more { self.old.ended < length self.old.pieces }
         ensures options { book.new.options ≡ book.old.options }
         ensures number { OnOk result (self.new.number ≡ self.old.number) }
         ensures pieces { OnOk result (self.new.pieces ≡ self.old.pieces) }
-        ensures does { OnOk result (HasDone book.old book.new (at_stage self.old (stage.Querying (step.Asking query key))) self.new) }
-        ensures counts { OnOk result ((steps : ℕ) → CountsInside book.old book.new (at_stage self.old (stage.Querying (step.Asking query key))) self.new steps steps) }
+        ensures wide { OnOk result (self.new.wide ≡ self.old.wide) }
+        ensures follows { OnOk result (Follows (stage.Querying (step.Asking query n key)) self.new.stage) }
+        ensures does { OnOk result (HasDone book.old book.new (at_stage self.old (stage.Querying (step.Asking query n key))) self.new) }
+        ensures counts { OnOk result ((steps : ℕ) → CountsInside book.old book.new (at_stage self.old (stage.Querying (step.Asking query n key))) self.new steps steps) }
         ensures same { OnErr result (book.new ≡ book.old) }
     {
         // What the book keeps is read before and after the event: a log that is lawful.
         let _ = book.log();
         let who = self.who();
-        let next = query.ask(alloc, book, who, key)?;
+        let next = query.ask(alloc, book, who, n, key)?;
         let _ = book.log();
         self.stage = Stage::Querying(next);
         Ok(())
     }
 
-    /// Offers the next result to the pool.
+    /// Offers the result of an instruction to the pool.
     fn offer(
         &mut self,
         alloc: Global,
         book: &mut Book,
         scorer: &Scorer,
         query: Query,
+        n: usize,
         offer: Offer,
     ) -> Result<(), Memory>
         requires kind { scorer.now.kind ≡ book.old.options.evict }
         requires weights { scorer.now.weights.items ≡ book.old.options.weights }
-        requires stands { Stands book.old.options (log_tree book.old.log) (at_stage self.old (stage.Querying (step.Offering query offer))) }
-        requires worked { IsWorked book.old.options (log_tree book.old.log) (at_stage self.old (stage.Querying (step.Offering query offer))) }
+        requires stands { Stands book.old.options (log_tree book.old.log) (at_stage self.old (stage.Querying (step.Offering query n offer))) }
+        requires worked { IsWorked book.old.options (log_tree book.old.log) (at_stage self.old (stage.Querying (step.Offering query n offer))) }
         requires more { self.old.ended < length self.old.pieces }
         ensures options { book.new.options ≡ book.old.options }
         ensures number { OnOk result (self.new.number ≡ self.old.number) }
         ensures pieces { OnOk result (self.new.pieces ≡ self.old.pieces) }
-        ensures does { OnOk result (HasDone book.old book.new (at_stage self.old (stage.Querying (step.Offering query offer))) self.new) }
-        ensures counts { OnOk result ((steps : ℕ) → CountsInside book.old book.new (at_stage self.old (stage.Querying (step.Offering query offer))) self.new steps steps) }
+        ensures wide { OnOk result (self.new.wide ≡ self.old.wide) }
+        ensures follows { OnOk result (Follows (stage.Querying (step.Offering query n offer)) self.new.stage) }
+        ensures does { OnOk result (HasDone book.old book.new (at_stage self.old (stage.Querying (step.Offering query n offer))) self.new) }
+        ensures counts { OnOk result ((steps : ℕ) → CountsInside book.old book.new (at_stage self.old (stage.Querying (step.Offering query n offer))) self.new steps steps) }
         ensures same { OnErr result (book.new ≡ book.old) }
     {
         let _ = book.log();
         let who = self.who();
         let work = self.work.checked_add(offer.done).ok_or(Memory)?;
-        let next = query.offer(alloc, book, scorer, who, offer)?;
+        let next = query.offer(alloc, book, scorer, who, n, offer)?;
         let _ = book.log();
         self.stage = Stage::Querying(next);
         self.work = work;
@@ -108,6 +122,8 @@ impl Session {
         ensures options { book.new.options ≡ book.old.options }
         ensures number { OnOk result (self.new.number ≡ self.old.number) }
         ensures pieces { OnOk result (self.new.pieces ≡ self.old.pieces) }
+        ensures wide { OnOk result (self.new.wide ≡ self.old.wide) }
+        ensures follows { OnOk result (Follows (stage.Querying (step.Ending shown work)) self.new.stage) }
         ensures does { OnOk result (HasDone book.old book.new (at_stage self.old (stage.Querying (step.Ending shown work))) self.new) }
         ensures counts { OnOk result ((steps : ℕ) → CountsInside book.old book.new (at_stage self.old (stage.Querying (step.Ending shown work))) self.new steps steps) }
         ensures same { OnErr result (book.new ≡ book.old) }

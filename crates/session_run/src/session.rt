@@ -11,7 +11,7 @@ ghost use Rattle.query_run.specs.declared.step.Step.TheVariants as step;
 ghost use Rattle.session_run.specs.declared.stage.Stage.TheVariants as stage;
 ghost use Rattle.session_run.specs.Kept.{HasRead, Stands};
 ghost use Rattle.session_run.specs.Works.{CountsInside, CountsOutside, IsWorked, done_by, held_in, lost_in};
-ghost use Rattle.session_run.specs.Stages.{ComesTo, HasComputed, HasDone, IsReady, IsSoundStage, ReadsOn, at_stage, with_reply};
+ghost use Rattle.session_run.specs.Stages.{ComesTo, Follows, HasComputed, HasDone, IsReady, IsSoundStage, MayBegin, ReadsOn, at_stage, with_reply};
 
 use crate::stage::Stage;
 use answer_text::{Shown, write_reply};
@@ -42,13 +42,15 @@ pub struct Session {
     pub text: Vec<u8>,
     /// The stated work of its queries so far, as it was done.
     pub work: u128,
+    /// Whether it goes through plans as results are ready, and not in their order.
+    pub wide: bool,
     /// What it does next.
     pub stage: Stage,
 }
 
 impl Session {
     /// A session that has not begun.
-    pub fn new(alloc: Global, number: u32, pieces: Sequence<Word>) -> Session
+    pub fn new(alloc: Global, number: u32, pieces: Sequence<Word>, wide: bool) -> Session
         requires low { 1 ≤ number }
         requires high { number ≤ 16 }
         requires short { length pieces ≤ 256 }
@@ -56,6 +58,8 @@ impl Session {
         ensures pieces { result.pieces ≡ pieces }
         ensures stands { (options : OptionsSeen) → Stands options [] result }
         ensures worked { (options : OptionsSeen) → IsWorked options [] result }
+        ensures wide { result.wide ≡ wide }
+        ensures begins { MayBegin result.stage }
         ensures done { done_by result ≡ 0 }
     {
         Session {
@@ -64,6 +68,7 @@ impl Session {
             ended: 0,
             text: Vec::new(alloc),
             work: 0,
+            wide,
             stage: Stage::Between,
         }
     }
@@ -124,6 +129,8 @@ impl Session {
         ensures options { book.new.options ≡ book.old.options }
         ensures number { OnOk result (self.new.number ≡ self.old.number) }
         ensures pieces { OnOk result (self.new.pieces ≡ self.old.pieces) }
+        ensures wide { OnOk result (self.new.wide ≡ self.old.wide) }
+        ensures follows { OnOk result (Follows self.old.stage self.new.stage) }
         ensures does { OnOk result (HasDone book.old book.new self.old self.new) }
         ensures counts { OnOk result (CountsInside book.old book.new self.old self.new steps.old steps.new) }
         ensures same { OnErr result (book.new ≡ book.old) }

@@ -11,7 +11,7 @@ ghost use Rattle.answer_text.specs.Log.{shown_reply};
 ghost use Rattle.store_changes.specs.Outcomes.{is_change};
 ghost use Rattle.session_run.specs.declared.stage.Stage.TheVariants as stage;
 ghost use Rattle.session_run.specs.Kept.{HasRead, Stands};
-ghost use Rattle.session_run.specs.Stages.{BeginsWith, HasDone, explained};
+ghost use Rattle.session_run.specs.Stages.{BeginsWith, HasDone, MayBegin, explained};
 ghost use Rattle.session_run.specs.Works.{CountsInside, IsWorked};
 ghost use Rattle.query_run.specs.declared.step.Step.TheVariants as step;
 ghost use Rattle.answer_text.specs.declared.shown.Shown.TheVariants as shown;
@@ -49,6 +49,8 @@ impl Session {
         ensures options { book.new.options ≡ book.old.options }
         ensures number { OnOk result (self.new.number ≡ self.old.number) }
         ensures pieces { OnOk result (self.new.pieces ≡ self.old.pieces) }
+        ensures wide { OnOk result (self.new.wide ≡ self.old.wide) }
+        ensures begins { OnOk result (MayBegin self.new.stage) }
         ensures does { OnOk result (HasDone book.old book.new self.old self.new) }
         ensures counts { OnOk result (CountsInside book.old book.new self.old self.new steps.old steps.new) }
         ensures same { OnErr result (book.new ≡ book.old) }
@@ -68,6 +70,8 @@ impl Session {
         ensures options { book.new.options ≡ book.old.options }
         ensures number { OnOk result (self.new.number ≡ self.old.number) }
         ensures pieces { OnOk result (self.new.pieces ≡ self.old.pieces) }
+        ensures wide { OnOk result (self.new.wide ≡ self.old.wide) }
+        ensures begins { OnOk result (MayBegin self.new.stage) }
         ensures does { OnOk result (HasDone book.old book.new self.old self.new) }
         ensures counts { OnOk result ((steps : ℕ) → CountsInside book.old book.new self.old self.new steps steps) }
         ensures same { OnErr result (book.new ≡ book.old) }
@@ -98,6 +102,8 @@ impl Session {
         ensures options { book.new.options ≡ book.old.options }
         ensures number { OnOk result (self.new.number ≡ self.old.number) }
         ensures pieces { OnOk result (self.new.pieces ≡ self.old.pieces) }
+        ensures wide { OnOk result (self.new.wide ≡ self.old.wide) }
+        ensures begins { OnOk result (MayBegin self.new.stage) }
         ensures does { OnOk result (HasDone book.old book.new self.old self.new) }
         ensures counts { OnOk result (CountsInside book.old book.new self.old self.new steps.old steps.new) }
         ensures same { OnErr result (book.new ≡ book.old) }
@@ -130,6 +136,8 @@ impl Session {
         ensures options { book.new.options ≡ book.old.options }
         ensures number { OnOk result (self.new.number ≡ self.old.number) }
         ensures pieces { OnOk result (self.new.pieces ≡ self.old.pieces) }
+        ensures wide { OnOk result (self.new.wide ≡ self.old.wide) }
+        ensures begins { OnOk result (MayBegin self.new.stage) }
         ensures does { OnOk result (HasDone book.old book.new self.old self.new) }
         ensures counts { OnOk result (CountsInside book.old book.new self.old self.new steps.old steps.new) }
         ensures same { OnErr result (book.new ≡ book.old) }
@@ -157,6 +165,8 @@ impl Session {
         ensures options { book.new.options ≡ book.old.options }
         ensures number { OnOk result (self.new.number ≡ self.old.number) }
         ensures pieces { OnOk result (self.new.pieces ≡ self.old.pieces) }
+        ensures wide { OnOk result (self.new.wide ≡ self.old.wide) }
+        ensures begins { OnOk result (MayBegin self.new.stage) }
         ensures does { OnOk result (HasDone book.old book.new self.old self.new) }
         ensures counts { OnOk result ((steps : ℕ) → CountsInside book.old book.new self.old self.new steps steps) }
         ensures same { OnErr result (book.new ≡ book.old) }
@@ -184,6 +194,8 @@ impl Session {
         ensures options { book.new.options ≡ book.old.options }
         ensures number { OnOk result (self.new.number ≡ self.old.number) }
         ensures pieces { OnOk result (self.new.pieces ≡ self.old.pieces) }
+        ensures wide { OnOk result (self.new.wide ≡ self.old.wide) }
+        ensures begins { OnOk result (MayBegin self.new.stage) }
         ensures does { OnOk result (HasDone book.old book.new self.old self.new) }
         ensures counts { OnOk result ((steps : ℕ) → CountsInside book.old book.new self.old self.new steps steps) }
         ensures same { OnErr result (book.new ≡ book.old) }

@@ -11,6 +11,7 @@ use Rattle.command_line.specs.declared.command.Command.{Command}
 use Rattle.command_line.specs.declared.command.RunOptions.{RunOptions}
 use Rattle.store_changes.specs.Work.{Counts}
 use Rattle.session_run.specs.Readings.{AreReadings}
+use Rattle.session_run.specs.Turns.{InPlan}
 use Rattle.session_run.specs.Work.{run_lost, run_totals, run_work}
 use Rattle.run_sessions.specs.Played.{IsScheduled}
 use Rattle.command_line.specs.Command.{files_of, options_of}
@@ -46,7 +47,7 @@ pub record IsServed (options : RunOptions) (names : List (List ℕ)) (scripts : 
 
 -- how such a log comes about, event by event: in threads by some turns, until all sessions are done; else by given turns, while the counter goes from here to there
 abbrev pub IsMade : PoolOptions → List (List (List ℕ)) → Course → List EventTree → ℕ → ℕ → Type 0
-IsMade pool scripts InThreads log before after = IsRunOut pool scripts log
+IsMade pool scripts InThreads log before after = IsRunOut InPlan pool scripts log
 IsMade pool scripts (ByTurns turns) log before after = IsScheduled pool scripts turns log × Counts before after (run_work pool log) (run_lost pool log)
 
 -- a command's run: each of its files has a text, which is what is told of it where it is told; these texts can be run, and what is printed, logged and counted is theirs

@@ -1,5 +1,5 @@
 -- A session stands where the log says, whatever events of others come next, and behind its own.
-use Rattle.std.proofs.Common.{◌≡◌, List, [], ◌∷◌, ◌++◌, take, Bool, true, false, refl, ap, sym, ◌∙◌, subst, arith}
+use Rattle.std.proofs.Common.{◌≡◌, List, [], ◌∷◌, ◌++◌, take, Bool, true, false, cond, refl, ap, sym, ◌∙◌, subst, arith}
 use Rattle.std.specs.Prelude.{◌==◌}
 use Rattle.std.specs.List.{AllByRecursion}
 use Rattle.std.proofs.lemmas.Bool.{eq-eqb}
@@ -14,10 +14,10 @@ use Rattle.turn_hall.specs.declared.hall.Pass.{Pass}
 use Rattle.turn_hall.specs.Entries.{StartsWith, entries_by}
 use Rattle.turn_hall.specs.Passes.{AddsOne, IsFree, KeepsPlace, own_entries, pass_number, seen_by}
 use Rattle.session_run.specs.declared.session.Session.{Session}
-use Rattle.session_run.specs.Kept.{Stands}
+use Rattle.session_run.specs.Kept.{Stands, order_of}
 use Rattle.session_run.specs.Progress.{progress_of}
-use Rattle.session_run.specs.Stages.{HasComputed, HasDone}
-use Rattle.session_run.specs.Turns.{IsNext}
+use Rattle.session_run.specs.Stages.{GoesInPlan, HasComputed, HasDone}
+use Rattle.session_run.specs.Turns.{AsReady, InPlan, IsNext}
 use Rattle.session_run.specs.Works.{IsWorked}
 use Rattle.session_run.proofs.DoesLemmas.{done_log}
 use Rattle.session_run.proofs.OtherLemmas.{others_stay}
@@ -40,24 +40,26 @@ Holds false = ⊥
 does_other : (options : PoolOptions) (log : List EventTree) (x : Session) (event : EventTree) → (event.session == x.number) ≡ false → DoesNext options log x → DoesNext options (log ++ event ∷ []) x
 does_other options log x event other does place e there own =
     at_more log event place e there
-    (λ low here. subst (λ (es : List EventTree). IsNext options x.pieces x.number es e) (sym (take-append-le place log (event ∷ []) (omega (arith, low)))) (does place e here own))
+    (λ low here. subst (λ (es : List EventTree). IsNext (order_of x) options x.pieces x.number es e) (sym (take-append-le place log (event ∷ []) (omega (arith, low)))) (does place e here own))
     (λ last same. absurd (subst Holds (sym (eq-eqb event.session x.number (ap (λ (f : EventTree). f.session) same ∙ own)) ∙ other) tt))
 
-module _ (options : PoolOptions) (x y : Session) (number : y.number ≡ x.number) (pieces : y.pieces ≡ x.pieces) where
-  next_as : (log : List EventTree) (event : EventTree) → IsNext options x.pieces x.number log event → IsNext options y.pieces y.number log event
-  next_as log event next = subst (λ n. IsNext options y.pieces n log event) (sym number) (subst (λ ps. IsNext options ps x.number log event) (sym pieces) next)
+module _ (options : PoolOptions) (x y : Session) (number : y.number ≡ x.number) (pieces : y.pieces ≡ x.pieces) (wide : y.wide ≡ x.wide) where
+  next_as : (log : List EventTree) (event : EventTree) → IsNext (order_of x) options x.pieces x.number log event → IsNext (order_of y) options y.pieces y.number log event
+  next_as log event next =
+      subst (λ b. IsNext (cond b AsReady InPlan) options y.pieces y.number log event) (sym wide)
+      (subst (λ n. IsNext (order_of x) options y.pieces n log event) (sym number) (subst (λ ps. IsNext (order_of x) options ps x.number log event) (sym pieces) next))
 
   does_as : (log : List EventTree) → DoesNext options log x → DoesNext options log y
   does_as log does place e there own = next_as (take place log) e (does place e there (own ∙ number))
 
-  does_own : (log : List EventTree) (event : EventTree) → IsNext options x.pieces x.number log event → DoesNext options log x → DoesNext options (log ++ event ∷ []) y
+  does_own : (log : List EventTree) (event : EventTree) → IsNext (order_of x) options x.pieces x.number log event → DoesNext options log x → DoesNext options (log ++ event ∷ []) y
   does_own log event next does place e there own =
       at_more log event place e there
-      (λ low here. subst (λ (es : List EventTree). IsNext options y.pieces y.number es e) (sym (take-append-le place log (event ∷ []) (omega (arith, low)))) (next_as (take place log) e (does place e here (own ∙ number))))
+      (λ low here. subst (λ (es : List EventTree). IsNext (order_of y) options y.pieces y.number es e) (sym (take-append-le place log (event ∷ []) (omega (arith, low)))) (next_as (take place log) e (does place e here (own ∙ number))))
       (λ last same.
       let front : take place (log ++ event ∷ []) ≡ log = take-append-le place log (event ∷ []) (omega (arith, last)) ∙ take_all place log (omega (arith, last)) in
-      subst (λ (f : EventTree). IsNext options y.pieces y.number (take place (log ++ event ∷ [])) f) same
-      (subst (λ (es : List EventTree). IsNext options y.pieces y.number es event) (sym front) (next_as log event next)))
+      subst (λ (f : EventTree). IsNext (order_of y) options y.pieces y.number (take place (log ++ event ∷ [])) f) same
+      (subst (λ (es : List EventTree). IsNext (order_of y) options y.pieces y.number es event) (sym front) (next_as log event next)))
 
 -- ## Events of others
 
@@ -97,29 +99,29 @@ new_at options x stands worked = record {
 }
 
 -- a session that has computed
-pub computed_at : (options : PoolOptions) (log : List EventTree) (x new : Session) → HasComputed x new → IsAt options log x → IsAt options log new
-computed_at options log x new c at = record {
-  stands = computed_stands options log x at.stands new c;
+pub computed_at : (options : PoolOptions) (log : List EventTree) (x new : Session) → GoesInPlan x x.stage → HasComputed x new → IsAt options log x → IsAt options log new
+computed_at options log x new in_plan c at = record {
+  stands = computed_stands options log x at.stands in_plan new c;
   worked = computed_worked options log x at.stands at.worked new c;
   ordered = ordered_as log x new (sym c.number) (sym c.pieces) (sym c.ended) at.ordered;
-  does = does_as options x new c.number c.pieces log at.does;
+  does = does_as options x new c.number c.pieces c.wide log at.does;
 }
 
 -- a session that has done its next event
-pub own_at : EachReadsAsOne → (options : PoolOptions) (old new : BookView) (x y : Session) → old.options ≡ options → new.options ≡ options → y.number ≡ x.number → y.pieces ≡ x.pieces → HasDone old new x y → IsAt options (log_tree old.log) x
+pub own_at : EachReadsAsOne → (options : PoolOptions) (old new : BookView) (x y : Session) → old.options ≡ options → new.options ≡ options → y.number ≡ x.number → y.pieces ≡ x.pieces → y.wide ≡ x.wide → HasDone old new x y → IsAt options (log_tree old.log) x
     → IsAt options (log_tree new.log) y
-own_at each options old new x y was is number pieces d at =
+own_at each options old new x y was is number pieces wide d at =
     let log = log_tree old.log in
     let event = event_tree d.event in
     let more = done_log old new x y d in
-    let next = subst (λ (o : PoolOptions). IsNext o x.pieces x.number log event) was d.next in
+    let next = subst (λ (o : PoolOptions). IsNext (order_of x) o x.pieces x.number log event) was d.next in
     let ended = sym d.stands.ended ∙ (λ i. (progress_of (number i) (more i)).ended) in
     record {
       stands = subst (λ (o : PoolOptions). Stands o (log_tree new.log) y) is d.stands;
       worked = subst (λ (o : PoolOptions). IsWorked o (log_tree new.log) y) is d.worked;
       ordered = subst (λ (l : List EventTree). IsInOrder l y) (sym more)
-          (own_ordered old.options log x (subst (λ (o : PoolOptions). Stands o log x) (sym was) at.stands) event each d.next d.ends at.ordered y number pieces ended);
-      does = subst (λ (l : List EventTree). DoesNext options l y) (sym more) (does_own options x y number pieces log event next at.does);
+          (own_ordered old.options log x (subst (λ (o : PoolOptions). Stands o log x) (sym was) at.stands) event each (order_of x) d.next d.ends at.ordered y number pieces ended);
+      does = subst (λ (l : List EventTree). DoesNext options l y) (sym more) (does_own options x y number pieces wide log event next at.does);
     }
 
 -- ## Its pass
@@ -150,8 +152,8 @@ module _ {V : Type 0} (options : PoolOptions) where
       }
 
   -- a session that has computed has seen as much
-  pub computed_with : (pass : Pass V Event) (x new : Session) → HasComputed x new → IsWith options pass x → IsWith options pass new
-  computed_with pass x new c w = record { free = w.free; number = c.number ∙ w.number; own = w.own; at = computed_at options (log_tree (seen_by pass)) x new c w.at }
+  pub computed_with : (pass : Pass V Event) (x new : Session) → GoesInPlan x x.stage → HasComputed x new → IsWith options pass x → IsWith options pass new
+  computed_with pass x new in_plan c w = record { free = w.free; number = c.number ∙ w.number; own = w.own; at = computed_at options (log_tree (seen_by pass)) x new in_plan c w.at }
 
   -- so after a turn in which it did an event
   pub added_with : (old mid new : Pass V Event) (x y : Session) (list after : List Event) → IsFree new → KeepsPlace old mid → KeepsPlace mid new → seen_by mid ≡ list → entries_by session_of (pass_number old) list ≡ own_entries old → own_entries mid ≡ own_entries old

@@ -66,5 +66,5 @@ stage_send = variants_send StageRow.enum (tt, ((Result.the_send StmtRow.the_row 
 pub session_send : IsSend SessionRow.the_row
 session_send = declared_send SessionRow.the_type (
   search sendable,
-  (search (crosses, sendable) depth 40 fits 20000, (search sendable, (search (crosses, sendable) depth 40 fits 20000, (search sendable, (stage_send, tt))))),
+  (search (crosses, sendable) depth 40 fits 20000, (search sendable, (search (crosses, sendable) depth 40 fits 20000, (search sendable, (search sendable, (stage_send, tt)))))),
 )

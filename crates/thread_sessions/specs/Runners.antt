@@ -7,7 +7,7 @@ use Rattle.turn_hall.specs.declared.hall.Pass.{Pass}
 use Rattle.turn_hall.specs.Entries.{StartsWith, entries_by}
 use Rattle.turn_hall.specs.Passes.{IsFree, own_entries, pass_number, seen_by}
 use Rattle.session_run.specs.declared.session.Session.{Session}
-use Rattle.session_run.specs.Kept.{Stands}
+use Rattle.session_run.specs.Kept.{Stands, order_of}
 use Rattle.session_run.specs.Turns.{IsNext}
 use Rattle.session_run.specs.Works.{IsWorked}
 use Rattle.run_sessions.specs.Ordered.{IsInOrder}
@@ -18,7 +18,7 @@ session_of event = event.session
 
 -- each event of a session in a log is the next one of the session, behind those before it
 abbrev pub DoesNext : PoolOptions → List EventTree → Session → Type 0
-DoesNext options log x = (place : ℕ) (event : EventTree) → slice_get log place ≡ Some event → event.session ≡ x.number → IsNext options x.pieces x.number (take place log) event
+DoesNext options log x = (place : ℕ) (event : EventTree) → slice_get log place ≡ Some event → event.session ≡ x.number → IsNext (order_of x) options x.pieces x.number (take place log) event
 
 -- a session stands where a log says, with its work, and its events are the next ones of its script, in order
 pub record IsAt (options : PoolOptions) (log : List EventTree) (x : Session) : Type 0 where

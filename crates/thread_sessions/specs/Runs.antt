@@ -8,7 +8,7 @@ use Rattle.turn_hall.specs.declared.hall.Pass.{Pass}
 use Rattle.turn_hall.specs.Entries.{StartsWith, entries_by, kept_under}
 use Rattle.turn_hall.specs.Passes.{IsFree, IsPassOf, joined_passes, own_entries, pass_number, seen_by, split_count}
 use Rattle.session_run.specs.declared.session.Session.{Session}
-use Rattle.session_run.specs.Turns.{IsDone}
+use Rattle.session_run.specs.Turns.{IsDone, Order}
 use Rattle.run_sessions.specs.Played.{IsPlayed}
 use Rattle.run_sessions.specs.Tables.{IsOver}
 use Rattle.thread_sessions.specs.declared.runner.Runner.{Runner}
@@ -16,10 +16,10 @@ use Rattle.thread_sessions.specs.Runners.{HasSeen, IsAt, IsWith, session_of}
 
 -- ## The run
 
--- sessions with these scripts take turns, in some order, which give this log, and then each is done
-pub record IsRunOut (options : PoolOptions) (scripts : List (List (List ℕ))) (log : List EventTree) : Type 0 where
+-- sessions with these scripts, which go through their plans in this order, take turns, each when it comes to it, which give this log, and then each is done
+pub record IsRunOut (order : Order) (options : PoolOptions) (scripts : List (List (List ℕ))) (log : List EventTree) : Type 0 where
   pub turns : List ℕ
-  pub played : IsPlayed options scripts turns log
+  pub played : IsPlayed order options scripts turns log
   pub done : (session : ℕ) (pieces : List (List ℕ)) → 1 ≤ session → slice_get scripts (session - 1) ≡ Some pieces → IsDone pieces session log
 
 -- What follows only the code asks: it says what is kept between the steps of a run, and no public clause cites it.
@@ -41,6 +41,7 @@ module _ {V : Type 0} where
     pub runner : IsRunner options hall after
     pub number : after.session.number ≡ before.session.number
     pub pieces : after.session.pieces ≡ before.session.pieces
+    pub wide : after.session.wide ≡ before.session.wide
     pub over : IsOver after.session
 
   -- their sessions

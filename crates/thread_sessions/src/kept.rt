@@ -94,6 +94,7 @@ impl<K: RunOptions> Kept<K> {
         requires ready { IsReady session.old.stage }
         ensures number { OnOk result (session.new.number ≡ session.old.number) }
         ensures pieces { OnOk result (session.new.pieces ≡ session.old.pieces) }
+        ensures wide { OnOk result (session.new.wide ≡ session.old.wide) }
         ensures added { OnOk result (AddsEvent self.old.book.log session.old.number self.new.book.log) }
         ensures at { OnOk result (IsAt K.options (log_tree self.new.book.log) session.new) }
         ensures same { OnErr result (self.new.book ≡ self.old.book) }

@@ -1,5 +1,5 @@
 //! A session on a thread of its own.
-ghost use Rattle.std.specs.Prelude.{◌≡◌, ◌<◌, IfOk};
+ghost use Rattle.std.specs.Prelude.{◌≡◌, ◌<◌, false, IfOk};
 ghost use Rattle.thread_sessions.specs.Runs.{HasRunOut, IsRunner};
 
 use crate::kept::{Kept, RunOptions};
@@ -37,6 +37,7 @@ fn run_counted<K: RunOptions, R: Wait, E: Operate, L: Ledger>(
     requires kind { scorer.now.kind ≡ K.options.evict }
     requires weights { scorer.now.weights.items ≡ K.options.weights }
     requires runner { IsRunner K.options hall.now runner }
+    requires in_plan { runner.session.wide ≡ false }
     ensures { IfOk result (λ ended. HasRunOut K.options hall.now runner ended) }
 {
     let Runner {
@@ -73,6 +74,7 @@ pub(crate) fn run_to_end<K: RunOptions, R: Wait, E: Operate>(
     requires kind { scorer.now.kind ≡ K.options.evict }
     requires weights { scorer.now.weights.items ≡ K.options.weights }
     requires runner { IsRunner K.options hall.now runner }
+    requires in_plan { runner.session.wide ≡ false }
     ensures { IfOk result (λ ended. HasRunOut K.options hall.now runner ended) }
 {
     run_counted::<K, R, E, Brand>(rt, alloc, hall, runner, scorer, kernel, Blank::new(1))

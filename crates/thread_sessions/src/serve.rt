@@ -1,12 +1,13 @@
 //! Sessions in threads over one log.
-ghost use Rattle.std.specs.Prelude.{◌≡◌, ℕ, ◌<◌, ◌≤◌, ◌^◌, List, [], length, map, slice_index_or, All, IfOk, Ok};
+ghost use Rattle.std.specs.Prelude.{◌≡◌, ℕ, ◌<◌, ◌≤◌, ◌^◌, List, [], length, map, slice_index_or, false, All, IfOk, Ok};
 ghost use Rattle.std.specs.List.{AllByRecursion};
 ghost use Rattle.std.specs.declared.vec.Vec.{Vec as VecSeen};
 ghost use Rattle.std.specs.declared.alloc.Global.{Global as GlobalSeen};
 ghost use Rattle.run_log.specs.Events.{EventTree, log_tree};
 ghost use Rattle.turn_hall.specs.Passes.{seen_by};
 ghost use Rattle.session_run.specs.Work.{run_totals};
-ghost use Rattle.run_sessions.specs.Tables.{AreOver, AreTexts, scripts_of};
+ghost use Rattle.session_run.specs.Turns.{InPlan};
+ghost use Rattle.run_sessions.specs.Tables.{AreInPlan, AreOver, AreTexts, scripts_of};
 ghost use Rattle.thread_sessions.specs.Runs.{AreJoined, AreRunners, HasRunOut, IsFirst, IsRunOut, IsRunner, sessions_of};
 
 use crate::end::end_run;
@@ -41,7 +42,7 @@ pub fn serve_sessions<R: Threads + Wait + Sync, E: Operate + Sync>(
     requires weights { scorer.now.weights.items ≡ options.weights }
     requires places { options.places ≤ 1024 }
     requires budget { options.budget ≤ 2 ^ 40 }
-    ensures played { IfOk result (λ run. IsRunOut options scripts.items (log_tree run.log.items)) }
+    ensures played { IfOk result (λ run. IsRunOut InPlan options scripts.items (log_tree run.log.items)) }
     ensures sessions { IfOk result (λ run. AllByRecursion (λ (event : EventTree). (1 ≤ event.session) × (event.session ≤ length scripts.items)) (log_tree run.log.items)) }
     ensures texts { IfOk result (λ run. AreTexts (log_tree run.log.items) 1 scripts.items (map (λ (text : VecSeen ℕ GlobalSeen). text.items) run.texts.items)) }
     ensures totals { IfOk result (λ run. run.totals ≡ run_totals options (log_tree run.log.items)) }
@@ -65,7 +66,7 @@ fn serve<K: RunOptions + Send + Sync, R: Threads + Wait + Sync, E: Operate + Syn
     requires weights { scorer.now.weights.items ≡ K.options.weights }
     requires places { options.places ≤ 1024 }
     requires budget { options.budget ≤ 2 ^ 40 }
-    ensures played { IfOk result (λ run. IsRunOut K.options scripts.items (log_tree run.log.items)) }
+    ensures played { IfOk result (λ run. IsRunOut InPlan K.options scripts.items (log_tree run.log.items)) }
     ensures sessions { IfOk result (λ run. AllByRecursion (λ (event : EventTree). (1 ≤ event.session) × (event.session ≤ length scripts.items)) (log_tree run.log.items)) }
     ensures texts { IfOk result (λ run. AreTexts (log_tree run.log.items) 1 scripts.items (map (λ (text : VecSeen ℕ GlobalSeen). text.items) run.texts.items)) }
     ensures totals { IfOk result (λ run. run.totals ≡ run_totals K.options (log_tree run.log.items)) }
@@ -92,13 +93,14 @@ fn start_all<K: RunOptions>(
     requires seen { seen_by pass.old ≡ [] }
     ensures scripts { IfOk result (λ runners. scripts_of (sessions_of runners.items) ≡ scripts.items) }
     ensures runners { IfOk result (λ runners. AreRunners K.options hall.now runners.items) }
+    ensures in_plan { IfOk result (λ runners. AreInPlan (sessions_of runners.items)) }
     ensures first { IfOk result (λ runners. IsFirst hall.now pass.new (length runners.items) 0) }
 {
     let mut runners = Vec::new(alloc);
     'scripts: for pieces in scripts {
         let number = runners.len() as u32 + 1;
         let other = hall.split(alloc, pass)?;
-        let session = Session::new(alloc, number, pieces);
+        let session = Session::new(alloc, number, pieces, false);
         runners.push(Runner {
             pass: other,
             session,
@@ -118,12 +120,12 @@ fn run_each<K: RunOptions + Send + Sync, R: Threads + Wait + Sync, E: Operate + 
 ) -> Result<Vec<Result<Runner<Kept<K>>, Memory>>, Memory>
     requires kind { scorer.now.kind ≡ K.options.evict }
     requires weights { scorer.now.weights.items ≡ K.options.weights }
-    requires runners { All (λ runner. IsRunner K.options hall.now runner) runners.items }
+    requires runners { All (λ runner. IsRunner K.options hall.now runner × (runner.session.wide ≡ false)) runners.items }
     ensures length { IfOk result (λ ended. length ended.items ≡ length runners.items) }
     ensures each { IfOk result (λ ended. (place : ℕ) (r : _) (runner : _) → place < length runners.items → IfOk (slice_index_or ended.items place r) (λ after. HasRunOut K.options hall.now (slice_index_or runners.items place runner) after)) }
 {
     let run = |runner: Runner<Kept<K>>| -> Result<Runner<Kept<K>>, Memory>
-        requires { (scorer.now.kind ≡ K.options.evict) × (scorer.now.weights.items ≡ K.options.weights) × IsRunner K.options hall.now runner }
+        requires { (scorer.now.kind ≡ K.options.evict) × (scorer.now.weights.items ≡ K.options.weights) × IsRunner K.options hall.now runner × (runner.session.wide ≡ false) }
         ensures { IfOk result (λ after. HasRunOut K.options hall.entry.now runner after) }
     { run_to_end(rt, alloc, hall, runner, scorer, kernel) };
     let ended = thread::map_vec(rt, runners, &run)?;
@@ -156,9 +158,11 @@ fn run_all<K: RunOptions + Send + Sync, R: Threads + Wait + Sync, E: Operate + S
     requires kind { scorer.now.kind ≡ K.options.evict }
     requires weights { scorer.now.weights.items ≡ K.options.weights }
     requires runners { AreRunners K.options hall.now runners.items }
+    requires in_plan { AreInPlan (sessions_of runners.items) }
     ensures length { IfOk result (λ ended. length ended.items ≡ length runners.items) }
     ensures scripts { IfOk result (λ ended. scripts_of (sessions_of ended.items) ≡ scripts_of (sessions_of runners.items)) }
     ensures runners { IfOk result (λ ended. AreRunners K.options hall.now ended.items) }
+    ensures in_plan { IfOk result (λ ended. AreInPlan (sessions_of ended.items)) }
     ensures over { IfOk result (λ ended. AreOver (length ended.items) (sessions_of ended.items)) }
 {
     let ended = run_each(rt, alloc, hall, runners, scorer, kernel)?;

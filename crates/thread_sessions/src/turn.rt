@@ -35,6 +35,7 @@ fn do_event<K: RunOptions, R: Wait, E: Operate, L: Ledger>(
     ensures ours { OnOk result (IsPassOf hall.now pass.new) }
     ensures number { OnOk result (session.new.number ≡ session.old.number) }
     ensures pieces { OnOk result (session.new.pieces ≡ session.old.pieces) }
+    ensures wide { OnOk result (session.new.wide ≡ session.old.wide) }
     ensures stands { OnOk result (IsWith K.options pass.new session.new) }
     ensures one { OnOk result (HasOneMore pass.old pass.new) }
 {
@@ -68,9 +69,11 @@ pub fn take_turn<K: RunOptions, R: Wait, E: Operate, L: Ledger>(
     requires weights { scorer.now.weights.items ≡ K.options.weights }
     requires ours { IsPassOf hall.now pass.old }
     requires stands { IsWith K.options pass.old session.old }
+    requires in_plan { session.old.wide ≡ false }
     ensures ours { OnOk result (IsPassOf hall.now pass.new) }
     ensures number { OnOk result (session.new.number ≡ session.old.number) }
     ensures pieces { OnOk result (session.new.pieces ≡ session.old.pieces) }
+    ensures wide { OnOk result (session.new.wide ≡ session.old.wide) }
     ensures stands { OnOk result (IsWith K.options pass.new session.new) }
     ensures one { IfOk result (λ more. more ≡ true → HasOneMore pass.old pass.new) }
     ensures none { IfOk result (λ more. more ≡ false → pass.new ≡ pass.old) }

@@ -3,6 +3,7 @@ ghost use Rattle.std.specs.Prelude.{◌≡◌, ℕ, ◌+◌, ◌^◌, ◌-◌, �
 ghost use Rattle.turn_hall.specs.Entries.{StartsWith, entries_by, longer};
 ghost use Rattle.turn_hall.specs.Turns.{turn_value};
 
+use crate::bells::{BELLS, Bells};
 use crate::logged::Logged;
 use crate::rule::{HallRule, VALUE};
 use crate::turn::Turn;
@@ -17,6 +18,7 @@ use std::sync::Wait;
 #[derive(Drop)]
 pub struct Hall<V: Logged> {
     pub(crate) table: Table<Option<V>, View<V::Entry>, (), HallRule<V>, Global>,
+    pub(crate) bells: Bells,
     ghost sized: { (table.shared.table_id.words ≡ 3) × (table.shared.table_id.slots ≡ 1) },
 }
 
@@ -42,10 +44,11 @@ impl<V: Logged> Hall<V> {
         ensures alone { IfOk result (λ made. (split_count made.1 ≡ 0) × (joined_passes made.1 ≡ [])) }
         ensures free { IfOk result (λ made. IsFree made.1) }
     {
+        let bells = Bells::new(alloc)?;
         let mut slots = Vec::new(alloc);
         slots.push(Some(value))?;
         match Table::new(alloc, &[0, 0, 0], slots, &()) {
-            Ok((table, seat)) => Ok((Hall { table }, Pass { seat })),
+            Ok((table, seat)) => Ok((Hall { table, bells }, Pass { seat })),
             Err(_refused) => Err(Memory),
         }
     }
@@ -90,10 +93,17 @@ impl<V: Logged> Hall<V> {
         let ticket = self.draw(pass);
         let backoff = Backoff::new();
         'waits: for _ in rt.forever() {
-            if self.watch(pass, ticket) {
+            let before = self.watch(pass, ticket);
+            if before == 0 {
                 return Turn::new(self.take_value(pass));
             }
-            backoff.snooze();
+            // A short wait spins and yields: to sleep and to be woken takes longer.
+            if backoff.is_completed() && before < BELLS {
+                self.bells.sleep(rt, ticket);
+                backoff.reset();
+            } else {
+                backoff.snooze();
+            }
         }
         unreachable!()
     }
@@ -159,7 +169,7 @@ impl<V: Logged> Hall<V> {
         ensures begins { StartsWith (V.entries result) (seen_by pass) }
         ensures each { (number : ℕ) → entries_by V.author number (V.entries result) ≡ entries_under pass number }
     {
-        let Hall { table } = self;
+        let Hall { table, bells: _ } = self;
         let Pass { seat } = pass;
         let mut closed = table.close_with(seat);
         let value = closed.take(VALUE).unwrap();

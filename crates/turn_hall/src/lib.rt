@@ -5,7 +5,7 @@
 //! `Turn`; `leave` gives it back with one entry more, and `give_up` gives it back as it was.
 //!
 //! It stands on `atomic_table`, whose words and slot it steps on, on `crossbeam_utils`, whose
-//! `Backoff` a waiting ticket uses, and on `cell_core` for `Memory`.
+//! `Backoff` a waiting ticket uses before it sleeps, and on `cell_core` for `Memory`.
 //!
 //! It promises, of any number of threads: at each turn the list begins with all that the pass has
 //! seen, and the entries of it that name the pass are exactly the pass's own, in order and each once;
@@ -13,6 +13,7 @@
 //! is promised of progress: a call that waits owes no return.
 #![tactic(auto)]
 
+mod bells;
 mod hall;
 mod logged;
 mod rule;

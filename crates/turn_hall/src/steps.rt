@@ -1,5 +1,5 @@
 //! The steps of a pass, one function for each kind. The calls of `hall.rt` are made of them.
-ghost use Rattle.std.specs.Prelude.{◌≡◌, ◌^◌, ◌-◌, ◌<◌, [], ◌∷◌, IsTrue, false, length};
+ghost use Rattle.std.specs.Prelude.{◌≡◌, ◌≢◌, ◌^◌, ◌-◌, ◌<◌, [], ◌∷◌, length};
 ghost use Rattle.turn_hall.specs.declared.view.Stage.TheVariants.{Free, Serving};
 ghost use Rattle.turn_hall.specs.Steps.{slot_entries, Begins, Draws, Publishes, PassesOn, Compares};
 ghost use Rattle.turn_hall.specs.Views.{IsAtTurn, one_more, newcomer, joined_with};
@@ -25,16 +25,17 @@ impl<V: Logged> Hall<V> {
             .fetch_add::<DrawTicket>(&mut pass.seat, TICKETS, 1)
     }
 
-    /// Watches the ticket that is served, and says whether it is this one. Then the turn begins.
-    pub(crate) fn watch(&self, pass: &mut Pass<V>, ticket: u64) -> bool
+    /// Watches the ticket that is served, and says how many are before this one. Where none is, the turn begins.
+    pub(crate) fn watch(&self, pass: &mut Pass<V>, ticket: u64) -> u64
         requires hall { IsPassOf self.now pass.old }
         requires waits { Waits ticket pass.old }
         ensures hall { IsPassOf self.now pass.new }
-        ensures served { IsTrue result → Begins V.entries V.author pass.old.seat.me pass.new.seat.me }
-        ensures whole { IsTrue result → HasValue V.entries pass.new }
-        ensures later { result ≡ false → pass.new.seat.me ≡ pass.old.seat.me }
+        ensures served { result ≡ 0 → Begins V.entries V.author pass.old.seat.me pass.new.seat.me }
+        ensures whole { result ≡ 0 → HasValue V.entries pass.new }
+        ensures later { result ≢ 0 → pass.new.seat.me ≡ pass.old.seat.me }
     {
-        self.table.shared.load::<Watch<V>>(&mut pass.seat, SERVING) == ticket
+        let served = self.table.shared.load::<Watch<V>>(&mut pass.seat, SERVING);
+        ticket.wrapping_sub(served)
     }
 
     /// Takes the value out of the slot.
@@ -79,7 +80,7 @@ impl<V: Logged> Hall<V> {
             .store::<Publish<V>>(&mut pass.seat, COUNT, count);
     }
 
-    /// Passes the turn on, where the value in the slot stands for what the pass has seen.
+    /// Passes the turn on, where the value in the slot stands for what the pass has seen, and wakes who waits for it.
     pub(crate) fn pass_on(&self, pass: &mut Pass<V>)
         requires hall { IsPassOf self.now pass.old }
         requires turn { IsAtTurn pass.old.seat.me.0.stage }
@@ -87,9 +88,13 @@ impl<V: Logged> Hall<V> {
         ensures hall { IsPassOf self.now pass.new }
         ensures passed { PassesOn pass.old.seat.me pass.new.seat.me }
     {
-        self.table
+        let served = self
+            .table
             .shared
             .fetch_add::<PassOn>(&mut pass.seat, SERVING, 1);
+        self.bells.ring(served.wrapping_add(1));
+        // Who comes behind wakes up meanwhile.
+        self.bells.ring(served.wrapping_add(2));
     }
 
     /// Splits a pass from the first one.

@@ -1,7 +1,7 @@
 use Rattle.std.proofs.Common.{rules, arith, ◌≡◌, Some, length, refl}
 use Rattle.std.specs.Prelude.{slice_get}
 use Rattle.std.proofs.lemmas.Option.{slice_get_read}
-use Rattle.flow_rows.specs.Sound.{known_of}
+use Rattle.mal_exec.specs.Results.{known_of}
 use Rattle.flow_rows.proofs.NoneLemmas.{NotReady, none_more}
 use Rattle.flow_rows.proofs.args.ready.Goals as goal
 

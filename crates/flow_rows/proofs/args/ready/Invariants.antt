@@ -1,4 +1,4 @@
-use Rattle.flow_rows.specs.Sound.{known_of}
+use Rattle.mal_exec.specs.Results.{known_of}
 use Rattle.flow_rows.specs.Ready.{NoneReady}
 use Rattle.flow_rows.proofs.args.ready.Given as goal
 

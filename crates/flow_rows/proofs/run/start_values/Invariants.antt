@@ -1,5 +1,6 @@
 use Rattle.std.proofs.Common.{◌≡◌, ◌++◌, map, length}
-use Rattle.flow_rows.specs.Sound.{known_of, start_value}
+use Rattle.mal_exec.specs.Results.{known_of}
+use Rattle.flow_rows.specs.Sound.{start_value}
 use Rattle.flow_rows.proofs.run.start_values.Given as goal
 
 abbrev pub invariant-rest : goal.invariant-rest

@@ -1,12 +1,12 @@
-use Rattle.std.proofs.Common.{map, length, Some, IfSome}
-use Rattle.bat_core.specs.Objects.{values_of}
+use Rattle.std.proofs.Common.{length, IfSome}
+use Rattle.mal_exec.specs.Results.{known_of}
 use Rattle.mal_meaning.specs.Meaning.{arg_values}
 use Rattle.query_run.proofs.ReadLemmas.{IsRest}
 use Rattle.query_run.proofs.reuse.pairs_named.Given as goal
 
 -- where all have values, the rest has, and what is counted so far with the rest is what all have
 abbrev pub invariant-args-2 : goal.invariant-args-2
-invariant-args-2 l = IfSome (arg_values (map Some (values_of l.values)) l.args) (IsRest (map Some (values_of l.values)) l.rest l.pairs)
+invariant-args-2 l = IfSome (arg_values (known_of l.values) l.args) (IsRest (known_of l.values) l.rest l.pairs)
 
 abbrev pub decreases-args-2 : goal.decreases-args-2
 decreases-args-2 l = length l.rest

@@ -1,4 +1,4 @@
-use Rattle.std.proofs.Common.{rules, ◌≡◌, ◌≤◌, ℕ, ◌+◌, List, ◌++◌, ◌∷◌, [], length, ap, sym, ◌∙◌, subst, arith, append_assoc}
+use Rattle.std.proofs.Common.{rules, ◌≡◌, ◌≤◌, ℕ, ◌+◌, List, ◌++◌, ◌∷◌, [], length, false, ap, sym, ◌∙◌, subst, arith, append_assoc}
 use Rattle.std.specs.Prelude.{sum_by}
 use Rattle.std.specs.List.{AllByRecursion}
 use Rattle.std.proofs.lemmas.List.{length-append, length-map, map-append}
@@ -7,7 +7,7 @@ use Rattle.session_run.specs.declared.session.Session.{Session}
 use Rattle.session_run.specs.Kept.{Stands}
 use Rattle.session_run.specs.Works.{IsWorked, done_by}
 use Rattle.run_sessions.specs.Ordered.{IsInOrder}
-use Rattle.run_sessions.specs.Tables.{AreStanding, scripts_of}
+use Rattle.run_sessions.specs.Tables.{AreInPlan, AreStanding, scripts_of}
 use Rattle.run_sessions.proofs.OrderLemmas.{new_ordered}
 use Rattle.run_sessions.proofs.PlaceLemmas.{append_all, none_there, one_of_all}
 use Rattle.run_sessions.proofs.replay.all_sessions.Goals as goal
@@ -16,6 +16,7 @@ pub scripts-init : goal.scripts-init
 scripts-init c = record {
   scripts = ap scripts_of c.new-sessions.ensures.items;
   standing = λ options. subst (AreStanding options []) (sym c.new-sessions.ensures.items) (λ place x there. none_there place x there);
+  in_plan = subst AreInPlan (sym c.new-sessions.ensures.items) (λ place x there. none_there place x there);
   done = ap (sum_by done_by) c.new-sessions.ensures.items;
   rest = search rules;
 }
@@ -53,6 +54,7 @@ scripts-preserved c =
       standing = λ options. subst (AreStanding options []) (sym pushed)
           (append_all (λ place z. (z.number ≡ place + 1) × Stands options [] z × IsWorked options [] z × IsInOrder [] z) sessions made
           (c.new.ensures.number ∙ ap (λ n. n + 1) len, c.new.ensures.stands options, c.new.ensures.worked options, new_ordered options made (c.new.ensures.stands options)) (c.scripts.invariant.standing options));
+      in_plan = subst AreInPlan (sym pushed) (append_all (λ place (z : Session). z.wide ≡ false) sessions made c.new.ensures.wide c.scripts.invariant.in_plan);
       done = ap (sum_by done_by) pushed ∙ (let both : sum_by done_by (sessions ++ made ∷ []) ≡ 0 = omega (arith, none, new_none, sum) in both);
       rest = append_assoc yielded (pieces ∷ []) c.next.new.self.rest.items ∙ here;
     }

@@ -6,7 +6,7 @@ use Rattle.run_sessions.proofs.replay.run_all.Goals as goal
 
 pub sessions-init : goal.sessions-init
 sessions-init g c = record {
-  run = none_have_run c.args.book.now c.args.sessions.now.items c.requires.standing;
+  run = none_have_run c.args.book.now c.args.sessions.now.items c.requires.standing c.requires.in_plan;
   counts = none_counted c.args.book.now c.args.sessions.now.items c.args.steps.now;
 }
 
@@ -20,6 +20,7 @@ run_on-requires g c =
       weights = c.requires.weights ∙ ap (λ (o : PoolOptions). o.weights) (sym played.options);
       inside = omega (arith, low, same);
       standing = played.standing;
+      in_plan = played.in_plan;
     }
 
 pub sessions-preserved : goal.sessions-preserved

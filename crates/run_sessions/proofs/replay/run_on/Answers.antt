@@ -5,7 +5,7 @@ use Rattle.run_sessions.proofs.replay.run_on.Goals as goal
 
 pub events-init : goal.events-init
 events-init g c = record {
-  run = none_run c.args.book.now c.args.sessions.now.items c.args.place c.requires.standing;
+  run = none_run c.args.book.now c.args.sessions.now.items c.args.place c.requires.standing c.requires.in_plan;
   counts = none_counted c.args.book.now c.args.sessions.now.items c.args.steps.now;
   others = λ other apart. refl;
 }

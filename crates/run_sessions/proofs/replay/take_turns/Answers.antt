@@ -9,7 +9,7 @@ use Rattle.run_sessions.proofs.replay.take_turns.Goals as goal
 
 pub turns-init : goal.turns-init
 turns-init g c = record {
-  played = none_played c.args.book.now c.args.sessions.now.items c.requires.standing;
+  played = none_played c.args.book.now c.args.sessions.now.items c.requires.standing c.requires.in_plan;
   counts = none_counted c.args.book.now c.args.sessions.now.items c.args.steps.now;
 }
 
@@ -25,6 +25,7 @@ take_turn-requires g c =
       weights = c.requires.weights ∙ ap (λ (o : PoolOptions). o.weights) (sym played.options);
       inside = omega (arith, low, high, same);
       standing = played.standing;
+      in_plan = played.in_plan;
     }
 
 pub turns-preserved : goal.turns-preserved

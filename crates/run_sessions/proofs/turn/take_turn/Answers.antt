@@ -7,8 +7,9 @@ use Rattle.run_sessions.proofs.turn.take_turn.Goals as goal
 pub step-requires : goal.step-requires
 step-requires g c =
     let x = c.index_mut.result.now in
-    let stood = c.requires.standing c.args.place x (slice_get_read c.args.sessions.now.items _ c.args.place x refl c.requires.inside c.index_mut.ensures.value) in
-    record { kind = c.requires.kind; weights = c.requires.weights; stands = stood.1; worked = stood.2 }
+    let here = slice_get_read c.args.sessions.now.items _ c.args.place x refl c.requires.inside c.index_mut.ensures.value in
+    let stood = c.requires.standing c.args.place x here in
+    record { kind = c.requires.kind; weights = c.requires.weights; stands = stood.1; worked = stood.2; in_plan = c.requires.in_plan c.args.place x here }
 
 pub returns : goal.returns
 returns g c =
@@ -22,7 +23,7 @@ returns g c =
     let told = c.in_ok-more.ensures in
     let lawful = c.log.ensures.lawful in
     record {
-      played = turn_played old new sessions place x y here c.requires.standing told.options told.number told.pieces lawful c.one_reading.ensures c.in_ok-more.more told.turned;
+      played = turn_played old new sessions place x y here c.requires.standing told.options told.number told.pieces lawful c.one_reading.ensures c.requires.in_plan told.wide c.in_ok-more.more told.turned;
       counts = turn_counts old new sessions place x y here c.requires.standing told.options told.number told.pieces lawful c.args.steps.now c.step.new.steps told.counts;
       others = λ other apart. set_other sessions place other y apart;
       over = turn_over old new sessions place x y here c.requires.standing told.options told.number told.pieces lawful c.in_ok-more.more told.turned;

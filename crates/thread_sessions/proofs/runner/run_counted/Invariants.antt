@@ -9,5 +9,6 @@ invariant-turns g l = record {
   ours : IsPassOf l.hall l.pass;
   number : l.session.number ≡ l.fn.runner.session.number;
   pieces : l.session.pieces ≡ l.fn.runner.session.pieces;
+  wide : l.session.wide ≡ l.fn.runner.session.wide;
   stands : IsWith g.K.RunOptions.options l.pass l.session;
 }

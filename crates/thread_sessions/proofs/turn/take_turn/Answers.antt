@@ -3,7 +3,7 @@ use Rattle.std.proofs.lemmas.Bool.{leb-false, leb-true}
 use Rattle.run_log.specs.Events.{log_tree}
 use Rattle.turn_hall.specs.Passes.{seen_by}
 use Rattle.session_run.proofs.StageLemmas.{stage_sound}
-use Rattle.run_sessions.proofs.TurnLemmas.{computed_over, computed_ready}
+use Rattle.run_sessions.proofs.TurnLemmas.{computed_over, computed_ready, in_plan_goes}
 use Rattle.thread_sessions.proofs.AlongLemmas.{computed_with}
 use Rattle.thread_sessions.proofs.turn.take_turn.Goals as goal
 
@@ -18,12 +18,13 @@ returns-then-done g c =
     let options = g.K.RunOptions.options in
     let computed = c.in_ok-outside.ensures.computed in
     let all : length c.outside.new.self.pieces ≤ c.outside.new.self.ended = leb-true (length c.outside.new.self.pieces) c.outside.new.self.ended (sym c.done.ensures ∙ c.if-done.true) in
-    let over = computed_over options (log_tree (seen_by c.args.pass.now)) c.args.session.now c.outside.new.self c.requires.stands.at.stands computed all in
+    let over = computed_over options (log_tree (seen_by c.args.pass.now)) c.args.session.now c.outside.new.self (in_plan_goes c.args.session.now c.requires.in_plan) c.requires.stands.at.stands computed all in
     record {
       ours = c.requires.ours;
       number = computed.number;
       pieces = computed.pieces;
-      stands = computed_with options c.args.pass.now c.args.session.now c.outside.new.self computed c.requires.stands;
+      wide = computed.wide;
+      stands = computed_with options c.args.pass.now c.args.session.now c.outside.new.self (in_plan_goes c.args.session.now c.requires.in_plan) computed c.requires.stands;
       one = λ same. absurd (not_more same);
       none = λ same. refl;
       over = λ same. over;
@@ -38,7 +39,7 @@ do_event-requires g c =
       kind = c.requires.kind;
       weights = c.requires.weights;
       ours = c.requires.ours;
-      stands = computed_with options c.args.pass.now c.args.session.now c.outside.new.self computed c.requires.stands;
+      stands = computed_with options c.args.pass.now c.args.session.now c.outside.new.self (in_plan_goes c.args.session.now c.requires.in_plan) computed c.requires.stands;
       more = more;
       ready = computed_ready options (log_tree (seen_by c.args.pass.now)) c.args.session.now c.outside.new.self c.requires.stands.at.stands computed more;
     }

@@ -1,5 +1,5 @@
 use Rattle.std.proofs.Common.{rules, length, ◌≡◌, ◌++◌, ◌∷◌, []}
-use Rattle.flow_rows.specs.Sound.{known_of}
+use Rattle.mal_exec.specs.Results.{known_of}
 use Rattle.flow_rows.specs.Ready.{IsReady, NoneReady}
 use Rattle.flow_rows.proofs.SoundLemmas.{hands_out, idle}
 use Rattle.flow_rows.proofs.run.RunJobs.next.Goals as goal

@@ -1,7 +1,8 @@
-use Rattle.std.proofs.Common.{rules, ◌≡◌, ◌+◌, refl, ap, ◌∙◌}
+use Rattle.std.proofs.Common.{rules, ◌≡◌, ◌+◌, refl, ap, sym, subst, ◌∙◌}
 use Rattle.query_run.specs.declared.step.Step.TheVariants as step
 use Rattle.session_run.specs.declared.stage.Stage.TheVariants as stage
-use Rattle.session_run.specs.Stages.{at_stage}
+use Rattle.session_run.specs.declared.session.Session.{Session}
+use Rattle.session_run.specs.Stages.{MayBegin, at_stage}
 use Rattle.session_run.proofs.OwnLemmas.{replied}
 use Rattle.session_run.proofs.DoesLemmas.{DoneSo, end_does, end_open}
 use Rattle.session_run.proofs.session.Session.end.Goals as goal
@@ -24,3 +25,6 @@ returns-clause-does c = (ended (goal.at.returns-clause-does c).After-tell).0
 
 pub returns-clause-counts : goal.returns-clause-counts
 returns-clause-counts c = (ended (goal.at.returns-clause-counts c).After-tell).1
+
+pub returns-clause-follows : goal.returns-clause-follows
+returns-clause-follows c = subst (λ (z : Session). MayBegin z.stage) (sym c.tell.ensures) tt

@@ -2,7 +2,7 @@ use Rattle.std.proofs.Common.{rules, ◌≡◌, ℕ, subst, sym, Result, Ok, Err
 use Rattle.std.specs.Result.{OnOk}
 use Rattle.session_run.specs.declared.stage.Stage.{Stage}
 use Rattle.session_run.specs.declared.stage.Stage.TheVariants as stage
-use Rattle.session_run.specs.Stages.{HasDone, at_stage}
+use Rattle.session_run.specs.Stages.{Follows, HasDone, at_stage}
 use Rattle.session_run.specs.Kept.{Stands}
 use Rattle.session_run.specs.Works.{CountsInside, IsWorked}
 use Rattle.std.proofs.lemmas.Result.{on_ok_weaker}
@@ -52,3 +52,13 @@ returns-in-Querying-clause-counts g c =
     go : {T E : Type 0} (P : ℕ → Type 0) (r : Result T E) → OnOk r ((steps : ℕ) → P steps) → OnOk r (P c.args.steps.now)
     go P (Ok v) all = all c.args.steps.now
     go P (Err e) all = tt
+
+pub returns-in-Reading-clause-follows : goal.returns-in-Reading-clause-follows
+returns-in-Reading-clause-follows g c =
+    let is : c.args.self.now.stage ≡ stage.Reading c.in-Reading.read = search rules in
+    subst (λ (at : Stage). OnOk c.start.result (Follows at c.start.new.self.stage)) (sym is) c.start.ensures.begins
+
+pub returns-in-Querying-clause-follows : goal.returns-in-Querying-clause-follows
+returns-in-Querying-clause-follows g c =
+    let is : stage.Querying c.in-Querying.step ≡ c.args.self.now.stage = search rules in
+    subst (λ (at : Stage). OnOk c.go_on.result (Follows at c.go_on.new.self.stage)) is c.go_on.ensures.follows

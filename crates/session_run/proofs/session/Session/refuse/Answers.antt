@@ -1,4 +1,5 @@
 use Rattle.session_run.proofs.DoesLemmas.{DoneSo, refused_does}
+use Rattle.session_run.proofs.StageLemmas.{told_so}
 use Rattle.session_run.proofs.session.Session.refuse.Goals as goal
 use Rattle.session_run.proofs.session.Session.refuse.Goals.{After-tell}
 
@@ -13,3 +14,6 @@ returns-clause-does c = (refused (goal.at.returns-clause-does c).After-tell).0
 
 pub returns-clause-counts : goal.returns-clause-counts
 returns-clause-counts c = (refused (goal.at.returns-clause-counts c).After-tell).1
+
+pub returns-clause-begins : goal.returns-clause-begins
+returns-clause-begins c = told_so c.args.self.now c.tell.new.self _ c.tell.ensures

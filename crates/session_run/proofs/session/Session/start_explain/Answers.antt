@@ -2,6 +2,7 @@ use Rattle.std.proofs.Common.{refl}
 use Rattle.sql_tree.specs.Tree.{query_tree, stmt_tree}
 use Rattle.session_run.specs.Stages.{at_stage}
 use Rattle.session_run.proofs.DoesLemmas.{DoneSo, explain_does}
+use Rattle.session_run.proofs.StageLemmas.{explained_so}
 use Rattle.session_run.proofs.session.Session.start_explain.Goals as goal
 use Rattle.session_run.proofs.session.Session.start_explain.Goals.{After-explain_stage}
 
@@ -18,3 +19,6 @@ returns-clause-does c = (begun (goal.at.returns-clause-does c).After-explain_sta
 
 pub returns-clause-counts : goal.returns-clause-counts
 returns-clause-counts c = (begun (goal.at.returns-clause-counts c).After-explain_stage).1
+
+pub returns-clause-begins : goal.returns-clause-begins
+returns-clause-begins c = explained_so c.in_ok-begun.begun.plan c.explain_stage.result c.explain_stage.ensures

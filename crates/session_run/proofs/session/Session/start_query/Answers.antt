@@ -2,6 +2,7 @@ use Rattle.std.proofs.Common.{refl}
 use Rattle.sql_tree.specs.Tree.{query_tree, stmt_tree}
 use Rattle.session_run.specs.Stages.{at_stage}
 use Rattle.session_run.proofs.DoesLemmas.{DoneSo, query_does}
+use Rattle.session_run.proofs.StageLemmas.{begins_so}
 use Rattle.session_run.proofs.session.Session.start_query.Goals as goal
 use Rattle.session_run.proofs.session.Session.start_query.Goals.{After-query_stage}
 
@@ -18,3 +19,6 @@ returns-clause-does c = (begun (goal.at.returns-clause-does c).After-query_stage
 
 pub returns-clause-counts : goal.returns-clause-counts
 returns-clause-counts c = (begun (goal.at.returns-clause-counts c).After-query_stage).1
+
+pub returns-clause-begins : goal.returns-clause-begins
+returns-clause-begins c = begins_so c.in_ok-begun.begun.snap c.in_ok-begun.begun.marks.items c.in_ok-begun.begun.plan c.query_stage.result c.query_stage.ensures

@@ -1,6 +1,6 @@
 use Rattle.std.proofs.Common.{ap, sym, ◌∙◌, subst}
 use Rattle.pool_policy.specs.declared.options.PoolOptions.{PoolOptions}
-use Rattle.run_log.specs.Events.{EventTree, log_tree}
+use Rattle.run_log.specs.Events.{log_tree}
 use Rattle.session_run.specs.Kept.{Stands}
 use Rattle.session_run.specs.Works.{IsWorked}
 use Rattle.thread_sessions.proofs.AlongLemmas.{own_at}
@@ -22,10 +22,10 @@ inside-requires g c =
 pub returns-clause-added : goal.returns-clause-added
 returns-clause-added g c =
     let d = c.in_ok-inside.ensures.does in
-    (d.event, d.log, ap (λ (e : EventTree). e.session) d.next.is)
+    (d.event, d.log, d.next.own)
 
 pub returns-clause-at : goal.returns-clause-at
 returns-clause-at g c =
     let told = c.in_ok-inside.ensures in
     let options = c.args.self.now.optioned in
-    own_at c.one_reading.ensures g.K.RunOptions.options c.args.self.now.book c.inside.new.book c.args.session.now c.inside.new.self options (c.inside.ensures.options ∙ options) told.number told.pieces told.does c.requires.at
+    own_at c.one_reading.ensures g.K.RunOptions.options c.args.self.now.book c.inside.new.book c.args.session.now c.inside.new.self options (c.inside.ensures.options ∙ options) told.number told.pieces told.wide told.does c.requires.at
