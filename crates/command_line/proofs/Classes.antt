@@ -9,7 +9,7 @@ use Rattle.std.proofs.lemmas.Str.{IsUtf8-past_char, encodes-chars}
 use Rattle.clap.specs.Lexer.{long_of_rest, short_of_rest, strip_byte}
 use Rattle.clap.specs.Walk.{arg_by_long}
 use Rattle.command_line.specs.Words.{Text, is_end, is_option, is_valued, name_and_value, option_in}
-use Rattle.command_line.proofs.Walk.{IsBundle, IsPlain, LongWord, Name, admit, events_built, files_built, valued_built, budget, credits, evict, id_of, rules, weights}
+use Rattle.command_line.proofs.Walk.{IsBundle, IsPlain, LongWord, Name, admit, events_built, files_built, valued_built, budget, credits, evict, id_of, rules, weights, workers}
 
 pub data Class (word : Text) : Type 0 where
   plain : IsPlain word → is_end word ≡ false → is_option word ≡ false → Class word
@@ -91,9 +91,10 @@ same_or_not option name = by (bytes_eq option name) refl
     by false e = inr e
 
 -- no rule has the name
-none_by : (name : Text) → bytes_eq (codes "budget") name ≡ false → bytes_eq (codes "evict") name ≡ false → bytes_eq (codes "admit") name ≡ false → bytes_eq (codes "credits") name ≡ false → bytes_eq (codes "weights") name ≡ false → bytes_eq (codes "events") name ≡ false → arg_by_long rules name ≡ None
-none_by name b v a c w e =
-    ap (λ t. if t || false then Some (valued_built (codes "budget")) else arg_by_long (valued_built (codes "evict") ∷ valued_built (codes "admit") ∷ valued_built (codes "credits") ∷ valued_built (codes "weights") ∷ events_built ∷ files_built ∷ []) name) b
+none_by : (name : Text) → bytes_eq (codes "workers") name ≡ false → bytes_eq (codes "budget") name ≡ false → bytes_eq (codes "evict") name ≡ false → bytes_eq (codes "admit") name ≡ false → bytes_eq (codes "credits") name ≡ false → bytes_eq (codes "weights") name ≡ false → bytes_eq (codes "events") name ≡ false → arg_by_long rules name ≡ None
+none_by name k b v a c w e =
+    ap (λ t. if t || false then Some (valued_built (codes "workers")) else arg_by_long (valued_built (codes "budget") ∷ valued_built (codes "evict") ∷ valued_built (codes "admit") ∷ valued_built (codes "credits") ∷ valued_built (codes "weights") ∷ events_built ∷ files_built ∷ []) name) k
+    ∙ ap (λ t. if t || false then Some (valued_built (codes "budget")) else arg_by_long (valued_built (codes "evict") ∷ valued_built (codes "admit") ∷ valued_built (codes "credits") ∷ valued_built (codes "weights") ∷ events_built ∷ files_built ∷ []) name) b
     ∙ ap (λ t. if t || false then Some (valued_built (codes "evict")) else arg_by_long (valued_built (codes "admit") ∷ valued_built (codes "credits") ∷ valued_built (codes "weights") ∷ events_built ∷ files_built ∷ []) name) v
     ∙ ap (λ t. if t || false then Some (valued_built (codes "admit")) else arg_by_long (valued_built (codes "credits") ∷ valued_built (codes "weights") ∷ events_built ∷ files_built ∷ []) name) a
     ∙ ap (λ t. if t || false then Some (valued_built (codes "credits")) else arg_by_long (valued_built (codes "weights") ∷ events_built ∷ files_built ∷ []) name) c
@@ -101,27 +102,31 @@ none_by name b v a c w e =
     ∙ ap (λ t. if t || false then Some (events_built) else arg_by_long (files_built ∷ []) name) e
 
 pub named : (name : Text) → Named name
-named name = elim (same_or_not (codes "budget") name) [
-  | inl e ↦ known budget e
-  | inr no_budget ↦ elim (same_or_not (codes "evict") name) [
-    | inl e ↦ known evict e
-    | inr no_evict ↦ elim (same_or_not (codes "admit") name) [
-      | inl e ↦ known admit e
-      | inr no_admit ↦ elim (same_or_not (codes "credits") name) [
-        | inl e ↦ known credits e
-        | inr no_credits ↦ elim (same_or_not (codes "weights") name) [
-          | inl e ↦ known weights e
-          | inr no_weights ↦ elim (same_or_not (codes "events") name) [
-            | inl e ↦ is_events e
-            | inr no_events ↦
-                unknown
-                (ap (λ t. t || (bytes_eq (codes "evict") name || (bytes_eq (codes "admit") name || (bytes_eq (codes "credits") name || (bytes_eq (codes "weights") name || false))))) no_budget
-                ∙ ap (λ t. t || (bytes_eq (codes "admit") name || (bytes_eq (codes "credits") name || (bytes_eq (codes "weights") name || false)))) no_evict
-                ∙ ap (λ t. t || (bytes_eq (codes "credits") name || (bytes_eq (codes "weights") name || false))) no_admit
-                ∙ ap (λ t. t || (bytes_eq (codes "weights") name || false)) no_credits
-                ∙ ap (λ t. t || false) no_weights)
-                no_events
-                (none_by name no_budget no_evict no_admit no_credits no_weights no_events)
+named name = elim (same_or_not (codes "workers") name) [
+  | inl e ↦ known workers e
+  | inr no_workers ↦ elim (same_or_not (codes "budget") name) [
+    | inl e ↦ known budget e
+    | inr no_budget ↦ elim (same_or_not (codes "evict") name) [
+      | inl e ↦ known evict e
+      | inr no_evict ↦ elim (same_or_not (codes "admit") name) [
+        | inl e ↦ known admit e
+        | inr no_admit ↦ elim (same_or_not (codes "credits") name) [
+          | inl e ↦ known credits e
+          | inr no_credits ↦ elim (same_or_not (codes "weights") name) [
+            | inl e ↦ known weights e
+            | inr no_weights ↦ elim (same_or_not (codes "events") name) [
+              | inl e ↦ is_events e
+              | inr no_events ↦
+                  unknown
+                  (ap (λ t. t || (bytes_eq (codes "budget") name || (bytes_eq (codes "evict") name || (bytes_eq (codes "admit") name || (bytes_eq (codes "credits") name || (bytes_eq (codes "weights") name || false)))))) no_workers
+                  ∙ ap (λ t. t || (bytes_eq (codes "evict") name || (bytes_eq (codes "admit") name || (bytes_eq (codes "credits") name || (bytes_eq (codes "weights") name || false))))) no_budget
+                  ∙ ap (λ t. t || (bytes_eq (codes "admit") name || (bytes_eq (codes "credits") name || (bytes_eq (codes "weights") name || false)))) no_evict
+                  ∙ ap (λ t. t || (bytes_eq (codes "credits") name || (bytes_eq (codes "weights") name || false))) no_admit
+                  ∙ ap (λ t. t || (bytes_eq (codes "weights") name || false)) no_credits
+                  ∙ ap (λ t. t || false) no_weights)
+                  no_events
+                  (none_by name no_workers no_budget no_evict no_admit no_credits no_weights no_events)
+            ]
           ]
         ]
       ]

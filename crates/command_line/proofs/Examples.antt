@@ -11,8 +11,40 @@ use Rattle.command_line.specs.Words.{uses_of}
 default : options_in (uses_of []) ≡ Some default_options
 default = refl
 
+-- ## Workers
+
+by_two : command_named (codes "run" ∷ codes "--workers" ∷ codes "2" ∷ codes "a" ∷ []) ≡ Some (Run 2 default_options (codes "a" ∷ []))
+by_two = refl
+
+-- without a word 4
+by_four : command_named (codes "run" ∷ codes "a" ∷ []) ≡ Some (Run 4 default_options (codes "a" ∷ []))
+by_four = refl
+
+by_sixteen : command_named (codes "run" ∷ codes "a" ∷ codes "--workers=0016" ∷ []) ≡ Some (Run 16 default_options (codes "a" ∷ []))
+by_sixteen = refl
+
+out_of_workers :
+    (command_named (codes "run" ∷ codes "--workers" ∷ codes "0" ∷ codes "a" ∷ []) ≡ None) × (command_named (codes "run" ∷ codes "--workers" ∷ codes "17" ∷ codes "a" ∷ []) ≡ None)
+out_of_workers = (refl, refl)
+
+workers_twice : command_named (codes "run" ∷ codes "--workers" ∷ codes "2" ∷ codes "--workers=2" ∷ codes "a" ∷ []) ≡ None
+workers_twice = refl
+
+-- a replay has none: the option is refused there, as one that is unknown
+replay_with_workers :
+    (command_named (codes "replay" ∷ codes "--workers" ∷ codes "2" ∷ codes "s" ∷ codes "a" ∷ []) ≡ None)
+    × (command_named (codes "replay" ∷ codes "--unknown" ∷ codes "2" ∷ codes "s" ∷ codes "a" ∷ []) ≡ None)
+replay_with_workers = (refl, refl)
+
+-- but not as a file
+workers_as_file :
+    command_named (codes "replay" ∷ codes "s" ∷ codes "--" ∷ codes "--workers" ∷ []) ≡ Some (Replay default_options (codes "s") (codes "--workers" ∷ []))
+workers_as_file = refl
+
+-- ## Options and files
+
 with_events :
-    command_named (codes "run" ∷ codes "--events" ∷ codes "a.sql" ∷ codes "b.sql" ∷ []) ≡ Some (Run (record default_options { events = true }) (codes "a.sql" ∷ codes "b.sql" ∷ []))
+    command_named (codes "run" ∷ codes "--events" ∷ codes "a.sql" ∷ codes "b.sql" ∷ []) ≡ Some (Run 4 (record default_options { events = true }) (codes "a.sql" ∷ codes "b.sql" ∷ []))
 with_events = refl
 
 -- an option behind a file, and its value behind `=`
@@ -40,12 +72,12 @@ by_weights = refl
 
 -- without a list all weigh 1
 evenly :
-    command_named (codes "run" ∷ codes "--evict=weighted" ∷ codes "a.sql" ∷ []) ≡ Some (Run (record default_options { evict = Weighted; weights = replicate 35 1 }) (codes "a.sql" ∷ []))
+    command_named (codes "run" ∷ codes "--evict=weighted" ∷ codes "a.sql" ∷ []) ≡ Some (Run 4 (record default_options { evict = Weighted; weights = replicate 35 1 }) (codes "a.sql" ∷ []))
 evenly = refl
 
 -- behind `--` all are files
 behind_the_end :
-    command_named (codes "run" ∷ codes "-" ∷ codes "--" ∷ codes "--events" ∷ []) ≡ Some (Run default_options (codes "-" ∷ codes "--events" ∷ []))
+    command_named (codes "run" ∷ codes "-" ∷ codes "--" ∷ codes "--events" ∷ []) ≡ Some (Run 4 default_options (codes "-" ∷ codes "--events" ∷ []))
 behind_the_end = refl
 
 generated : command_named (codes "generate" ∷ codes "0001" ∷ []) ≡ Some (Generate 1)

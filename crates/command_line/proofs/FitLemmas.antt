@@ -1,4 +1,4 @@
--- What the grammar lets through is fit: the budget, the weights and the number of files.
+-- What the grammar lets through is fit: the workers, the budget, the weights and the number of files.
 use Rattle.std.proofs.Common.{◌≡◌, ◌≢◌, ◌==◌, ℕ, ◌^◌, ◌≤◌, List, [], ◌∷◌, map, length, Bool, true, false, cond, ◌&&◌, nat_le, Option, Some, None, IfSome, Result, Ok, Err, IfOk, refl, sym, subst, arith}
 use Rattle.std.specs.Option.{option_map, option_and_then}
 use Rattle.std.specs.List.{AllByRecursion, list_all, slice_split}
@@ -16,7 +16,7 @@ use Rattle.command_line.specs.declared.command.Command.{Command}
 use Rattle.command_line.specs.declared.command.Command.TheVariants.{Run, Replay, Generate}
 use Rattle.command_line.specs.declared.command.RunOptions.{RunOptions}
 use Rattle.command_line.specs.Command as told
-use Rattle.command_line.specs.Command.{AreFit, IsFit, are_files, default_options, ends_here, generate_in, options_in, one_or, run_in, replay_in, replay_of, weights_for}
+use Rattle.command_line.specs.Command.{AreFit, IsFit, are_files, default_options, ends_here, generate_in, options_in, one_or, run_by, run_in, replay_in, replay_of, weights_for, workers_in}
 use Rattle.command_line.specs.Numbers.{is_number, number_in}
 use Rattle.command_line.specs.Weights.{all_given, even_weights, given_in, given_of, operator_named, weight_for, weights_in, weights_of, weights_once, are_distinct}
 use Rattle.command_line.specs.Words.{Text, Uses, name_and_value, uses_named}
@@ -174,15 +174,31 @@ with_files files uses make made = by (are_files files) refl
     by false is = tt
     by true is = map_known IsFit AreFit make (options_in uses) (options_fit uses) (λ options fit. made options fit (passed 1 16 (length files) is))
 
+-- 1 to 16 workers
+abbrev AreWorkers : ℕ → Type 0
+AreWorkers n = passes 1 16 n ≡ true
+
+workers_fit : (uses : Uses) → IfSome (workers_in uses) AreWorkers
+workers_fit uses = one_known AreWorkers 4 (number_in 1 16) uses.workers refl (number_passes 1 16)
+
+run_by_fit : (uses : Uses) (workers : ℕ) → AreWorkers workers → IfSome (run_by uses workers) IsFit
+run_by_fit uses workers is =
+    with_files uses.files uses (λ options. Run workers options uses.files) (λ options fit many. record { options = fit; workers = passed 1 16 workers is; given = many.0; few = many.1 })
+
 run_fit : (uses : Uses) → IfSome (run_in uses) IsFit
-run_fit uses = with_files uses.files uses (λ options. Run options uses.files) (λ options fit many. record { options = fit; given = many.0; few = many.1 })
+run_fit uses = then_known IsFit AreWorkers (run_by uses) (workers_in uses) (workers_fit uses) (run_by_fit uses)
 
 replay_fit : (uses : Uses) → IfSome (replay_in uses) IsFit
-replay_fit uses = by uses.files
+replay_fit uses = by (length uses.workers == 0)
   where
-    by : (files : List Text) → IfSome (replay_of uses files) IsFit
-    by [] = tt
-    by (schedule ∷ files) = with_files files uses (λ options. Replay options schedule files) (λ options fit many. record { options = fit; given = many.0; few = many.1 })
+    of_files : (files : List Text) → IfSome (replay_of uses files) IsFit
+    of_files [] = tt
+    of_files (schedule ∷ files) =
+        with_files files uses (λ options. Replay options schedule files) (λ options fit many. record { options = fit; workers = tt; given = many.0; few = many.1 })
+
+    by : (none : Bool) → IfSome (cond none (replay_of uses uses.files) None) IsFit
+    by true = of_files uses.files
+    by false = tt
 
 default_fit : AreFit default_options
 default_fit = record { budget = omega arith; weighted = λ is. absurd (cc); plain = λ other. refl }
@@ -195,7 +211,7 @@ generated_fit (word ∷ words) = by (ends_here words)
     by : (ends : Bool) → IfSome (cond ends (option_map Generate (number_in 1 1000000 word)) None) IsFit
     by false = tt
     by true = map_known IsFit (λ n. passes 1 1000000 n ≡ true) Generate (number_in 1 1000000 word) (number_passes 1 1000000 word)
-        (λ seed within. record { options = default_fit; given = passed 1 1000000 seed within; few = omega arith })
+        (λ seed within. record { options = default_fit; workers = tt; given = passed 1 1000000 seed within; few = omega arith })
 
 -- a result that is one of these commands is fit
 pub fit_from : {E : Type 0} (result : Result (Option Command) E) (command : Option Command) → IfOk result (λ got. got ≡ command) → IfSome command IsFit → IfOk result (λ got. IfSome got IsFit)

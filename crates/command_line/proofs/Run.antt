@@ -56,7 +56,7 @@ found_under matches items name rows =
 
 same_uses : (matches : ArgMatches) (items : List Item) → ((name : Text) → values_in matches name ≡ values_of name items) → uses_in matches ≡ uses_of items
 same_uses matches items each =
-    rw (each (codes "budget"), each (codes "evict"), each (codes "admit"), each (codes "credits"), each (codes "weights"), each (codes "events"), each (codes "files")) refl
+    rw (each (codes "workers"), each (codes "budget"), each (codes "evict"), each (codes "admit"), each (codes "credits"), each (codes "weights"), each (codes "events"), each (codes "files")) refl
 
 -- where it succeeds
 pub found_is : (app : App) (texts : List (Bor Text)) (matches : ArgMatches) → app ≡ told_app → AreUtf8 texts

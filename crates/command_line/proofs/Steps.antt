@@ -7,7 +7,7 @@ use Rattle.clap.specs.Walk.{Held, Row, Rule, Walk, finished, is_empty, has_row, 
 use Rattle.clap.specs.Faults.{check_fault, default_fault, defaults_fault, given_default_fault, settle_fault, turn_fault, walk_fault}
 use Rattle.clap.specs.Kinds.{Kinds, or_else}
 use Rattle.command_line.specs.Words.{Item, Text, and_more, events, file, is_end, is_option, is_valued, items_in, option_in, use_of}
-use Rattle.command_line.proofs.Walk.{Name, Pending, a_file, add, admit, all_rows, at, at_option, budget, credits, evict, fails_first, held_at, held_for, id_of, rules, settle_faultless, settle_missing, settled_is, shape, trailing_turn, trailing_walked, weights}
+use Rattle.command_line.proofs.Walk.{Name, Pending, a_file, add, admit, all_rows, at, at_option, budget, credits, evict, fails_first, held_at, held_for, id_of, rules, settle_faultless, settle_missing, settled_is, shape, trailing_turn, trailing_walked, weights, workers}
 use Rattle.command_line.proofs.Waits as waits
 
 -- ## The end of the words
@@ -17,7 +17,7 @@ NoDefaults [] = Unit {0}
 NoDefaults (a ∷ others) = (a.defaults ≡ []) × NoDefaults others
 
 no_defaults : NoDefaults rules
-no_defaults = (refl, (refl, (refl, (refl, (refl, (refl, (refl, tt)))))))
+no_defaults = (refl, (refl, (refl, (refl, (refl, (refl, (refl, (refl, tt))))))))
 
 same : (b : Bool) (rows : List Row) → (if b then rows else rows) ≡ rows
 same true rows = refl
@@ -126,6 +126,7 @@ trailing_fails rows name (word ∷ words) = fails (waits.at_end rows name) word 
 -- ## What the grammar says of a word
 
 pub use_known : (more : Option Text → Option (List Item)) (name : Name) → use_of more (id_of name, None) ≡ more (Some (id_of name))
+use_known more workers = refl
 use_known more budget = refl
 use_known more evict = refl
 use_known more admit = refl
@@ -133,6 +134,7 @@ use_known more credits = refl
 use_known more weights = refl
 
 pub use_joined : (more : Option Text → Option (List Item)) (name : Name) (v : Text) → use_of more (id_of name, Some v) ≡ and_more (id_of name, v) (more None)
+use_joined more workers v = refl
 use_joined more budget v = refl
 use_joined more evict v = refl
 use_joined more admit v = refl

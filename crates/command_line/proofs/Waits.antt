@@ -6,7 +6,7 @@ use Rattle.clap.specs.Walk.{is_empty, Held, Row, Walk, option, next, idle, trail
 use Rattle.clap.specs.Faults.{turn_fault, word_fault, long_fault, flag_word_fault, flags_fault, bundle_fault, bundle_step_fault, step_fault}
 use Rattle.clap.specs.Kinds.{Kinds, or_else}
 use Rattle.command_line.specs.Words.{Text, is_end}
-use Rattle.command_line.proofs.Walk.{IsBundle, IsPlain, LongWord, Name, admit, an_option, apart_fault, at, at_option, budget, credits, events_fault, evict, fails_first, held_at, held_for, id_of, joined_fault, rules, settle_missing, shape, walk_at, weights}
+use Rattle.command_line.proofs.Walk.{IsBundle, IsPlain, LongWord, Name, admit, an_option, apart_fault, at, at_option, budget, credits, events_fault, evict, fails_first, held_at, held_for, id_of, joined_fault, rules, settle_missing, shape, walk_at, weights, workers}
 
 abbrev fault_for : Name → Text → Held → Kinds
 fault_for name word held = word_fault shape [] false (option (id_of name)) word held
@@ -24,6 +24,7 @@ plain_fault name word held plain =
     ∙ ap (λ s. option_map_or (λ flags. bundle_fault rules false flags held) s []) plain.no_short
 
 taken : (rows : List Row) (name : Name) (word : Text) → short_or_plain rules (option (id_of name)) word None (held_for rows name) ≡ (held_at rows (an_option name word), next idle)
+taken rows workers word = refl
 taken rows budget word = refl
 taken rows evict word = refl
 taken rows admit word = refl
@@ -108,6 +109,7 @@ end_walked rows name word e =
     (ap (λ b. if b then (held_for rows name, trailing 1) else long_or_other rules (option (id_of name)) word (long_of word) (held_for rows name)) e)
 
 pub trailing_fails : (rows : List Row) (name : Name) (word : Text) → is_empty (turn_fault shape [] (at_end rows name) word) ≡ false
+trailing_fails rows workers word = refl
 trailing_fails rows budget word = refl
 trailing_fails rows evict word = refl
 trailing_fails rows admit word = refl

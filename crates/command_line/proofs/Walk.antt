@@ -25,7 +25,12 @@ events_built = record (flag_rule (codes "events")) { parser = Some String }
 
 abbrev pub rules : List Rule
 rules =
-    valued_built (codes "budget") ∷ valued_built (codes "evict") ∷ valued_built (codes "admit") ∷ valued_built (codes "credits") ∷ valued_built (codes "weights")
+    valued_built (codes "workers")
+    ∷ valued_built (codes "budget")
+    ∷ valued_built (codes "evict")
+    ∷ valued_built (codes "admit")
+    ∷ valued_built (codes "credits")
+    ∷ valued_built (codes "weights")
     ∷ events_built
     ∷ files_built
     ∷ []
@@ -38,6 +43,7 @@ built_told = refl
 
 -- the options that have a value
 pub data Name : Type 0 where
+  workers : Name
   budget : Name
   evict : Name
   admit : Name
@@ -45,6 +51,7 @@ pub data Name : Type 0 where
   weights : Name
 
 abbrev pub id_of : Name → Text
+id_of workers = codes "workers"
 id_of budget = codes "budget"
 id_of evict = codes "evict"
 id_of admit = codes "admit"
@@ -99,6 +106,7 @@ at_option rows name = walk_at (option (id_of name)) (held_for rows name) false
 pub settled_is : (rows : List Row) (pending : Pending) → settled rules (held_at rows pending) ≡ held_at (all_rows rows pending) nothing
 settled_is rows nothing = refl
 settled_is rows (a_file word) = refl
+settled_is rows (an_option workers word) = refl
 settled_is rows (an_option budget word) = refl
 settled_is rows (an_option evict word) = refl
 settled_is rows (an_option admit word) = refl
@@ -108,6 +116,7 @@ settled_is rows (an_option weights word) = refl
 pub settle_faultless : (rows : List Row) (pending : Pending) → settle_fault rules false (held_at rows pending) ≡ []
 settle_faultless rows nothing = refl
 settle_faultless rows (a_file word) = refl
+settle_faultless rows (an_option workers word) = refl
 settle_faultless rows (an_option budget word) = refl
 settle_faultless rows (an_option evict word) = refl
 settle_faultless rows (an_option admit word) = refl
@@ -115,6 +124,7 @@ settle_faultless rows (an_option credits word) = refl
 settle_faultless rows (an_option weights word) = refl
 
 pub settle_missing : (rows : List Row) (name : Name) → settle_fault rules false (held_for rows name) ≡ InvalidValue ∷ []
+settle_missing rows workers = refl
 settle_missing rows budget = refl
 settle_missing rows evict = refl
 settle_missing rows admit = refl
@@ -126,6 +136,7 @@ settle_missing rows weights = refl
 file_turn : (rows : List Row) (pending : Pending) (word : Text) (is_trailing : Bool) → step_fault shape 1 (held_at rows pending) value ≡ []
 file_turn rows nothing word is_trailing = refl
 file_turn rows (a_file last) word is_trailing = refl
+file_turn rows (an_option workers last) word is_trailing = refl
 file_turn rows (an_option budget last) word is_trailing = refl
 file_turn rows (an_option evict last) word is_trailing = refl
 file_turn rows (an_option admit last) word is_trailing = refl
@@ -138,6 +149,8 @@ file_walked rows nothing word true = refl
 file_walked rows nothing word false = refl
 file_walked rows (a_file last) word true = refl
 file_walked rows (a_file last) word false = refl
+file_walked rows (an_option workers last) word true = refl
+file_walked rows (an_option workers last) word false = refl
 file_walked rows (an_option budget last) word true = refl
 file_walked rows (an_option budget last) word false = refl
 file_walked rows (an_option evict last) word true = refl
@@ -246,6 +259,7 @@ long_meets b word p held is = opened b word held is.0 ∙ ap (λ l. long_or_othe
 
 -- an option with the value behind its `=`
 pub joined_fault : (name : Name) (v : Text) (held : Held) → long_fault rules false (arg_by_long rules (id_of name)) (Some v) held ≡ or_else (settle_fault rules false held) []
+joined_fault workers v held = refl
 joined_fault budget v held = refl
 joined_fault evict v held = refl
 joined_fault admit v held = refl
@@ -254,6 +268,7 @@ joined_fault weights v held = refl
 
 joined_met : (name : Name) (v : Text) (held : Held)
     → long_met rules (arg_by_long rules (id_of name)) (Some v) held ≡ (record held { rows = add (settled rules held).rows (id_of name, v); pending = None }, done)
+joined_met workers v held = refl
 joined_met budget v held = refl
 joined_met evict v held = refl
 joined_met admit v held = refl
@@ -262,6 +277,7 @@ joined_met weights v held = refl
 
 -- an option that waits for its value
 pub apart_fault : (name : Name) (held : Held) → long_fault rules false (arg_by_long rules (id_of name)) None held ≡ settle_fault rules false held
+apart_fault workers held = refl
 apart_fault budget held = refl
 apart_fault evict held = refl
 apart_fault admit held = refl
@@ -270,6 +286,7 @@ apart_fault weights held = refl
 
 apart_met : (name : Name) (held : Held)
     → long_met rules (arg_by_long rules (id_of name)) None held ≡ (record (settled rules held) { pending = Some (id_of name, []) }, waits (id_of name))
+apart_met workers held = refl
 apart_met budget held = refl
 apart_met evict held = refl
 apart_met admit held = refl

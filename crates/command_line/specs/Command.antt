@@ -1,5 +1,5 @@
 -- The commands that words name.
-use Rattle.std.specs.Prelude.{◌≡◌, ◌≢◌, ℕ, ◌^◌, ◌≤◌, List, [], ◌∷◌, length, Bool, true, false, ◌&&◌, nat_le, if◌then◌else◌, bytes_eq, Option, Some, None, codes}
+use Rattle.std.specs.Prelude.{◌≡◌, ◌≢◌, ℕ, ◌^◌, ◌≤◌, ◌==◌, List, [], ◌∷◌, length, Bool, true, false, ◌&&◌, nat_le, if◌then◌else◌, bytes_eq, Option, Some, None, codes}
 use Rattle.std.specs.Option.{option_map, option_and_then}
 use Rattle.score_hook.specs.declared.stats.Evict.{Evict}
 use Rattle.score_hook.specs.declared.stats.Evict.TheVariants.{Lru, Benefit, History, Weighted}
@@ -63,17 +63,25 @@ options_in uses =
 abbrev pub are_files : List Text → Bool
 are_files files = nat_le 1 (length files) && nat_le (length files) 16
 
--- `run`: all words that are no options are files
+-- how many workers a query has
+abbrev pub workers_in : Uses → Option ℕ
+workers_in uses = one_or 4 (number_in 1 16) uses.workers
+
+-- `run` by so many workers: all words that are no options are files
+abbrev pub run_by : Uses → ℕ → Option Command
+run_by uses workers = if are_files uses.files then option_map (λ options. Run workers options uses.files) (options_in uses) else None
+
 abbrev pub run_in : Uses → Option Command
-run_in uses = if are_files uses.files then option_map (λ options. Run options uses.files) (options_in uses) else None
+run_in uses = option_and_then (run_by uses) (workers_in uses)
 
 -- `replay`: the first of them is the schedule
 abbrev pub replay_of : Uses → List Text → Option Command
 replay_of uses [] = None
 replay_of uses (schedule ∷ files) = if are_files files then option_map (λ options. Replay options schedule files) (options_in uses) else None
 
+-- a replay has no workers: there `--workers` is outside the grammar, like any unknown option
 abbrev pub replay_in : Uses → Option Command
-replay_in uses = replay_of uses uses.files
+replay_in uses = if length uses.workers == 0 then replay_of uses uses.files else None
 
 -- no further word, but for an `--` that has no file behind it
 abbrev pub ends_here : List Text → Bool
@@ -101,12 +109,12 @@ abbrev pub default_options : RunOptions
 default_options = record { budget = 16777216; evict = Lru; admit = All; credits = 3; weights = []; events = false }
 
 abbrev pub options_of : Command → RunOptions
-options_of (Run options files) = options
+options_of (Run workers options files) = options
 options_of (Replay options schedule files) = options
 options_of (Generate seed) = default_options
 
 abbrev pub files_of : Command → List Text
-files_of (Run options files) = files
+files_of (Run workers options files) = files
 files_of (Replay options schedule files) = files
 files_of (Generate seed) = []
 
@@ -118,12 +126,19 @@ pub record AreFit (options : RunOptions) : Type 0 where
 
 -- a file, or a number from 1 to 1,000,000
 abbrev pub IsGiven : Command → Type 0
-IsGiven (Run options files) = 1 ≤ length files
+IsGiven (Run workers options files) = 1 ≤ length files
 IsGiven (Replay options schedule files) = 1 ≤ length files
 IsGiven (Generate seed) = (1 ≤ seed) × (seed ≤ 1000000)
 
--- a command with such options, which is given something to work on, and at most 16 files
+-- 1 to 16 workers, where the command has them
+abbrev pub HasWorkers : Command → Type 0
+HasWorkers (Run workers options files) = (1 ≤ workers) × (workers ≤ 16)
+HasWorkers (Replay options schedule files) = Unit {0}
+HasWorkers (Generate seed) = Unit {0}
+
+-- a command with such options and workers, which is given something to work on, and at most 16 files
 pub record IsFit (command : Command) : Type 0 where
   pub options : AreFit (options_of command)
+  pub workers : HasWorkers command
   pub given : IsGiven command
   pub few : length (files_of command) ≤ 16

@@ -32,13 +32,13 @@ bare_app = record (new_app (codes "run")) {
   top = record (new_app (codes "run")).top { no_binary_name = true; disable_help_flag = true; disable_version_flag = true };
 }
 
--- with the first options of the pool
-abbrev pub pool_app : App
-pool_app = with_rule (with_rule (with_rule bare_app (valued_rule (codes "budget"))) (valued_rule (codes "evict"))) (valued_rule (codes "admit"))
+-- with the first options that have a value
+abbrev pub first_app : App
+first_app = with_rule (with_rule (with_rule bare_app (valued_rule (codes "workers"))) (valued_rule (codes "budget"))) (valued_rule (codes "evict"))
 
 -- with all options that have a value
 abbrev pub valued_app : App
-valued_app = with_rule (with_rule pool_app (valued_rule (codes "credits"))) (valued_rule (codes "weights"))
+valued_app = with_rule (with_rule (with_rule first_app (valued_rule (codes "admit"))) (valued_rule (codes "credits"))) (valued_rule (codes "weights"))
 
 -- the command with its arguments
 abbrev pub told_app : App
@@ -51,6 +51,7 @@ values_in matches name = unwrap_or (option_map raw_values (matched_of (found_of 
 -- and under each name
 abbrev pub uses_in : ArgMatches → Uses
 uses_in matches = record {
+  workers = values_in matches (codes "workers");
   budget = values_in matches (codes "budget");
   evict = values_in matches (codes "evict");
   admit = values_in matches (codes "admit");

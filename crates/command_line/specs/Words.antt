@@ -37,7 +37,7 @@ option_in word = option_map name_and_value (option_and_then behind_hyphen (behin
 
 -- the options that have a value
 abbrev pub valued : List Text
-valued = codes "budget" ∷ codes "evict" ∷ codes "admit" ∷ codes "credits" ∷ codes "weights" ∷ []
+valued = codes "workers" ∷ codes "budget" ∷ codes "evict" ∷ codes "admit" ∷ codes "credits" ∷ codes "weights" ∷ []
 
 -- it is the name of an option that has a value
 abbrev pub is_valued : Text → Bool
@@ -83,6 +83,7 @@ values_of name items = map (λ item. item.1) (filter (λ item. bytes_eq item.0 n
 
 -- the values under each name
 pub record Uses : Type 0 where
+  pub workers : List Text
   pub budget : List Text
   pub evict : List Text
   pub admit : List Text
@@ -93,6 +94,7 @@ pub record Uses : Type 0 where
 
 abbrev pub uses_of : List Item → Uses
 uses_of items = record {
+  workers = values_of (codes "workers") items;
   budget = values_of (codes "budget") items;
   evict = values_of (codes "evict") items;
   admit = values_of (codes "admit") items;

@@ -6,7 +6,7 @@ ghost use Rattle.command_line.specs.Told.{AreUtf8, texts_in, uses_in};
 ghost use Rattle.command_line.specs.Words.{uses_named};
 
 use crate::numbers::number_between;
-use crate::options::options_of;
+use crate::options::{options_of, workers_of};
 use crate::told::{found, values};
 use cell_core::{Memory, Sequence, Word, word_of};
 use clap::ArgMatches;
@@ -39,6 +39,8 @@ pub struct RunOptions {
 pub enum Command {
     /// Runs the scripts in these files.
     Run {
+        /// How many workers a query has, 1 to 16.
+        workers: u32,
         /// The options.
         options: RunOptions,
         /// The files, 1 to 16.
@@ -137,10 +139,13 @@ fn ends_here(words: &[Word]) -> bool
     }
 }
 
-/// `run` with these options and files.
+/// `run` with these workers, options and files.
 fn run_from(alloc: Global, matches: &ArgMatches) -> Result<Option<Command>, Memory>
     ensures { IfOk result (λ command. command ≡ run_in (uses_in matches.now)) }
 {
+    let Some(workers) = workers_of(alloc, matches)? else {
+        return Ok(None);
+    };
     let texts = values(alloc, matches, "files")?;
     if !are_files(texts.as_slice()) {
         return Ok(None);
@@ -149,13 +154,21 @@ fn run_from(alloc: Global, matches: &ArgMatches) -> Result<Option<Command>, Memo
         return Ok(None);
     };
     let files = words_of(alloc, texts.as_slice())?;
-    Ok(Some(Command::Run { options, files }))
+    Ok(Some(Command::Run {
+        workers,
+        options,
+        files,
+    }))
 }
 
-/// `replay` with these options, schedule and files.
+/// `replay` with these options, schedule and files. It has no workers, so no word may name them.
 fn replay_from(alloc: Global, matches: &ArgMatches) -> Result<Option<Command>, Memory>
     ensures { IfOk result (λ command. command ≡ replay_in (uses_in matches.now)) }
 {
+    let workers = values(alloc, matches, "workers")?;
+    if !workers.is_empty() {
+        return Ok(None);
+    }
     let all = values(alloc, matches, "files")?;
     let [first, texts @ ..] = all.as_slice() else {
         return Ok(None);

@@ -6,10 +6,12 @@
 //! `specs/Weights.antt` are those of the options' values, and `specs/Command.antt` says what they mean, and
 //! which word `generate` takes.
 //! `command_of` gives exactly the command that words name, and what it gives is fit for a pool and its
-//! scorer. What clap makes of the words is taken from its own contract: it is told that each option may be
+//! scorer, and `run` has 1 to 16 workers.
+//! What clap makes of the words is taken from its own contract: it is told that each option may be
 //! used again, so that it gives all the values under each name, and that each stands at most once is for the
-//! reader of those values. `proofs/` shows, by one step of clap's walk for each class of words, that clap
-//! takes exactly the words of the grammar.
+//! reader of those values. It is told of the same options for `run` and `replay`; that `--workers` is none of
+//! `replay` is for that reader, too. `proofs/` shows, by one step of clap's walk for each class of words, that
+//! clap takes exactly the words of the grammar.
 #![tactic(auto)]
 
 mod command;

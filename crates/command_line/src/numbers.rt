@@ -1,5 +1,5 @@
 //! The numbers among the values of options.
-ghost use Rattle.std.specs.Prelude.{◌≡◌};
+ghost use Rattle.std.specs.Prelude.{◌≡◌, ◌≤◌, IfSome};
 ghost use Rattle.std.specs.List.{list_all};
 ghost use Rattle.text_bytes.specs.Classes.{is_digit};
 ghost use Rattle.command_line.specs.Numbers as numbers;
@@ -12,7 +12,8 @@ const MOST_DIGITS: usize = 20;
 
 /// The number that a text is, if it is one in this range.
 pub(crate) fn number_between(text: &str, low: u64, high: u64) -> Option<u64>
-    ensures { result ≡ number_in low high text.now }
+    ensures number { result ≡ number_in low high text.now }
+    ensures within { IfSome result (λ number. (low ≤ number) × (number ≤ high)) }
 {
     if !is_number(text.as_bytes()) {
         return None;

@@ -15,6 +15,12 @@ use pool_policy::Admit;
 use score_hook::Evict;
 use std::alloc::Global;
 
+/// How many workers a query has where no word says it.
+const DEFAULT_WORKERS: u32 = 4;
+
+/// The most workers of a query.
+const MOST_WORKERS: u64 = 16;
+
 /// The options where no word names one.
 pub fn default_options(alloc: Global) -> RunOptions
     ensures { result ≡ told.default_options }
@@ -70,6 +76,36 @@ pub(crate) fn options_of(alloc: Global, matches: &ArgMatches) -> Result<Option<R
         weights,
         events,
     }))
+}
+
+/// How many workers a query has, if that is said at most once and its value is a number of them.
+pub(crate) fn workers_of(alloc: Global, matches: &ArgMatches) -> Result<Option<u32>, Memory>
+    ensures { IfOk result (λ workers. workers ≡ told.workers_in (uses_in matches.now)) }
+{
+    let texts = values(alloc, matches, "workers")?;
+    Ok(one_count(texts.as_slice()))
+}
+
+/// The one number of workers, or what stands for none.
+fn one_count(texts: &[&str]) -> Option<u32>
+    ensures { result ≡ told.one_or 4 (number_in 1 16) (texts_in texts.now) }
+{
+    match texts {
+        [] => Some(DEFAULT_WORKERS),
+        [text, more @ ..] => match more {
+            [] => count_named(text),
+            [_, ..] => None,
+        },
+    }
+}
+
+fn count_named(text: &str) -> Option<u32>
+    ensures { result ≡ number_in 1 16 text.now }
+{
+    match number_between(text, 1, MOST_WORKERS) {
+        Some(count) => Some(count as u32),
+        None => None,
+    }
 }
 
 /// The one number, or what stands for none.

@@ -1,7 +1,7 @@
 //! The options and files as clap is told of them, and what clap finds in the words.
 ghost use Rattle.std.specs.Prelude.{◌≡◌, IfOk, codes, false, option_map};
 ghost use Rattle.clap.specs.Words.{app_of, rule_of};
-ghost use Rattle.command_line.specs.Told.{AreUtf8, bare_app, files_rule, flag_rule, pool_app, texts_in, told_app, uses_in, valued_app, valued_rule, values_in};
+ghost use Rattle.command_line.specs.Told.{AreUtf8, bare_app, files_rule, first_app, flag_rule, texts_in, told_app, uses_in, valued_app, valued_rule, values_in};
 ghost use Rattle.command_line.specs.Words.{uses_named};
 
 use cell_core::Memory;
@@ -47,21 +47,22 @@ fn bare<'a>(alloc: Global) -> Command<'a>
         .disable_version_flag(true)
 }
 
-/// The command with the first options of the pool.
-fn pool_command<'a>(alloc: Global) -> Result<Command<'a>, AllocError>
-    ensures { IfOk result (λ command. app_of command ≡ pool_app) }
+/// The command with the first options that have a value.
+fn first_command<'a>(alloc: Global) -> Result<Command<'a>, AllocError>
+    ensures { IfOk result (λ command. app_of command ≡ first_app) }
 {
     bare(alloc)
+        .arg(valued(alloc, "workers"))?
         .arg(valued(alloc, "budget"))?
-        .arg(valued(alloc, "evict"))?
-        .arg(valued(alloc, "admit"))
+        .arg(valued(alloc, "evict"))
 }
 
 /// The command with all options that have a value.
 fn valued_command<'a>(alloc: Global) -> Result<Command<'a>, AllocError>
     ensures { IfOk result (λ command. app_of command ≡ valued_app) }
 {
-    pool_command(alloc)?
+    first_command(alloc)?
+        .arg(valued(alloc, "admit"))?
         .arg(valued(alloc, "credits"))?
         .arg(valued(alloc, "weights"))
 }

@@ -361,10 +361,10 @@ impl Operate for Counting {
         args: &[Obj],
         steps: &mut Steps<L>,
     ) -> Result<Obj, RunError> {
-        if self.most <= self.calls.load(Ordering::SeqCst) {
+        if self.most <= self.calls.fetch_add(1, Ordering::SeqCst) {
+            let _ = self.calls.fetch_sub(1, Ordering::SeqCst);
             return Err(RunError::Memory);
         }
-        let _ = self.calls.fetch_add(1, Ordering::SeqCst);
         Kernel::new().run(alloc, op, args, steps)
     }
 }
@@ -416,17 +416,18 @@ fn run_counted<L: Ledger, R: Threads + Wait + Sync>(
     ))
 }
 
-/// The same over one script.
+/// The same over one script, whose queries are run by so many workers.
 fn counted<R: Threads + Wait + Sync>(
     rt: &R,
     alloc: Global,
+    workers: &str,
     script: &str,
     most: u64,
 ) -> Result<(u8, u128, u64), Memory> {
     run_counted::<Brand, _>(
         rt,
         alloc,
-        &["run", "a.sql"],
+        &["run", "--workers", workers, "a.sql"],
         &[("a.sql", script)],
         most,
         Blank::new(1),
@@ -462,10 +463,12 @@ fn a_query_runs_as_its_plan_once(rt: HostRuntime) -> Result<(), Fail> {
     let alloc = rt.alloc();
     // select, mirror, markT, reverse and join, once each: the bind is no call of the kernel, and all is
     // found the second time
-    let served = counted(&rt, alloc, ASKED_TWICE, 5)?;
-    assert_eq!(rt; served, (0, 27, 5));
-    let given_up = counted(&rt, alloc, ASKED_TWICE, 4)?;
-    assert_eq!(rt; given_up, (5, 0, 4));
+    for workers in ["1", "2"] {
+        let served = counted(&rt, alloc, workers, ASKED_TWICE, 5)?;
+        assert_eq!(rt; served, (0, 27, 5));
+        let given_up = counted(&rt, alloc, workers, ASKED_TWICE, 4)?;
+        assert_eq!(rt; given_up, (5, 0, 4));
+    }
     let served = replayed(&rt, alloc, THREE, ASKED_AGAIN, 5)?;
     assert_eq!(rt; served, (0, 27, 5));
     let given_up = replayed(&rt, alloc, THREE, ASKED_AGAIN, 4)?;
@@ -481,9 +484,9 @@ fn changes_run_as_their_plans(rt: HostRuntime) -> Result<(), Fail> {
     let alloc = rt.alloc();
     // DELETE: a bind of 3 pairs, then select, mirror, markT and reverse: 3 + 5 + 4 + 4 + 4 of work;
     // UPDATE: a bind of 1 pair, then mirror, markT, reverse, join and +: 1 + 2 + 2 + 2 + 3 + 2
-    let served = counted(&rt, alloc, DELETE_AND_UPDATE, 9)?;
+    let served = counted(&rt, alloc, "2", DELETE_AND_UPDATE, 9)?;
     assert_eq!(rt; served, (0, 32, 9));
-    let given_up = counted(&rt, alloc, DELETE_AND_UPDATE, 8)?;
+    let given_up = counted(&rt, alloc, "2", DELETE_AND_UPDATE, 8)?;
     assert_eq!(rt; given_up, (5, 0, 8));
     Ok(())
 }

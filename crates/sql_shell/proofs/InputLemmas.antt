@@ -66,38 +66,38 @@ module _ (bytes now : List ℕ → Option (List ℕ)) (same : (other : List ℕ)
 
   -- what is told of the schedule's file stays as the scripts are read
   pub course_before : (command : Command) (course : Course) → IsCourse now command course → IsCourse bytes command course
-  course_before (Run options files) course is = is
+  course_before (Run workers options files) course is = is
   course_before (Replay options schedule files) course (text, turns, is, told, of) = (text, turns, is, text_before schedule text told, of)
   course_before (Generate seed) course is = is
 
   pub wrong_before : (command : Command) (status at : ℕ) → IsWrongSchedule now command status at → IsWrongSchedule bytes command status at
-  wrong_before (Run options files) status at is = is
+  wrong_before (Run workers options files) status at is = is
   wrong_before (Replay options schedule files) status at is = (is.0, text_before schedule is.0 is.1, is.2)
   wrong_before (Generate seed) status at is = is
 
 module _ (bytes : List ℕ → Option (List ℕ)) where
   -- the first script that isn't run is wrong first
   pub scripts_wrong : (command : Command) (status at : ℕ) → (texts : List (List ℕ)) → AreTexts bytes (files_of command) texts → IsFirstUnfit 1 texts status at → IsFirstWrong bytes command status at
-  scripts_wrong (Run options files) status at texts told first = (texts, told, first)
+  scripts_wrong (Run workers options files) status at texts told first = (texts, told, first)
   scripts_wrong (Replay options schedule files) status at texts told first = (texts, told, inl first)
   scripts_wrong (Generate seed) status at [] told first = first
   scripts_wrong (Generate seed) status at (text ∷ texts) told first = absurd told
 
   -- behind scripts that were read it is the schedule
   pub schedule_wrong : (command : Command) (scripts : List Script) (status at : ℕ) → AreCut bytes (files_of command) scripts → IsWrongSchedule bytes command status at → IsFirstWrong bytes command status at
-  schedule_wrong (Run options files) scripts status at are wrong = absurd wrong
+  schedule_wrong (Run workers options files) scripts status at are wrong = absurd wrong
   schedule_wrong (Replay options schedule files) scripts status at are wrong = let of = are_of bytes files scripts are in (of.texts, of.told, inr (of.runnable, wrong))
   schedule_wrong (Generate seed) scripts status at are wrong = absurd wrong
 
   -- a fault at a script, and at the schedule
   pub scripts_reached : (command : Command) (at : ℕ) → at ≤ length (files_of command) → (1 ≤ at) × CanBeRun bytes (take (at - 1) (files_of command)) → IsReached bytes command at
-  scripts_reached (Run options files) at within reached = reached
+  scripts_reached (Run workers options files) at within reached = reached
   scripts_reached (Replay options schedule files) zero within reached = absurd (let low = reached.0 in omega (arith, low))
   scripts_reached (Replay options schedule files) (suc at) within reached = let back : suc at - 1 ≡ at = omega arith in subst (λ n. CanBeRun bytes (take n files)) back reached.1
   scripts_reached (Generate seed) at within reached = absurd (let low = reached.0 in omega (arith, low, within))
 
   pub schedule_reached : (command : Command) (scripts : List Script) (at : ℕ) → AreCut bytes (files_of command) scripts → IsReplay command → at ≡ 0 → IsReached bytes command at
-  schedule_reached (Run options files) scripts at are replay none = absurd replay
+  schedule_reached (Run workers options files) scripts at are replay none = absurd replay
   schedule_reached (Replay options schedule files) scripts at are replay none = subst (IsReached bytes (Replay options schedule files)) (sym none) (can_be_run bytes files scripts are)
   schedule_reached (Generate seed) scripts at are replay none = absurd replay
 
@@ -105,7 +105,7 @@ module _ (bytes : List ℕ → Option (List ℕ)) where
 
   -- what was read isn't told to be wrong
   pub read_not_wrong : (command : Command) (scripts : List Script) (course : Course) (status at : ℕ) → AreCut bytes (files_of command) scripts → IsCourse bytes command course → IsToldWrong bytes command status at → ⊥
-  read_not_wrong (Run options files) scripts course status at are of told = none_unfit bytes 1 files told.0 scripts status at are told.1 told.2
+  read_not_wrong (Run workers options files) scripts course status at are of told = none_unfit bytes 1 files told.0 scripts status at are told.1 told.2
   read_not_wrong (Replay options schedule files) scripts course status at are of (inl told) = none_unfit bytes 1 files told.0 scripts status at are told.1 told.2
   read_not_wrong (Replay options schedule files) scripts course status at are (text, turns, is, said, of) (inr told) =
       good_not_bad (length files) told.1.0 turns status at
@@ -114,7 +114,7 @@ module _ (bytes : List ℕ → Option (List ℕ)) where
 
   -- what is wrong first is what is told to be
   same_wrong : (command : Command) (s a status at : ℕ) → IsFirstWrong bytes command s a → IsToldWrong bytes command status at → (s ≡ status) × (a ≡ at)
-  same_wrong (Run options files) s a status at first told = same_first bytes 1 files first.0 told.0 s a status at first.1 told.1 first.2 told.2
+  same_wrong (Run workers options files) s a status at first told = same_first bytes 1 files first.0 told.0 s a status at first.1 told.1 first.2 told.2
   same_wrong (Replay options schedule files) s a status at (texts, are, inl first) (inl told) = same_first bytes 1 files texts told.0 s a status at are told.1 first told.2
   same_wrong (Replay options schedule files) s a status at (texts, are, inl first) (inr told) = absurd (all_fit bytes 1 files texts told.0.0 s a are told.0.1 told.0.2 told.0.3 first)
   same_wrong (Replay options schedule files) s a status at (texts, are, inr last) (inl told) = absurd (runnable_not bytes 1 files texts told.0 status at are last.0 told.1 told.2)
@@ -125,7 +125,7 @@ module _ (bytes : List ℕ → Option (List ℕ)) where
 
   -- where all is told to be right, nothing is wrong
   right_not_wrong : (command : Command) (s a : ℕ) → IsToldRight bytes command → IsFirstWrong bytes command s a → ⊥
-  right_not_wrong (Run options files) s a right first = all_fit bytes 1 files first.0 right.0 s a first.1 right.1 right.2 right.3 first.2
+  right_not_wrong (Run workers options files) s a right first = all_fit bytes 1 files first.0 right.0 s a first.1 right.1 right.2 right.3 first.2
   right_not_wrong (Replay options schedule files) s a right (texts, are, inl first) = all_fit bytes 1 files texts right.0.0 s a are right.0.1 right.0.2 right.0.3 first
   right_not_wrong (Replay options schedule files) s a right (texts, are, inr last) =
       good_not_bad (length files) right.1.0 right.1.1 s a right.1.3

@@ -8,7 +8,7 @@ use Rattle.sql_shell.specs.Served.{IsRun}
 
 -- a command is answered by this text, with this log: a run or a replay by what is printed of its scripts, and `generate` by what is written of those of its number; while the counter goes from here to there
 abbrev pub IsAnswered : (List ℕ → Option (List ℕ)) → Command → List ℕ → List EventTree → ℕ → ℕ → ℕ → Type 0
-IsAnswered bytes (Run options files) text log work before after = IsRun bytes (Run options files) text log work before after
+IsAnswered bytes (Run workers options files) text log work before after = IsRun bytes (Run workers options files) text log work before after
 IsAnswered bytes (Replay options schedule files) text log work before after = IsRun bytes (Replay options schedule files) text log work before after
 IsAnswered bytes (Generate seed) text log work before after = IsGenerated seed text log work before after
 
@@ -16,6 +16,6 @@ IsAnswered bytes (Generate seed) text log work before after = IsGenerated seed t
 
 -- the number of a `generate`
 abbrev pub seed_of : Command → Option ℕ
-seed_of (Run options files) = None
+seed_of (Run workers options files) = None
 seed_of (Replay options schedule files) = None
 seed_of (Generate seed) = Some seed

@@ -29,13 +29,13 @@ pub data IsBadSchedule (sessions : ℕ) (text : List ℕ) (status at : ℕ) : Ty
 
 -- how a command's sessions go: in threads under `run`, by the turns of its schedule under `replay`, and by none under `generate`
 abbrev pub IsCourse : (List ℕ → Option (List ℕ)) → Command → Course → Type 0
-IsCourse bytes (Run options files) course = course ≡ InThreads
+IsCourse bytes (Run workers options files) course = course ≡ InThreads workers
 IsCourse bytes (Replay options schedule files) course = (text turns : List ℕ) × (course ≡ ByTurns turns) × IsText bytes schedule text × IsSchedule (length files) text turns
 IsCourse bytes (Generate seed) course = course ≡ ByTurns []
 
 -- turns are of so many sessions
 abbrev pub AreTurnsOf : ℕ → Course → Type 0
-AreTurnsOf sessions InThreads = Unit {0}
+AreTurnsOf sessions (InThreads workers) = Unit {0}
 AreTurnsOf sessions (ByTurns turns) = AllByRecursion (λ turn. (1 ≤ turn) × (turn ≤ sessions)) turns
 
 -- ## What is wrong first
@@ -46,19 +46,19 @@ HasBadSchedule bytes schedule sessions status at = (text : List ℕ) × IsText b
 
 -- a command has a schedule
 abbrev pub IsReplay : Command → Type 0
-IsReplay (Run options files) = ⊥
+IsReplay (Run workers options files) = ⊥
 IsReplay (Replay options schedule files) = Unit {0}
 IsReplay (Generate seed) = ⊥
 
 -- it has one that has no turns
 abbrev pub IsWrongSchedule : (List ℕ → Option (List ℕ)) → Command → ℕ → ℕ → Type 0
-IsWrongSchedule bytes (Run options files) status at = ⊥
+IsWrongSchedule bytes (Run workers options files) status at = ⊥
 IsWrongSchedule bytes (Replay options schedule files) status at = HasBadSchedule bytes schedule (length files) status at
 IsWrongSchedule bytes (Generate seed) status at = ⊥
 
 -- the first of the scripts that isn't run, or behind them the schedule, has this status and place
 abbrev pub IsFirstWrong : (List ℕ → Option (List ℕ)) → Command → ℕ → ℕ → Type 0
-IsFirstWrong bytes (Run options files) status at = (texts : List (List ℕ)) × AreTexts bytes files texts × IsFirstUnfit 1 texts status at
+IsFirstWrong bytes (Run workers options files) status at = (texts : List (List ℕ)) × AreTexts bytes files texts × IsFirstUnfit 1 texts status at
 IsFirstWrong bytes (Replay options schedule files) status at =
     (texts : List (List ℕ)) × AreTexts bytes files texts × (IsFirstUnfit 1 texts status at ⊎ (AreRunnable texts × HasBadSchedule bytes schedule (length files) status at))
 IsFirstWrong bytes (Generate seed) status at = ⊥
@@ -69,7 +69,7 @@ AreToldRunnable bytes files = (texts : List (List ℕ)) × AreToldFirst bytes fi
 
 -- as far as the first that is wrong all is told, and it has this status and place
 abbrev pub IsToldWrong : (List ℕ → Option (List ℕ)) → Command → ℕ → ℕ → Type 0
-IsToldWrong bytes (Run options files) status at = (texts : List (List ℕ)) × AreToldFirst bytes files texts × IsFirstUnfit 1 texts status at
+IsToldWrong bytes (Run workers options files) status at = (texts : List (List ℕ)) × AreToldFirst bytes files texts × IsFirstUnfit 1 texts status at
 IsToldWrong bytes (Replay options schedule files) status at =
     ((texts : List (List ℕ)) × AreToldFirst bytes files texts × IsFirstUnfit 1 texts status at)
     ⊎ (AreToldRunnable bytes files × ((text : List ℕ) × (bytes schedule ≡ Some text) × IsBadSchedule (length files) text status at))
@@ -77,13 +77,13 @@ IsToldWrong bytes (Generate seed) status at = ⊥
 
 -- all is told, and nothing is wrong
 abbrev pub IsToldRight : (List ℕ → Option (List ℕ)) → Command → Type 0
-IsToldRight bytes (Run options files) = AreToldRunnable bytes files
+IsToldRight bytes (Run workers options files) = AreToldRunnable bytes files
 IsToldRight bytes (Replay options schedule files) = AreToldRunnable bytes files × ((text turns : List ℕ) × (bytes schedule ≡ Some text) × IsSchedule (length files) text turns)
 IsToldRight bytes (Generate seed) = Unit {0}
 
 -- reading came as far as this file, where the schedule is file 0 and comes last: those before it can be run, if bytes are told of them
 abbrev pub IsReached : (List ℕ → Option (List ℕ)) → Command → ℕ → Type 0
-IsReached bytes (Run options files) at = (1 ≤ at) × CanBeRun bytes (take (at - 1) files)
+IsReached bytes (Run workers options files) at = (1 ≤ at) × CanBeRun bytes (take (at - 1) files)
 IsReached bytes (Replay options schedule files) zero = CanBeRun bytes files
 IsReached bytes (Replay options schedule files) (suc at) = CanBeRun bytes (take at files)
 IsReached bytes (Generate seed) at = ⊥

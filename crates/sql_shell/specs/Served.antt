@@ -11,11 +11,10 @@ use Rattle.command_line.specs.declared.command.Command.{Command}
 use Rattle.command_line.specs.declared.command.RunOptions.{RunOptions}
 use Rattle.store_changes.specs.Work.{Counts}
 use Rattle.session_run.specs.Readings.{AreReadings}
-use Rattle.session_run.specs.Turns.{InPlan}
 use Rattle.session_run.specs.Work.{run_lost, run_totals, run_work}
 use Rattle.run_sessions.specs.Played.{IsScheduled}
 use Rattle.command_line.specs.Command.{files_of, options_of}
-use Rattle.thread_sessions.specs.Runs.{IsRunOut}
+use Rattle.thread_sessions.specs.Runs.{IsRunOut, order_for}
 use Rattle.sql_shell.specs.declared.inputs.Course.{Course}
 use Rattle.sql_shell.specs.declared.inputs.Course.TheVariants.{InThreads, ByTurns}
 use Rattle.sql_shell.specs.Inputs.{IsCourse}
@@ -45,9 +44,9 @@ pub record IsServed (options : RunOptions) (names : List (List ℕ)) (scripts : 
   pub printed_is : text ≡ printed options.events names readings log (run_totals (pool_of options) log)
   pub work_is : work ≡ run_work (pool_of options) log
 
--- how such a log comes about, event by event: in threads by some turns, until all sessions are done; else by given turns, while the counter goes from here to there
+-- how such a log comes about, event by event: in threads by some turns, until all sessions are done, each of which goes through its plans in their order, or, with more than one worker, as results are ready; else by given turns, while the counter goes from here to there
 abbrev pub IsMade : PoolOptions → List (List (List ℕ)) → Course → List EventTree → ℕ → ℕ → Type 0
-IsMade pool scripts InThreads log before after = IsRunOut InPlan pool scripts log
+IsMade pool scripts (InThreads workers) log before after = IsRunOut (order_for workers) pool scripts log
 IsMade pool scripts (ByTurns turns) log before after = IsScheduled pool scripts turns log × Counts before after (run_work pool log) (run_lost pool log)
 
 -- a command's run: each of its files has a text, which is what is told of it where it is told; these texts can be run, and what is printed, logged and counted is theirs

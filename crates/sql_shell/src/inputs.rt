@@ -18,8 +18,8 @@ use turn_lines::{ScheduleError, turns_of};
 /// How sessions go.
 #[derive(Debug, Drop)]
 pub enum Course {
-    /// Each on a thread of its own.
-    InThreads,
+    /// Each on a thread of its own, with so many workers for its queries.
+    InThreads(u32),
     /// On one thread, by the turns of a schedule.
     ByTurns(Sequence<u32>),
 }
@@ -108,7 +108,7 @@ fn read_course<S: Scripts>(
     ensures schedule { IfErr result (λ e. status_of e ≢ 7 → at_of e ≡ 0) }
 {
     match command {
-        Command::Run { .. } => Ok(Course::InThreads),
+        Command::Run { workers, .. } => Ok(Course::InThreads(*workers)),
         Command::Replay {
             schedule,
             files,

@@ -170,7 +170,9 @@ fn run_scripts<R: Threads + Wait + Sync, E: Operate + Sync, L: Ledger>(
     ensures totals { IfOk result (λ run. run.totals ≡ run_totals pool (log_tree run.log.items)) }
 {
     match course {
-        Course::InThreads => serve_sessions(rt, alloc, scripts, pool, scorer, kernel),
+        Course::InThreads(workers) => {
+            serve_sessions(rt, alloc, scripts, pool, scorer, kernel, workers)
+        }
         Course::ByTurns(turns) => play_sessions(
             alloc,
             scripts,

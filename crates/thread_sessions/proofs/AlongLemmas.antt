@@ -16,10 +16,11 @@ use Rattle.turn_hall.specs.Passes.{AddsOne, IsFree, KeepsPlace, own_entries, pas
 use Rattle.session_run.specs.declared.session.Session.{Session}
 use Rattle.session_run.specs.Kept.{Stands, order_of}
 use Rattle.session_run.specs.Progress.{progress_of}
-use Rattle.session_run.specs.Stages.{GoesInPlan, HasComputed, HasDone}
+use Rattle.session_run.specs.Stages.{GoesInPlan, HasComputed, HasDone, HasMoved}
 use Rattle.session_run.specs.Turns.{AsReady, InPlan, IsNext}
 use Rattle.session_run.specs.Works.{IsWorked}
 use Rattle.session_run.proofs.DoesLemmas.{done_log}
+use Rattle.session_run.proofs.MoveLemmas.{moved_stands, moved_worked}
 use Rattle.session_run.proofs.OtherLemmas.{others_stay}
 use Rattle.session_run.proofs.RunLemmas.{lawful_front}
 use Rattle.session_run.proofs.StageLemmas.{computed_stands}
@@ -107,6 +108,15 @@ computed_at options log x new in_plan c at = record {
   does = does_as options x new c.number c.pieces c.wide log at.does;
 }
 
+-- a session whose query has moved by itself, as results are ready
+pub moved_at : (options : PoolOptions) (log : List EventTree) (x new : Session) → x.wide ≡ true → HasMoved x new → IsAt options log x → IsAt options log new
+moved_at options log x new wide m at = record {
+  stands = moved_stands options log x new at.stands m wide;
+  worked = moved_worked options log x new at.stands m at.worked;
+  ordered = ordered_as log x new (ap (λ (z : Session). z.number) (sym m.is)) (ap (λ (z : Session). z.pieces) (sym m.is)) (ap (λ (z : Session). z.ended) (sym m.is)) at.ordered;
+  does = does_as options x new (ap (λ (z : Session). z.number) m.is) (ap (λ (z : Session). z.pieces) m.is) (ap (λ (z : Session). z.wide) m.is) log at.does;
+}
+
 -- a session that has done its next event
 pub own_at : EachReadsAsOne → (options : PoolOptions) (old new : BookView) (x y : Session) → old.options ≡ options → new.options ≡ options → y.number ≡ x.number → y.pieces ≡ x.pieces → y.wide ≡ x.wide → HasDone old new x y → IsAt options (log_tree old.log) x
     → IsAt options (log_tree new.log) y
@@ -154,6 +164,10 @@ module _ {V : Type 0} (options : PoolOptions) where
   -- a session that has computed has seen as much
   pub computed_with : (pass : Pass V Event) (x new : Session) → GoesInPlan x x.stage → HasComputed x new → IsWith options pass x → IsWith options pass new
   computed_with pass x new in_plan c w = record { free = w.free; number = c.number ∙ w.number; own = w.own; at = computed_at options (log_tree (seen_by pass)) x new in_plan c w.at }
+
+  -- so where its query has moved
+  pub moved_with : (pass : Pass V Event) (x new : Session) → x.wide ≡ true → HasMoved x new → IsWith options pass x → IsWith options pass new
+  moved_with pass x new wide m w = record { free = w.free; number = ap (λ (z : Session). z.number) m.is ∙ w.number; own = w.own; at = moved_at options (log_tree (seen_by pass)) x new wide m w.at }
 
   -- so after a turn in which it did an event
   pub added_with : (old mid new : Pass V Event) (x y : Session) (list after : List Event) → IsFree new → KeepsPlace old mid → KeepsPlace mid new → seen_by mid ≡ list → entries_by session_of (pass_number old) list ≡ own_entries old → own_entries mid ≡ own_entries old

@@ -1,5 +1,5 @@
 -- Passes that are split from the first one for sessions, and joined to it again.
-use Rattle.std.proofs.Common.{◌≡◌, ◌≢◌, ℕ, suc, ◌+◌, ◌≤◌, ◌<◌, List, [], ◌∷◌, ◌++◌, length, map, get_or, false, Some, Ok, Result, refl, ap, sym, ◌∙◌, subst, arith}
+use Rattle.std.proofs.Common.{◌≡◌, ◌≢◌, ℕ, suc, ◌+◌, ◌≤◌, ◌<◌, List, [], ◌∷◌, ◌++◌, length, map, get_or, Bool, Some, Ok, Result, refl, ap, sym, ◌∙◌, subst, arith}
 use Rattle.std.specs.Prelude.{slice_get, unwrap_or, IfOk, IsSome, if◌then◌else◌}
 use Rattle.std.specs.Option.{option_map}
 use Rattle.std.proofs.lemmas.Bool.{ne_eqb}
@@ -15,11 +15,12 @@ use Rattle.turn_hall.specs.Entries.{StartsWith, entries_by, kept_under}
 use Rattle.turn_hall.specs.Passes.{IsFree, IsPassOf, entries_under, joined_passes, own_entries, pass_number, seen_by, split_count}
 use Rattle.turn_hall.proofs.Lists.{kept_under-else, kept_under-here}
 use Rattle.session_run.specs.declared.session.Session.{Session}
-use Rattle.run_sessions.specs.Tables.{AreInPlan, AreOver, IsOver, scripts_of}
+use Rattle.session_run.specs.Stages.{MayBegin}
+use Rattle.run_sessions.specs.Tables.{AreOver, IsOver, scripts_of}
 use Rattle.run_sessions.proofs.PlaceLemmas.{append_all, map_there, same_or}
 use Rattle.thread_sessions.specs.declared.runner.Runner.{Runner}
 use Rattle.thread_sessions.specs.Runners.{IsAt, IsWith, session_of}
-use Rattle.thread_sessions.specs.Runs.{AreJoined, AreRunners, HasNoneBeside, HasRunOut, HaveSeen, IsFirst, IsJoined, IsRunner, sessions_of}
+use Rattle.thread_sessions.specs.Runs.{AreJoined, AreRunners, AreSet, HasNoneBeside, HasRunOut, HaveSeen, IsFirst, IsJoined, IsRunner, sessions_of}
 use Rattle.thread_sessions.proofs.ListLemmas.{starts_then}
 
 -- ## A pass for each session
@@ -43,10 +44,10 @@ module _ {V : Type 0} where
   scripts_more [] runner = refl
   scripts_more (first ∷ runners) runner = ap (λ scripts. first.session.pieces ∷ scripts) (scripts_more runners runner)
 
-  -- and goes through its plans in their order
-  pub in_plan_more : (runners : List (Runner V Event)) (runner : Runner V Event) → runner.session.wide ≡ false → AreInPlan (sessions_of runners) → AreInPlan (sessions_of (runners ++ runner ∷ []))
-  in_plan_more runners runner narrow are =
-      subst AreInPlan (sym (map-append (λ (r : Runner V Event). r.session) runners (runner ∷ []))) (append_all (λ place (z : Session). z.wide ≡ false) (sessions_of runners) runner.session narrow are)
+  -- and goes through its plans as the others
+  pub set_more : (wide : Bool) (runners : List (Runner V Event)) (runner : Runner V Event) → (runner.session.wide ≡ wide) × MayBegin runner.session.stage → AreSet wide (sessions_of runners) → AreSet wide (sessions_of (runners ++ runner ∷ []))
+  set_more wide runners runner is are =
+      subst (AreSet wide) (sym (map-append (λ (r : Runner V Event). r.session) runners (runner ∷ []))) (append_all (λ place (z : Session). (z.wide ≡ wide) × MayBegin z.stage) (sessions_of runners) runner.session is are)
 
   -- and its number
   pub runners_more : (options : PoolOptions) (hall : Hall V Event) (runners : List (Runner V Event)) (runner : Runner V Event) → runner.session.number ≡ length runners + 1 → IsRunner options hall runner → AreRunners options hall runners
@@ -104,24 +105,25 @@ module _ {V : Type 0} where
     session_there runners place x there = slice_get-map (λ (r : Runner V Event). r.session) runners place ∙ ap (option_map (λ (r : Runner V Event). r.session)) there
 
     -- so they are sessions with the same scripts, and are over
-    pub record AreBack (before after : List (Runner V Event)) : Type 0 where
+    pub record AreBack (wide : Bool) (before after : List (Runner V Event)) : Type 0 where
       pub long : length after ≡ length before
       pub scripts : scripts_of (sessions_of after) ≡ scripts_of (sessions_of before)
       pub runners : AreRunners options hall after
-      pub in_plan : AreInPlan (sessions_of after)
+      pub set : AreSet wide (sessions_of after)
       pub over : AreOver (length after) (sessions_of after)
 
-    pub are_back : (before after : List (Runner V Event)) (results : List (Result (Runner V Event) Memory)) → AreRunners options hall before → AreInPlan (sessions_of before) → length results ≡ length before
+    pub are_back : (wide : Bool) (before after : List (Runner V Event)) (results : List (Result (Runner V Event) Memory)) → AreRunners options hall before → AreSet wide (sessions_of before) → length results ≡ length before
         → ((place : ℕ) (r : Result (Runner V Event) Memory) (runner : Runner V Event) → place < length before → IfOk (get_or results place r) (λ y. HasRunOut options hall (get_or before place runner) y)) → map Ok after ≡ results
-        → AreBack before after
-    are_back before after results were in_plan length_is each all =
+        → AreBack wide before after
+    are_back wide before after results were set length_is each all =
         let c = came_back before after results length_is each all in
         record {
           long = c.long;
           scripts = back_scripts before after c;
           runners = λ place y is. before_it before after c place y is (λ x was h. (h.number ∙ (were place x was).0, h.runner));
-          in_plan = λ place s there. map_there (λ (r : Runner V Event). r.session) after place s there
-              (λ y is same. subst (λ (z : Session). z.wide ≡ false) same (before_it before after c place y is (λ x was h. h.wide ∙ in_plan place x.session (session_there before place x was))));
+          set = λ place s there. map_there (λ (r : Runner V Event). r.session) after place s there
+              (λ y is same. subst (λ (z : Session). (z.wide ≡ wide) × MayBegin z.stage) same (before_it before after c place y is
+              (λ x was h. (h.wide ∙ (set place x.session (session_there before place x was)).0, subst MayBegin (sym h.over.between) tt))));
           over = λ place s low there. map_there (λ (r : Runner V Event). r.session) after place s there (λ y is same. subst IsOver same (before_it before after c place y is (λ x was h. h.over)));
         }
 

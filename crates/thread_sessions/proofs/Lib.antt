@@ -5,3 +5,6 @@ pub mod PlayLemmas
 pub mod ShareLemmas
 pub mod SendLemmas
 pub mod StmtLemmas
+pub mod AsideLemmas
+pub mod OutLemmas
+pub mod CrewLemmas

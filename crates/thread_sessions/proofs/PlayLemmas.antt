@@ -1,6 +1,6 @@
 -- The log of sessions that are over, each of which did its next event wherever an event is its own.
 use Rattle.std.proofs.Common.{◌≡◌, ◌≢◌, ℕ, zero, suc, ◌+◌, ◌-◌, ◌≤◌, ◌<◌, List, [], ◌∷◌, ◌++◌, length, map, take, Bool, true, false, cond, Some, refl, ap, sym, ◌∙◌, subst, arith, ◌⊎◌, inl, inr, append_assoc}
-use Rattle.std.specs.Prelude.{slice_get, ◌==◌}
+use Rattle.std.specs.Prelude.{nat_lt, slice_get, ◌==◌}
 use Rattle.std.specs.List.{AllByRecursion}
 use Rattle.std.specs.Option.{option_map}
 use Rattle.std.proofs.Math.Seq.{take-append_seam}
@@ -19,11 +19,11 @@ use Rattle.session_run.specs.Turns.{AsReady, InPlan, IsDone, IsNext}
 use Rattle.session_run.specs.Work.{run_totals}
 use Rattle.session_run.proofs.RunLemmas.{done_is}
 use Rattle.run_sessions.specs.Played.{Does, IsPlayed, Starts}
-use Rattle.run_sessions.specs.Tables.{AreInPlan, AreOver, AreStanding, AreTexts, scripts_of}
+use Rattle.run_sessions.specs.Tables.{AreOver, AreStanding, AreTexts, scripts_of}
 use Rattle.run_sessions.proofs.PlaceLemmas.{map_there}
 use Rattle.run_sessions.proofs.SumLemmas.{IsOfOne}
 use Rattle.thread_sessions.specs.Runners.{IsAt, session_of}
-use Rattle.thread_sessions.specs.Runs.{HasNoneBeside, HaveSeen, IsRunOut}
+use Rattle.thread_sessions.specs.Runs.{AreSet, HasNoneBeside, HaveSeen, IsRunOut, order_for}
 use Rattle.thread_sessions.proofs.AlongLemmas.{seen_at}
 use Rattle.thread_sessions.proofs.ListLemmas.{get_seam, none_first, none_more}
 
@@ -93,7 +93,7 @@ all_stand options log sessions at place x there = let is = at place x there in (
 
 -- ## The turns
 
-module _ (options : PoolOptions) (log : List EventTree) (sessions : List Session) (at : AreAt options log sessions) (in_plan : AreInPlan sessions) where
+module _ (workers : ℕ) (options : PoolOptions) (log : List EventTree) (sessions : List Session) (at : AreAt options log sessions) (set : AreSet (nat_lt 1 workers) sessions) where
   abbrev turns_of : List EventTree → List ℕ
   turns_of events = map (λ (event : EventTree). event.session) events
 
@@ -101,8 +101,8 @@ module _ (options : PoolOptions) (log : List EventTree) (sessions : List Session
   script_at place x there = slice_get-map (λ (z : Session). z.pieces) sessions place ∙ ap (option_map (λ (z : Session). z.pieces)) there
 
   -- an event is the next one of its session
-  does_at : (front : List EventTree) (event : EventTree) (back : List EventTree) → log ≡ front ++ event ∷ back → IsOfOne (length sessions) event → IsPlayed InPlan options (scripts_of sessions) (turns_of front) front
-      → IsPlayed InPlan options (scripts_of sessions) (turns_of front ++ event.session ∷ []) (front ++ event ∷ [])
+  does_at : (front : List EventTree) (event : EventTree) (back : List EventTree) → log ≡ front ++ event ∷ back → IsOfOne (length sessions) event → IsPlayed (order_for workers) options (scripts_of sessions) (turns_of front) front
+      → IsPlayed (order_for workers) options (scripts_of sessions) (turns_of front ++ event.session ∷ []) (front ++ event ∷ [])
   does_at front event back is one before =
       let low = one.0 in
       let high = one.1 in
@@ -115,17 +115,17 @@ module _ (options : PoolOptions) (log : List EventTree) (sessions : List Session
       let before_it : take (length front) log ≡ front = ap (take (length front)) is ∙ take-append_seam front (event ∷ back) in
       let next = stood.1.does (length front) event here (sym number) in
       Does (turns_of front) front event.session x.pieces event before low (script_at (event.session - 1) x there.1)
-      (subst (λ b. IsNext (cond b AsReady InPlan) options x.pieces event.session front event) (in_plan (event.session - 1) x there.1)
+      (subst (λ b. IsNext (cond b AsReady InPlan) options x.pieces event.session front event) (set (event.session - 1) x there.1).0
       (subst (λ n. IsNext (order_of x) options x.pieces n front event) number (subst (λ (l : List EventTree). IsNext (order_of x) options x.pieces x.number l event) before_it next)))
 
-  played_from : (front back : List EventTree) → log ≡ front ++ back → AllByRecursion (IsOfOne (length sessions)) back → IsPlayed InPlan options (scripts_of sessions) (turns_of front) front → IsPlayed InPlan options (scripts_of sessions) (turns_of log) log
-  played_from front [] is all before = subst (λ (l : List EventTree). IsPlayed InPlan options (scripts_of sessions) (turns_of l) l) (sym (is ∙ append-nil front)) before
+  played_from : (front back : List EventTree) → log ≡ front ++ back → AllByRecursion (IsOfOne (length sessions)) back → IsPlayed (order_for workers) options (scripts_of sessions) (turns_of front) front → IsPlayed (order_for workers) options (scripts_of sessions) (turns_of log) log
+  played_from front [] is all before = subst (λ (l : List EventTree). IsPlayed (order_for workers) options (scripts_of sessions) (turns_of l) l) (sym (is ∙ append-nil front)) before
   played_from front (event ∷ back) is all before =
       played_from (front ++ event ∷ []) back (is ∙ sym (append_assoc front (event ∷ []) back)) all.1
-      (subst (λ turns. IsPlayed InPlan options (scripts_of sessions) turns (front ++ event ∷ [])) (sym (map-append (λ (e : EventTree). e.session) front (event ∷ []))) (does_at front event back is all.0 before))
+      (subst (λ turns. IsPlayed (order_for workers) options (scripts_of sessions) turns (front ++ event ∷ [])) (sym (map-append (λ (e : EventTree). e.session) front (event ∷ []))) (does_at front event back is all.0 before))
 
   -- the sessions, which are over, took turns that gave the log
-  pub run_out : AllByRecursion (IsOfOne (length sessions)) log → AreOver (length sessions) sessions → IsRunOut InPlan options (scripts_of sessions) log
+  pub run_out : AllByRecursion (IsOfOne (length sessions)) log → AreOver (length sessions) sessions → IsRunOut (order_for workers) options (scripts_of sessions) log
   run_out all over = record {
     turns = turns_of log;
     played = played_from [] log refl all Starts;

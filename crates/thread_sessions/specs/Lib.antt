@@ -1,2 +1,3 @@
 pub mod Runners
 pub mod Runs
+pub mod Crews

@@ -1,5 +1,5 @@
 -- Sessions in threads, each of which runs to its end over one log.
-use Rattle.std.specs.Prelude.{◌≡◌, ℕ, ◌+◌, ◌-◌, ◌<◌, ◌≤◌, List, [], map, IsSome, None, Some, slice_get}
+use Rattle.std.specs.Prelude.{◌≡◌, ℕ, ◌+◌, ◌-◌, ◌<◌, ◌≤◌, List, [], map, Bool, IsSome, None, Some, if◌then◌else◌, nat_lt, slice_get}
 use Rattle.pool_policy.specs.declared.options.PoolOptions.{PoolOptions}
 use Rattle.run_log.specs.declared.event.Event.{Event}
 use Rattle.run_log.specs.Events.{EventTree, log_tree}
@@ -8,7 +8,8 @@ use Rattle.turn_hall.specs.declared.hall.Pass.{Pass}
 use Rattle.turn_hall.specs.Entries.{StartsWith, entries_by, kept_under}
 use Rattle.turn_hall.specs.Passes.{IsFree, IsPassOf, joined_passes, own_entries, pass_number, seen_by, split_count}
 use Rattle.session_run.specs.declared.session.Session.{Session}
-use Rattle.session_run.specs.Turns.{IsDone, Order}
+use Rattle.session_run.specs.Stages.{IsAside, MayBegin}
+use Rattle.session_run.specs.Turns.{AsReady, InPlan, IsDone, Order}
 use Rattle.run_sessions.specs.Played.{IsPlayed}
 use Rattle.run_sessions.specs.Tables.{IsOver}
 use Rattle.thread_sessions.specs.declared.runner.Runner.{Runner}
@@ -22,9 +23,17 @@ pub record IsRunOut (order : Order) (options : PoolOptions) (scripts : List (Lis
   pub played : IsPlayed order options scripts turns log
   pub done : (session : ℕ) (pieces : List (List ℕ)) → 1 ≤ session → slice_get scripts (session - 1) ≡ Some pieces → IsDone pieces session log
 
+-- with so many workers a session goes through its plans as results are ready, or in their order
+abbrev pub order_for : ℕ → Order
+order_for workers = if nat_lt 1 workers then AsReady else InPlan
+
 -- What follows only the code asks: it says what is kept between the steps of a run, and no public clause cites it.
 
 -- ## Sessions with their passes
+
+-- each goes through its plans so, and stands before a query or beside one
+abbrev pub AreSet : Bool → List Session → Type 0
+AreSet wide sessions = (place : ℕ) (x : Session) → slice_get sessions place ≡ Some x → (x.wide ≡ wide) × MayBegin x.stage
 
 module _ {V : Type 0} where
   -- the pass is of this hall, and its session stands where all says that it has seen
@@ -43,6 +52,14 @@ module _ {V : Type 0} where
     pub pieces : after.session.pieces ≡ before.session.pieces
     pub wide : after.session.wide ≡ before.session.wide
     pub over : IsOver after.session
+
+  -- a session has run on, to a place at which no query is under way in its plan
+  pub record HasRunOn (options : PoolOptions) (hall : Hall V Event) (before after : Runner V Event) : Type 0 where
+    pub runner : IsRunner options hall after
+    pub number : after.session.number ≡ before.session.number
+    pub pieces : after.session.pieces ≡ before.session.pieces
+    pub wide : after.session.wide ≡ before.session.wide
+    pub aside : IsAside after.session.stage
 
   -- their sessions
   abbrev pub sessions_of : List (Runner V Event) → List Session

@@ -3,7 +3,7 @@ ghost use Rattle.std.specs.Prelude.{◌≡◌, ◌<◌, ◌≤◌, ◌^◌, [], 
 ghost use Rattle.run_log.specs.declared.event.Event.{Event as EventSeen};
 ghost use Rattle.run_log.specs.Events.{log_tree};
 ghost use Rattle.book_core.specs.Lawful.{IsLawful};
-ghost use Rattle.session_run.specs.Stages.{IsReady};
+ghost use Rattle.session_run.specs.Stages.{Follows, IsReady};
 ghost use Rattle.thread_sessions.specs.Runners.{AddsEvent, HasSeen, IsAt, session_of};
 
 use bat_core::Operate;
@@ -95,6 +95,7 @@ impl<K: RunOptions> Kept<K> {
         ensures number { OnOk result (session.new.number ≡ session.old.number) }
         ensures pieces { OnOk result (session.new.pieces ≡ session.old.pieces) }
         ensures wide { OnOk result (session.new.wide ≡ session.old.wide) }
+        ensures follows { OnOk result (Follows session.old.stage session.new.stage) }
         ensures added { OnOk result (AddsEvent self.old.book.log session.old.number self.new.book.log) }
         ensures at { OnOk result (IsAt K.options (log_tree self.new.book.log) session.new) }
         ensures same { OnErr result (self.new.book ≡ self.old.book) }

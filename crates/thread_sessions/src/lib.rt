@@ -4,15 +4,19 @@
 //! take turns at one book, and the log is one that they could have made on one thread: `specs/Runs` says
 //! how, and the texts and the totals are those of that log. Nothing is promised of progress.
 //!
-//! It stands on `turn_hall`, `book_core`, `session_run` and `run_sessions`. A `Kept` is a book in a type
+//! It stands on `turn_hall`, `dataflow`, `book_core`, `session_run` and `run_sessions`. A `Kept` is a book in a type
 //! that names its options. In a hall it stands for what its log tells of each event. `take_turn` lets a
 //! session compute outside and then do its next event in one turn: the session's events are those of its
 //! script, in order, whatever other sessions do between, and what it knows of the log stays true. It never
-//! lends the book.
+//! lends the book. With more than one worker a query's instructions are run as their arguments are there: a
+//! `Crew` is the session meanwhile, which does its looks and admissions in turns and hands the rest out.
 #![tactic(auto)]
 
+mod crew;
 mod end;
+mod jobs;
 mod kept;
+mod query;
 mod runner;
 mod serve;
 mod turn;

@@ -1,17 +1,25 @@
 //! A session on a thread of its own.
-ghost use Rattle.std.specs.Prelude.{◌≡◌, ◌<◌, false, IfOk};
-ghost use Rattle.thread_sessions.specs.Runs.{HasRunOut, IsRunner};
+ghost use Rattle.std.specs.Prelude.{◌≡◌, ◌<◌, ℕ, nat_lt, true, false, IfOk, OnOk};
+ghost use Rattle.query_run.specs.declared.step.Query.{Query as QuerySeen};
+ghost use Rattle.query_run.specs.declared.step.Step.TheVariants as step;
+ghost use Rattle.session_run.specs.declared.stage.Stage.TheVariants as stage;
+ghost use Rattle.session_run.specs.Stages.{IsAside, MayBegin};
+ghost use Rattle.thread_sessions.specs.Crews.{CanDo, HasDone};
+ghost use Rattle.thread_sessions.specs.Runs.{HasRunOn, HasRunOut, IsRunner};
 
 use crate::kept::{Kept, RunOptions};
-use crate::turn::take_turn;
+use crate::query::run_query;
+use crate::turn::{do_event, take_turn};
 use bat_core::Operate;
 use cell_core::{Memory, Steps};
+use query_run::Step;
 use score_hook::Scorer;
-use session_run::Session;
+use session_run::{Session, Stage};
 use std::alloc::Global;
 use std::marker::Brand;
 use std::sync::Wait;
 use std::sync::ledger::{Blank, Ledger};
+use std::thread::Threads;
 use turn_hall::{Hall, Logged, Pass};
 
 /// A session, and the pass by which it takes turns.
@@ -21,14 +29,95 @@ pub(crate) struct Runner<V: Logged> {
     pub(crate) session: Session,
 }
 
-/// Lets a session take turns until it has no event more.
-fn run_counted<K: RunOptions, R: Wait, E: Operate, L: Ledger>(
+/// Does a session's next event in one turn, with a counter of its own.
+pub(crate) fn next_event<K: RunOptions, R: Wait, E: Operate>(
+    rt: &R,
+    alloc: Global,
+    hall: &Hall<Kept<K>>,
+    runner: &mut Runner<Kept<K>>,
+    scorer: &Scorer,
+    kernel: &E,
+) -> Result<(), Memory>
+    requires kind { scorer.now.kind ≡ K.options.evict }
+    requires weights { scorer.now.weights.items ≡ K.options.weights }
+    requires can { CanDo K.options hall.now runner.old }
+    ensures { OnOk result (HasDone K.options hall.now runner.old runner.new) }
+{
+    counted_event::<K, R, E, Brand>(rt, alloc, hall, runner, scorer, kernel, Blank::new(1))
+}
+
+/// The same, with this counter.
+fn counted_event<K: RunOptions, R: Wait, E: Operate, L: Ledger>(
+    rt: &R,
+    alloc: Global,
+    hall: &Hall<Kept<K>>,
+    runner: &mut Runner<Kept<K>>,
+    scorer: &Scorer,
+    kernel: &E,
+    blank: Blank,
+) -> Result<(), Memory>
+    requires name { blank.name ≡ L.name }
+    requires parts { blank.parts ≡ L.parts }
+    requires some { 0 < blank.parts }
+    requires kind { scorer.now.kind ≡ K.options.evict }
+    requires weights { scorer.now.weights.items ≡ K.options.weights }
+    requires can { CanDo K.options hall.now runner.old }
+    ensures { OnOk result (HasDone K.options hall.now runner.old runner.new) }
+{
+    let mut steps = Steps::<L>::new(blank);
+    do_event(
+        rt,
+        alloc,
+        hall,
+        &mut runner.pass,
+        &mut runner.session,
+        scorer,
+        kernel,
+        &mut steps,
+    )
+}
+
+/// Whether the session's query has just begun.
+fn has_begun(session: &Session) -> bool
+    ensures yes { result ≡ true → (q : QuerySeen) × (session.now.stage ≡ stage.Querying (step.Begun q)) }
+    ensures no { result ≡ false → MayBegin session.now.stage → IsAside session.now.stage }
+{
+    matches!(&session.stage, Stage::Querying(Step::Begun(_)))
+}
+
+/// Where a query has begun that is run by workers, it is run to its end.
+fn run_begun<K: RunOptions, R: Threads + Wait + Sync, E: Operate + Sync, L: Ledger>(
     rt: &R,
     alloc: Global,
     hall: &Hall<Kept<K>>,
     runner: Runner<Kept<K>>,
     scorer: &Scorer,
     kernel: &E,
+    steps: &mut Steps<L>,
+    workers: u32,
+) -> Result<Runner<Kept<K>>, Memory>
+    requires kind { scorer.now.kind ≡ K.options.evict }
+    requires weights { scorer.now.weights.items ≡ K.options.weights }
+    requires runner { IsRunner K.options hall.now runner }
+    requires wide { runner.session.wide ≡ true }
+    requires begins { MayBegin runner.session.stage }
+    ensures { IfOk result (HasRunOn K.options hall.now runner) }
+{
+    if has_begun(&runner.session) {
+        return run_query(rt, alloc, hall, runner, scorer, kernel, steps, workers);
+    }
+    Ok(runner)
+}
+
+/// Lets a session take turns until it has no event more.
+fn run_counted<K: RunOptions, R: Threads + Wait + Sync, E: Operate + Sync, L: Ledger>(
+    rt: &R,
+    alloc: Global,
+    hall: &Hall<Kept<K>>,
+    runner: Runner<Kept<K>>,
+    scorer: &Scorer,
+    kernel: &E,
+    workers: u32,
     blank: Blank,
 ) -> Result<Runner<Kept<K>>, Memory>
     requires name { blank.name ≡ L.name }
@@ -37,45 +126,57 @@ fn run_counted<K: RunOptions, R: Wait, E: Operate, L: Ledger>(
     requires kind { scorer.now.kind ≡ K.options.evict }
     requires weights { scorer.now.weights.items ≡ K.options.weights }
     requires runner { IsRunner K.options hall.now runner }
-    requires in_plan { runner.session.wide ≡ false }
+    requires wide { runner.session.wide ≡ nat_lt 1 workers }
+    requires begins { MayBegin runner.session.stage }
     ensures { IfOk result (λ ended. HasRunOut K.options hall.now runner ended) }
 {
-    let Runner {
-        mut pass,
-        mut session,
-    } = runner;
+    let mut runner = runner;
     let mut steps = Steps::<L>::new(blank);
     'turns: for _ in rt.forever() {
+        if workers > 1 {
+            runner = run_begun(rt, alloc, hall, runner, scorer, kernel, &mut steps, workers)?;
+        }
         if !take_turn(
             rt,
             alloc,
             hall,
-            &mut pass,
-            &mut session,
+            &mut runner.pass,
+            &mut runner.session,
             scorer,
             kernel,
             &mut steps,
         )? {
-            return Ok(Runner { pass, session });
+            return Ok(runner);
         }
     }
     unreachable!()
 }
 
 /// Runs a session to its end, with a counter of its own.
-pub(crate) fn run_to_end<K: RunOptions, R: Wait, E: Operate>(
+pub(crate) fn run_to_end<K: RunOptions, R: Threads + Wait + Sync, E: Operate + Sync>(
     rt: &R,
     alloc: Global,
     hall: &Hall<Kept<K>>,
     runner: Runner<Kept<K>>,
     scorer: &Scorer,
     kernel: &E,
+    workers: u32,
 ) -> Result<Runner<Kept<K>>, Memory>
     requires kind { scorer.now.kind ≡ K.options.evict }
     requires weights { scorer.now.weights.items ≡ K.options.weights }
     requires runner { IsRunner K.options hall.now runner }
-    requires in_plan { runner.session.wide ≡ false }
+    requires wide { runner.session.wide ≡ nat_lt 1 workers }
+    requires begins { MayBegin runner.session.stage }
     ensures { IfOk result (λ ended. HasRunOut K.options hall.now runner ended) }
 {
-    run_counted::<K, R, E, Brand>(rt, alloc, hall, runner, scorer, kernel, Blank::new(1))
+    run_counted::<K, R, E, Brand>(
+        rt,
+        alloc,
+        hall,
+        runner,
+        scorer,
+        kernel,
+        workers,
+        Blank::new(1),
+    )
 }

@@ -1,14 +1,14 @@
 //! Sessions in threads over one log.
-ghost use Rattle.std.specs.Prelude.{◌≡◌, ℕ, ◌<◌, ◌≤◌, ◌^◌, List, [], length, map, slice_index_or, false, All, IfOk, Ok};
+ghost use Rattle.std.specs.Prelude.{◌≡◌, ℕ, ◌<◌, ◌≤◌, ◌^◌, List, [], length, map, nat_lt, slice_index_or, All, IfOk, Ok};
 ghost use Rattle.std.specs.List.{AllByRecursion};
 ghost use Rattle.std.specs.declared.vec.Vec.{Vec as VecSeen};
 ghost use Rattle.std.specs.declared.alloc.Global.{Global as GlobalSeen};
 ghost use Rattle.run_log.specs.Events.{EventTree, log_tree};
 ghost use Rattle.turn_hall.specs.Passes.{seen_by};
 ghost use Rattle.session_run.specs.Work.{run_totals};
-ghost use Rattle.session_run.specs.Turns.{InPlan};
-ghost use Rattle.run_sessions.specs.Tables.{AreInPlan, AreOver, AreTexts, scripts_of};
-ghost use Rattle.thread_sessions.specs.Runs.{AreJoined, AreRunners, HasRunOut, IsFirst, IsRunOut, IsRunner, sessions_of};
+ghost use Rattle.session_run.specs.Stages.{MayBegin};
+ghost use Rattle.run_sessions.specs.Tables.{AreOver, AreTexts, scripts_of};
+ghost use Rattle.thread_sessions.specs.Runs.{AreJoined, AreRunners, AreSet, HasRunOut, IsFirst, IsRunOut, IsRunner, order_for, sessions_of};
 
 use crate::end::end_run;
 use crate::kept::{Kept, RunOptions};
@@ -27,7 +27,8 @@ use std::thread::Threads;
 use turn_hall::{Hall, Pass};
 
 /// Runs sessions, one for each script, each on a thread of its own where one can be made. They take turns
-/// at one book, each at its own pace, until all are done. Each thread counts its work for itself.
+/// at one book, each at its own pace, until all are done. Each query is run by so many workers, where there
+/// are more than one. Each thread counts its work for itself.
 pub fn serve_sessions<R: Threads + Wait + Sync, E: Operate + Sync>(
     rt: &R,
     alloc: Global,
@@ -35,6 +36,7 @@ pub fn serve_sessions<R: Threads + Wait + Sync, E: Operate + Sync>(
     options: PoolOptions,
     scorer: &Scorer,
     kernel: &E,
+    workers: u32,
 ) -> Result<Run, Memory>
     requires few { length scripts.items ≤ 16 }
     requires short { AllByRecursion (λ (pieces : List (List ℕ)). length pieces ≤ 256) scripts.items }
@@ -42,12 +44,12 @@ pub fn serve_sessions<R: Threads + Wait + Sync, E: Operate + Sync>(
     requires weights { scorer.now.weights.items ≡ options.weights }
     requires places { options.places ≤ 1024 }
     requires budget { options.budget ≤ 2 ^ 40 }
-    ensures played { IfOk result (λ run. IsRunOut InPlan options scripts.items (log_tree run.log.items)) }
+    ensures played { IfOk result (λ run. IsRunOut (order_for workers) options scripts.items (log_tree run.log.items)) }
     ensures sessions { IfOk result (λ run. AllByRecursion (λ (event : EventTree). (1 ≤ event.session) × (event.session ≤ length scripts.items)) (log_tree run.log.items)) }
     ensures texts { IfOk result (λ run. AreTexts (log_tree run.log.items) 1 scripts.items (map (λ (text : VecSeen ℕ GlobalSeen). text.items) run.texts.items)) }
     ensures totals { IfOk result (λ run. run.totals ≡ run_totals options (log_tree run.log.items)) }
 {
-    serve::<Brand, R, E>(rt, alloc, scripts, options, scorer, kernel)
+    serve::<Brand, R, E>(rt, alloc, scripts, options, scorer, kernel, workers)
 }
 
 /// The same, under options that a type names.
@@ -58,6 +60,7 @@ fn serve<K: RunOptions + Send + Sync, R: Threads + Wait + Sync, E: Operate + Syn
     options: PoolOptions,
     scorer: &Scorer,
     kernel: &E,
+    workers: u32,
 ) -> Result<Run, Memory>
     requires options { options ≡ K.options }
     requires few { length scripts.items ≤ 16 }
@@ -66,15 +69,15 @@ fn serve<K: RunOptions + Send + Sync, R: Threads + Wait + Sync, E: Operate + Syn
     requires weights { scorer.now.weights.items ≡ K.options.weights }
     requires places { options.places ≤ 1024 }
     requires budget { options.budget ≤ 2 ^ 40 }
-    ensures played { IfOk result (λ run. IsRunOut InPlan K.options scripts.items (log_tree run.log.items)) }
+    ensures played { IfOk result (λ run. IsRunOut (order_for workers) K.options scripts.items (log_tree run.log.items)) }
     ensures sessions { IfOk result (λ run. AllByRecursion (λ (event : EventTree). (1 ≤ event.session) × (event.session ≤ length scripts.items)) (log_tree run.log.items)) }
     ensures texts { IfOk result (λ run. AreTexts (log_tree run.log.items) 1 scripts.items (map (λ (text : VecSeen ℕ GlobalSeen). text.items) run.texts.items)) }
     ensures totals { IfOk result (λ run. run.totals ≡ run_totals K.options (log_tree run.log.items)) }
 {
     let kept = Kept::<K>::new(alloc, options)?;
     let (hall, mut pass) = Hall::new(alloc, kept)?;
-    let started = start_all(alloc, &hall, &mut pass, scripts)?;
-    let ended = run_all(rt, alloc, &hall, started, scorer, kernel)?;
+    let started = start_all(alloc, &hall, &mut pass, scripts, workers > 1)?;
+    let ended = run_all(rt, alloc, &hall, started, scorer, kernel, workers)?;
     let sessions = join_all(alloc, &hall, &mut pass, ended)?;
     let book = hall.close(pass).into_book();
     end_run(alloc, book, sessions)
@@ -86,6 +89,7 @@ fn start_all<K: RunOptions>(
     hall: &Hall<Kept<K>>,
     pass: &mut Pass<Kept<K>>,
     scripts: Vec<Sequence<Word>>,
+    wide: bool,
 ) -> Result<Vec<Runner<Kept<K>>>, Memory>
     requires few { length scripts.items ≤ 16 }
     requires short { AllByRecursion (λ (pieces : List (List ℕ)). length pieces ≤ 256) scripts.items }
@@ -93,14 +97,14 @@ fn start_all<K: RunOptions>(
     requires seen { seen_by pass.old ≡ [] }
     ensures scripts { IfOk result (λ runners. scripts_of (sessions_of runners.items) ≡ scripts.items) }
     ensures runners { IfOk result (λ runners. AreRunners K.options hall.now runners.items) }
-    ensures in_plan { IfOk result (λ runners. AreInPlan (sessions_of runners.items)) }
+    ensures set { IfOk result (λ runners. AreSet wide (sessions_of runners.items)) }
     ensures first { IfOk result (λ runners. IsFirst hall.now pass.new (length runners.items) 0) }
 {
     let mut runners = Vec::new(alloc);
     'scripts: for pieces in scripts {
         let number = runners.len() as u32 + 1;
         let other = hall.split(alloc, pass)?;
-        let session = Session::new(alloc, number, pieces, false);
+        let session = Session::new(alloc, number, pieces, wide);
         runners.push(Runner {
             pass: other,
             session,
@@ -117,17 +121,18 @@ fn run_each<K: RunOptions + Send + Sync, R: Threads + Wait + Sync, E: Operate + 
     runners: Vec<Runner<Kept<K>>>,
     scorer: &Scorer,
     kernel: &E,
+    workers: u32,
 ) -> Result<Vec<Result<Runner<Kept<K>>, Memory>>, Memory>
     requires kind { scorer.now.kind ≡ K.options.evict }
     requires weights { scorer.now.weights.items ≡ K.options.weights }
-    requires runners { All (λ runner. IsRunner K.options hall.now runner × (runner.session.wide ≡ false)) runners.items }
+    requires runners { All (λ runner. IsRunner K.options hall.now runner × (runner.session.wide ≡ nat_lt 1 workers) × MayBegin runner.session.stage) runners.items }
     ensures length { IfOk result (λ ended. length ended.items ≡ length runners.items) }
     ensures each { IfOk result (λ ended. (place : ℕ) (r : _) (runner : _) → place < length runners.items → IfOk (slice_index_or ended.items place r) (λ after. HasRunOut K.options hall.now (slice_index_or runners.items place runner) after)) }
 {
     let run = |runner: Runner<Kept<K>>| -> Result<Runner<Kept<K>>, Memory>
-        requires { (scorer.now.kind ≡ K.options.evict) × (scorer.now.weights.items ≡ K.options.weights) × IsRunner K.options hall.now runner × (runner.session.wide ≡ false) }
+        requires { (scorer.now.kind ≡ K.options.evict) × (scorer.now.weights.items ≡ K.options.weights) × IsRunner K.options hall.now runner × (runner.session.wide ≡ nat_lt 1 workers) × MayBegin runner.session.stage }
         ensures { IfOk result (λ after. HasRunOut K.options hall.entry.now runner after) }
-    { run_to_end(rt, alloc, hall, runner, scorer, kernel) };
+    { run_to_end(rt, alloc, hall, runner, scorer, kernel, workers) };
     let ended = thread::map_vec(rt, runners, &run)?;
     Ok(ended)
 }
@@ -154,18 +159,19 @@ fn run_all<K: RunOptions + Send + Sync, R: Threads + Wait + Sync, E: Operate + S
     runners: Vec<Runner<Kept<K>>>,
     scorer: &Scorer,
     kernel: &E,
+    workers: u32,
 ) -> Result<Vec<Runner<Kept<K>>>, Memory>
     requires kind { scorer.now.kind ≡ K.options.evict }
     requires weights { scorer.now.weights.items ≡ K.options.weights }
     requires runners { AreRunners K.options hall.now runners.items }
-    requires in_plan { AreInPlan (sessions_of runners.items) }
+    requires set { AreSet (nat_lt 1 workers) (sessions_of runners.items) }
     ensures length { IfOk result (λ ended. length ended.items ≡ length runners.items) }
     ensures scripts { IfOk result (λ ended. scripts_of (sessions_of ended.items) ≡ scripts_of (sessions_of runners.items)) }
     ensures runners { IfOk result (λ ended. AreRunners K.options hall.now ended.items) }
-    ensures in_plan { IfOk result (λ ended. AreInPlan (sessions_of ended.items)) }
+    ensures set { IfOk result (λ ended. AreSet (nat_lt 1 workers) (sessions_of ended.items)) }
     ensures over { IfOk result (λ ended. AreOver (length ended.items) (sessions_of ended.items)) }
 {
-    let ended = run_each(rt, alloc, hall, runners, scorer, kernel)?;
+    let ended = run_each(rt, alloc, hall, runners, scorer, kernel, workers)?;
     all_ended(alloc, ended)
 }
 

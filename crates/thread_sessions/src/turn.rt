@@ -1,7 +1,7 @@
 //! Turns of a session.
 ghost use Rattle.std.specs.Prelude.{◌≡◌, ◌<◌, false, length, true, IfOk, OnOk};
 ghost use Rattle.turn_hall.specs.Passes.{IsPassOf};
-ghost use Rattle.session_run.specs.Stages.{IsReady};
+ghost use Rattle.session_run.specs.Stages.{Follows, GoesInPlan, IsAside, IsReady, MayBegin};
 ghost use Rattle.run_sessions.specs.Tables.{IsOver};
 ghost use Rattle.thread_sessions.specs.Runners.{HasOneMore, IsWith};
 
@@ -16,7 +16,7 @@ use std::sync::ledger::Ledger;
 use turn_hall::{Hall, Pass};
 
 /// Does the next event of a session in one turn. After Memory the turn is given up.
-fn do_event<K: RunOptions, R: Wait, E: Operate, L: Ledger>(
+pub(crate) fn do_event<K: RunOptions, R: Wait, E: Operate, L: Ledger>(
     rt: &R,
     alloc: Global,
     hall: &Hall<Kept<K>>,
@@ -36,6 +36,7 @@ fn do_event<K: RunOptions, R: Wait, E: Operate, L: Ledger>(
     ensures number { OnOk result (session.new.number ≡ session.old.number) }
     ensures pieces { OnOk result (session.new.pieces ≡ session.old.pieces) }
     ensures wide { OnOk result (session.new.wide ≡ session.old.wide) }
+    ensures follows { OnOk result (Follows session.old.stage session.new.stage) }
     ensures stands { OnOk result (IsWith K.options pass.new session.new) }
     ensures one { OnOk result (HasOneMore pass.old pass.new) }
 {
@@ -69,11 +70,12 @@ pub fn take_turn<K: RunOptions, R: Wait, E: Operate, L: Ledger>(
     requires weights { scorer.now.weights.items ≡ K.options.weights }
     requires ours { IsPassOf hall.now pass.old }
     requires stands { IsWith K.options pass.old session.old }
-    requires in_plan { session.old.wide ≡ false }
+    requires in_plan { GoesInPlan session.old session.old.stage }
     ensures ours { OnOk result (IsPassOf hall.now pass.new) }
     ensures number { OnOk result (session.new.number ≡ session.old.number) }
     ensures pieces { OnOk result (session.new.pieces ≡ session.old.pieces) }
     ensures wide { OnOk result (session.new.wide ≡ session.old.wide) }
+    ensures begins { OnOk result (IsAside session.old.stage → MayBegin session.new.stage) }
     ensures stands { OnOk result (IsWith K.options pass.new session.new) }
     ensures one { IfOk result (λ more. more ≡ true → HasOneMore pass.old pass.new) }
     ensures none { IfOk result (λ more. more ≡ false → pass.new ≡ pass.old) }

@@ -5,11 +5,10 @@ use Rattle.std.specs.declared.alloc.Global.{Global}
 use Rattle.std.proofs.lemmas.Result.{IfOk-weaker}
 use Rattle.run_log.specs.declared.event.Event.{Event}
 use Rattle.run_log.specs.Events.{log_tree}
-use Rattle.session_run.specs.Turns.{InPlan}
 use Rattle.run_sessions.specs.Tables.{scripts_of}
 use Rattle.run_sessions.proofs.SumLemmas.{IsOfOne}
 use Rattle.run_sessions.proofs.TotalLemmas.{both_ok}
-use Rattle.thread_sessions.specs.Runs.{IsRunOut}
+use Rattle.thread_sessions.specs.Runs.{IsRunOut, order_for}
 use Rattle.thread_sessions.proofs.PlayLemmas.{AreAt, all_at, all_stand, events_of, run_out, texts_in, totals_in}
 use Rattle.thread_sessions.proofs.end.end_run.Goals as goal
 
@@ -33,7 +32,8 @@ returns c =
     let all : AllByRecursion (IsOfOne (length sessions)) (log_tree book.log) = events_of (length sessions) book.log c.requires.none in
     record {
       log = told.log;
-      played = IfOk-weaker c.finish_run.result _ _ (λ run log. subst (λ (events : List Event). IsRunOut InPlan options (scripts_of sessions) (log_tree events)) (sym log) (run_out options (log_tree book.log) sessions at c.requires.in_plan all c.requires.over)) told.log;
+      played = λ workers set. IfOk-weaker c.finish_run.result _ _
+          (λ run log. subst (λ (events : List Event). IsRunOut (order_for workers) options (scripts_of sessions) (log_tree events)) (sym log) (run_out workers options (log_tree book.log) sessions at set all c.requires.over)) told.log;
       sessions = IfOk-weaker c.finish_run.result _ _ (λ run log. subst (λ (events : List Event). AllByRecursion (IsOfOne (length sessions)) (log_tree events)) (sym log) all) told.log;
       texts = both_ok c.finish_run.result _ _ _ (λ run log texts. texts_in book.log run.log.items log (scripts_of sessions) (map (λ (text : Vec ℕ Global). text.items) run.texts.items) texts) told.log told.texts;
       totals = both_ok c.finish_run.result _ _ _ (λ run log totals. totals_in book.log run.log.items log options run.totals totals) told.log told.totals;

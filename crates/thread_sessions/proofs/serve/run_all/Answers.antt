@@ -1,4 +1,5 @@
 use Rattle.std.proofs.Common.{◌≡◌, List, map, Ok, get_or}
+use Rattle.std.specs.Prelude.{nat_lt}
 use Rattle.std.proofs.lemmas.Option.{slice_get-get_or}
 use Rattle.std.proofs.lemmas.Result.{IfOk-weaker}
 use Rattle.run_log.specs.declared.event.Event.{Event}
@@ -10,18 +11,19 @@ pub run_each-requires-clause-runners : goal.run_each-requires-clause-runners
 run_each-requires-clause-runners g c κs within place runner low =
     let runners = c.args.runners.items in
     let there = slice_get-get_or runners place runner low in
-    ((c.requires.runners place (get_or runners place runner) there).1, c.requires.in_plan place (get_or runners place runner).session (session_there g.K.RunOptions.options c.args.hall.now runners place (get_or runners place runner) there))
+    let set = c.requires.set place (get_or runners place runner).session (session_there g.K.RunOptions.options c.args.hall.now runners place (get_or runners place runner) there) in
+    ((c.requires.runners place (get_or runners place runner) there).1, set.0, set.1)
 
 pub returns : goal.returns
 returns g c =
     let options = g.K.RunOptions.options in
     let hall = c.args.hall.now in
     let told = c.in_ok-ended.ensures in
-    let back : (after : List (Runner _ Event)) → map Ok after ≡ c.in_ok-ended.ended.items → AreBack options hall c.args.runners.items after = λ after all. are_back options hall c.args.runners.items after c.in_ok-ended.ended.items c.requires.runners c.requires.in_plan told.length told.each all in
+    let back : (after : List (Runner _ Event)) → map Ok after ≡ c.in_ok-ended.ended.items → AreBack options hall (nat_lt 1 c.args.workers) c.args.runners.items after = λ after all. are_back options hall (nat_lt 1 c.args.workers) c.args.runners.items after c.in_ok-ended.ended.items c.requires.runners c.requires.set told.length told.each all in
     record {
       length = IfOk-weaker c.all_ended.result _ _ (λ after all. (back after.items all).long) c.all_ended.ensures;
       scripts = IfOk-weaker c.all_ended.result _ _ (λ after all. (back after.items all).scripts) c.all_ended.ensures;
       runners = IfOk-weaker c.all_ended.result _ _ (λ after all. (back after.items all).runners) c.all_ended.ensures;
-      in_plan = IfOk-weaker c.all_ended.result _ _ (λ after all. (back after.items all).in_plan) c.all_ended.ensures;
+      set = IfOk-weaker c.all_ended.result _ _ (λ after all. (back after.items all).set) c.all_ended.ensures;
       over = IfOk-weaker c.all_ended.result _ _ (λ after all. (back after.items all).over) c.all_ended.ensures;
     }

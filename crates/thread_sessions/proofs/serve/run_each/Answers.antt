@@ -19,7 +19,7 @@ use Rattle.thread_sessions.specs.contracts.kept.Kept as KeptRow
 use Rattle.thread_sessions.specs.contracts.runner.Runner as RunnerRow
 use Rattle.thread_sessions.specs.contracts.serve.run_each.dyn-1.{slots}
 use Rattle.thread_sessions.proofs.SendLemmas.{kept_send}
-use Rattle.thread_sessions.proofs.ShareLemmas.{five_sync, scorer_sync}
+use Rattle.thread_sessions.proofs.ShareLemmas.{six_sync, scorer_sync}
 use Rattle.thread_sessions.proofs.StmtLemmas.{session_send}
 use Rattle.thread_sessions.proofs.serve.run_each.Given as given
 use Rattle.thread_sessions.proofs.serve.run_each.Goals as goal
@@ -47,5 +47,5 @@ map_vec-requires-send-X g c κs within =
 pub map_vec-requires-sync-F : goal.map_vec-requires-sync-F
 map_vec-requires-sync-F g c κs within =
     let table = slots g.row.K g.row.R g.row.E in
-    param_sync 4 _ (arg_sync _ denote.Exit.no _ (five_sync (codes "thread_sessions::serve::fn::run_each::run+Self") _ _ _ _ _ (param 1 g.row.R) GlobalRow.the_row _ (ScorerRow.the_row (Vt table g.dyn-1.0) (ghosts_of table g.dyn-1.0 g.dyn-1.1) (held_fn g.dyn-1.0)) (param 2 g.row.E) tt tt tt tt tt
-    (param_sync 1 g.row.R (record { shared = c.type_bounds.sync-R.shared })) Global.the_sync (hall_sync g.row.K g.K.RunOptions _) (lent_sync g) (param_sync 2 g.row.E (record { shared = c.type_bounds.sync-E.shared }))))
+    param_sync 4 _ (arg_sync _ denote.Exit.no _ (six_sync (codes "thread_sessions::serve::fn::run_each::run+Self") _ _ _ _ _ _ (param 1 g.row.R) GlobalRow.the_row _ (ScorerRow.the_row (Vt table g.dyn-1.0) (ghosts_of table g.dyn-1.0 g.dyn-1.1) (held_fn g.dyn-1.0)) (param 2 g.row.E) denote.Builtin.u32 tt tt tt tt tt tt
+    (param_sync 1 g.row.R (record { shared = c.type_bounds.sync-R.shared })) Global.the_sync (hall_sync g.row.K g.K.RunOptions _) (lent_sync g) (param_sync 2 g.row.E (record { shared = c.type_bounds.sync-E.shared })) (search sendable)))

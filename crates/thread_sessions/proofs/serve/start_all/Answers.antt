@@ -3,10 +3,10 @@ use Rattle.std.specs.List.{AllByRecursion}
 use Rattle.std.proofs.lemmas.List.{length-append, length-map}
 use Rattle.turn_hall.specs.Passes.{pass_number}
 use Rattle.session_run.specs.declared.session.Session.{Session}
-use Rattle.run_sessions.specs.Tables.{AreInPlan, scripts_of}
+use Rattle.run_sessions.specs.Tables.{scripts_of}
 use Rattle.run_sessions.proofs.PlaceLemmas.{one_of_all}
-use Rattle.thread_sessions.specs.Runs.{AreRunners, IsFirst, sessions_of}
-use Rattle.thread_sessions.proofs.JoinLemmas.{in_plan_more, runners_more, scripts_more, split_first, starts_with}
+use Rattle.thread_sessions.specs.Runs.{AreRunners, AreSet, IsFirst, sessions_of}
+use Rattle.thread_sessions.proofs.JoinLemmas.{runners_more, scripts_more, set_more, split_first, starts_with}
 use Rattle.thread_sessions.proofs.AlongLemmas.{new_at}
 use Rattle.thread_sessions.proofs.serve.start_all.Goals as goal
 
@@ -49,7 +49,7 @@ scripts-preserved g c =
       runners = subst (AreRunners options hall) (sym pushed)
           (runners_more options hall runners (record { pass = other; session = session }) number
           (record { ours = made.hall; stands = starts_with options c.scripts.pass other session made.free is made.seen c.scripts.invariant.seen made.own (new_at options session (c.new-session.ensures.stands options) (c.new-session.ensures.worked options)) }) c.scripts.invariant.runners);
-      in_plan = subst (λ l. AreInPlan (sessions_of l)) (sym pushed) (in_plan_more runners (record { pass = other; session = session }) c.new-session.ensures.wide c.scripts.invariant.in_plan);
+      set = subst (λ l. AreSet c.args.wide (sessions_of l)) (sym pushed) (set_more c.args.wide runners (record { pass = other; session = session }) (c.new-session.ensures.wide, c.new-session.ensures.begins) c.scripts.invariant.set);
       first = subst (λ l. IsFirst hall c.split.new.pass (length l) 0) (sym pushed)
           (subst (λ n. IsFirst hall c.split.new.pass n 0) (sym more)
           (split_first hall c.scripts.pass c.split.new.pass (length runners) first split.kept split.kept_number split.counted split.kept_joined split.kept_own));

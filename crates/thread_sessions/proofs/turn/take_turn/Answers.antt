@@ -3,8 +3,9 @@ use Rattle.std.proofs.lemmas.Bool.{leb-false, leb-true}
 use Rattle.run_log.specs.Events.{log_tree}
 use Rattle.turn_hall.specs.Passes.{seen_by}
 use Rattle.session_run.proofs.StageLemmas.{stage_sound}
-use Rattle.run_sessions.proofs.TurnLemmas.{computed_over, computed_ready, in_plan_goes}
+use Rattle.run_sessions.proofs.TurnLemmas.{computed_over, computed_ready}
 use Rattle.thread_sessions.proofs.AlongLemmas.{computed_with}
+use Rattle.thread_sessions.proofs.AsideLemmas.{computed_aside, event_aside, may_begin}
 use Rattle.thread_sessions.proofs.turn.take_turn.Goals as goal
 
 pub outside-requires : goal.outside-requires
@@ -18,13 +19,14 @@ returns-then-done g c =
     let options = g.K.RunOptions.options in
     let computed = c.in_ok-outside.ensures.computed in
     let all : length c.outside.new.self.pieces ≤ c.outside.new.self.ended = leb-true (length c.outside.new.self.pieces) c.outside.new.self.ended (sym c.done.ensures ∙ c.if-done.true) in
-    let over = computed_over options (log_tree (seen_by c.args.pass.now)) c.args.session.now c.outside.new.self (in_plan_goes c.args.session.now c.requires.in_plan) c.requires.stands.at.stands computed all in
+    let over = computed_over options (log_tree (seen_by c.args.pass.now)) c.args.session.now c.outside.new.self c.requires.in_plan c.requires.stands.at.stands computed all in
     record {
       ours = c.requires.ours;
       number = computed.number;
       pieces = computed.pieces;
       wide = computed.wide;
-      stands = computed_with options c.args.pass.now c.args.session.now c.outside.new.self (in_plan_goes c.args.session.now c.requires.in_plan) computed c.requires.stands;
+      stands = computed_with options c.args.pass.now c.args.session.now c.outside.new.self c.requires.in_plan computed c.requires.stands;
+      begins = λ aside. may_begin c.outside.new.self.stage (computed_aside c.args.session.now c.outside.new.self computed aside);
       one = λ same. absurd (not_more same);
       none = λ same. refl;
       over = λ same. over;
@@ -39,7 +41,10 @@ do_event-requires g c =
       kind = c.requires.kind;
       weights = c.requires.weights;
       ours = c.requires.ours;
-      stands = computed_with options c.args.pass.now c.args.session.now c.outside.new.self (in_plan_goes c.args.session.now c.requires.in_plan) computed c.requires.stands;
+      stands = computed_with options c.args.pass.now c.args.session.now c.outside.new.self c.requires.in_plan computed c.requires.stands;
       more = more;
       ready = computed_ready options (log_tree (seen_by c.args.pass.now)) c.args.session.now c.outside.new.self c.requires.stands.at.stands computed more;
     }
+
+pub returns-clause-begins : goal.returns-clause-begins
+returns-clause-begins g c = event_aside c.args.session.now c.outside.new.self c.do_event.new.session c.in_ok-outside.ensures.computed c.in_ok-do_event.ensures.follows
