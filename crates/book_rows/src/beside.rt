@@ -1,5 +1,5 @@
 //! A book beside plain tables, to which the same changes are done.
-ghost use Rattle.std.specs.Prelude.{◌≡◌, [], IfOk};
+ghost use Rattle.std.specs.Prelude.{◌≡◌, ◌<◌, [], IfOk};
 ghost use Rattle.score_hook.specs.declared.stats.Evict.TheVariants.{Lru};
 ghost use Rattle.score_hook.specs.Scores.{IsInRange, score_of};
 ghost use Rattle.sql_grammar.specs.Formed.{IsFormed};
@@ -16,7 +16,7 @@ use sql_parse::parse;
 use sql_semantics::Reply;
 use sql_tree::Stmt;
 use std::alloc::Global;
-use std::sync::ledger::Ledger;
+use std::sync::ledger::{Blank, Ledger};
 use table_store::Snap;
 
 /// The session and the statement by which all is done.
@@ -25,8 +25,88 @@ pub(crate) const WHO: Who = Who {
     statement: 1,
 };
 
+/// A book beside plain tables, to which the same changes are done.
+#[derive(Drop)]
+pub(crate) struct Beside<L: Ledger> {
+    book: Book,
+    scorer: Scorer,
+    steps: Steps<L>,
+    /// The plain tables.
+    pub(crate) db: Db,
+    ghost kind: { scorer.kind ≡ book.options.evict },
+    ghost weights: { scorer.weights.items ≡ book.options.weights },
+}
+
+impl<L: Ledger> Beside<L> {
+    /// An empty book and no tables.
+    pub(crate) fn new(alloc: Global, blank: Blank) -> Result<Beside<L>, Memory>
+        requires name { blank.name ≡ L.name }
+        requires parts { blank.parts ≡ L.parts }
+        requires some { 0 < blank.parts }
+    {
+        Ok(Beside {
+            book: empty_book(alloc)?,
+            scorer: by_last_use(alloc)?,
+            steps: Steps::<L>::new(blank),
+            db: Db {
+                tables: Sequence::new(alloc),
+            },
+        })
+    }
+
+    /// What the book replies to a change; a query counts as want of memory.
+    fn written(&mut self, alloc: Global, stmt: &Stmt) -> Result<Reply, Memory>
+        requires { IsFormed (stmt_tree stmt.now) }
+    {
+        match stmt {
+            Stmt::Query(_) | Stmt::Explain(_) => Err(Memory),
+            _ => self.book.write(
+                alloc,
+                &self.scorer,
+                WHO,
+                stmt,
+                &Kernel::new(),
+                &mut self.steps,
+            ),
+        }
+    }
+
+    /// Does a change to the book, and to the plain tables where the book did it, and tells whether both
+    /// reply alike. Where memory runs out in the book, nothing is done to them, and if it may, that is well.
+    pub(crate) fn write(
+        &mut self,
+        alloc: Global,
+        text: &str,
+        may_lack: bool,
+    ) -> Result<bool, Memory> {
+        let stmt = read(alloc, text)?;
+        match self.written(alloc, &stmt) {
+            Ok(told) => {
+                let plain = change(alloc, &stmt, &mut self.db)?;
+                Ok(is_same(&told, &plain))
+            }
+            Err(Memory) => { if may_lack { Ok(true) } else { Err(Memory) } }
+        }
+    }
+
+    /// The book's tables as they stand, by the begin of a query.
+    pub(crate) fn snapshot(&mut self, alloc: Global) -> Result<Snap, Memory> {
+        let stmt = read(alloc, "SELECT a FROM t")?;
+        match &stmt {
+            Stmt::Query(query) => Ok(self.book.begin(alloc, WHO, &stmt, query)?.snap),
+            _ => Err(Memory),
+        }
+    }
+
+    /// Whether the book has the plain tables.
+    pub(crate) fn agrees(&mut self, alloc: Global) -> Result<bool, Memory> {
+        let snap = self.snapshot(alloc)?;
+        has_tables(alloc, &snap, &self.db)
+    }
+}
+
 /// The scores by the moment of the last use.
-pub(crate) fn by_last_use(alloc: Global) -> Result<Scorer, Memory>
+fn by_last_use(alloc: Global) -> Result<Scorer, Memory>
     ensures kind { IfOk result (λ scorer. scorer.kind ≡ Lru) }
     ensures weights { IfOk result (λ scorer. scorer.weights.items ≡ []) }
 {
@@ -67,25 +147,6 @@ pub(crate) fn read(alloc: Global, text: &str) -> Result<Stmt, Memory>
     }
 }
 
-/// What the book replies to a change; a query counts as want of memory.
-fn written<L: Ledger>(
-    alloc: Global,
-    book: &mut Book,
-    scorer: &Scorer,
-    stmt: &Stmt,
-    steps: &mut Steps<L>,
-) -> Result<Reply, Memory>
-    requires kind { scorer.now.kind ≡ book.old.options.evict }
-    requires weights { scorer.now.weights.items ≡ book.old.options.weights }
-    requires formed { IsFormed (stmt_tree stmt.now) }
-    ensures { book.new.options ≡ book.old.options }
-{
-    match stmt {
-        Stmt::Query(_) | Stmt::Explain(_) => Err(Memory),
-        _ => book.write(alloc, scorer, WHO, stmt, &Kernel::new(), steps),
-    }
-}
-
 /// Whether two replies are the same.
 fn is_same(one: &Reply, other: &Reply) -> bool {
     match (one, other) {
@@ -93,58 +154,6 @@ fn is_same(one: &Reply, other: &Reply) -> bool {
         (Reply::Rows(some), Reply::Rows(others)) => *some == *others,
         (Reply::Refused(why), Reply::Refused(cause)) => *why == *cause,
         _ => false,
-    }
-}
-
-/// Does a change, which the check accepts, to the book and to the plain tables, and tells whether both
-/// reply alike.
-pub(crate) fn write_both<L: Ledger>(
-    alloc: Global,
-    book: &mut Book,
-    scorer: &Scorer,
-    db: &mut Db,
-    text: &str,
-    steps: &mut Steps<L>,
-) -> Result<bool, Memory>
-    requires kind { scorer.now.kind ≡ book.old.options.evict }
-    requires weights { scorer.now.weights.items ≡ book.old.options.weights }
-    ensures { book.new.options ≡ book.old.options }
-{
-    let stmt = read(alloc, text)?;
-    let told = written(alloc, book, scorer, &stmt, steps)?;
-    let plain = change(alloc, &stmt, db)?;
-    Ok(is_same(&told, &plain))
-}
-
-/// Does a change to the book, and to the plain tables where the book did it. Where memory runs out in the
-/// book nothing is done to them.
-pub(crate) fn write_or_leave<L: Ledger>(
-    alloc: Global,
-    book: &mut Book,
-    scorer: &Scorer,
-    db: &mut Db,
-    text: &str,
-    steps: &mut Steps<L>,
-) -> Result<(), Memory>
-    requires kind { scorer.now.kind ≡ book.old.options.evict }
-    requires weights { scorer.now.weights.items ≡ book.old.options.weights }
-    ensures { book.new.options ≡ book.old.options }
-{
-    let stmt = read(alloc, text)?;
-    match written(alloc, book, scorer, &stmt, steps) {
-        Ok(_) => change(alloc, &stmt, db).map(|_| ()),
-        Err(Memory) => Ok(()),
-    }
-}
-
-/// The tables as they stand, by the begin of a query.
-pub(crate) fn snapshot_of(alloc: Global, book: &mut Book, text: &str) -> Result<Snap, Memory>
-    ensures { book.new.options ≡ book.old.options }
-{
-    let stmt = read(alloc, text)?;
-    match &stmt {
-        Stmt::Query(query) => Ok(book.begin(alloc, WHO, &stmt, query)?.snap),
-        _ => Err(Memory),
     }
 }
 

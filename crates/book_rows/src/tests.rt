@@ -1,10 +1,8 @@
 //! What is wanted of a change is what the plain program of the language does.
 ghost use Rattle.std.specs.Prelude.{◌≡◌, ◌<◌};
 
-use crate::beside::{
-    WHO, by_last_use, empty_book, has_tables, read, snapshot_of, write_both, write_or_leave,
-};
-use cell_core::{Cell, Db, Memory, Op, Sequence, Steps, word_of};
+use crate::beside::{Beside, WHO, empty_book, has_tables, read};
+use cell_core::{Cell, Db, Memory, Op, Sequence, word_of};
 use lineage_key::{Key, KeyArg};
 use recycle_pool::Found;
 use sql_changes::{change, slow_effect};
@@ -43,24 +41,15 @@ const CHANGES: [&str; 24] = [
 ];
 
 /// Does the changes to a book and to plain tables, and tells whether both reply alike and have the same
-/// tables behind each.
-fn changes_agree<L: Ledger>(alloc: Global, blank: Blank) -> Result<bool, Memory>
+/// tables behind each. Where memory may run out, a change that lacks it is done to neither.
+fn changes_agree<L: Ledger>(alloc: Global, may_lack: bool, blank: Blank) -> Result<bool, Memory>
     requires name { blank.name ≡ L.name }
     requires parts { blank.parts ≡ L.parts }
     requires some { 0 < blank.parts }
 {
-    let mut steps = Steps::<L>::new(blank);
-    let scorer = by_last_use(alloc)?;
-    let mut book = empty_book(alloc)?;
-    let mut db = Db {
-        tables: Sequence::new(alloc),
-    };
+    let mut beside = Beside::<L>::new(alloc, blank)?;
     for text in CHANGES {
-        if !write_both(alloc, &mut book, &scorer, &mut db, text, &mut steps)? {
-            return Ok(false);
-        }
-        let snap = snapshot_of(alloc, &mut book, "SELECT a FROM t")?;
-        if !has_tables(alloc, &snap, &db)? {
+        if !beside.write(alloc, text, may_lack)? || !beside.agrees(alloc)? {
             return Ok(false);
         }
     }
@@ -70,37 +59,14 @@ fn changes_agree<L: Ledger>(alloc: Global, blank: Blank) -> Result<bool, Memory>
 #[test]
 fn changes_are_those_of_the_plain_program(rt: HostRuntime) -> Result<(), Fail> {
     let alloc = rt.alloc();
-    assert!(rt; changes_agree::<Brand>(alloc, Blank::new(1))?);
+    assert!(rt; changes_agree::<Brand>(alloc, false, Blank::new(1))?);
     Ok(())
-}
-
-/// Does the changes where memory may run out, and tells whether the tables are behind each those of the
-/// changes that were done.
-fn changes_are_whole<L: Ledger>(alloc: Global, blank: Blank) -> Result<bool, Memory>
-    requires name { blank.name ≡ L.name }
-    requires parts { blank.parts ≡ L.parts }
-    requires some { 0 < blank.parts }
-{
-    let mut steps = Steps::<L>::new(blank);
-    let scorer = by_last_use(alloc)?;
-    let mut book = empty_book(alloc)?;
-    let mut db = Db {
-        tables: Sequence::new(alloc),
-    };
-    for text in CHANGES {
-        write_or_leave(alloc, &mut book, &scorer, &mut db, text, &mut steps)?;
-        let snap = snapshot_of(alloc, &mut book, "SELECT a FROM t")?;
-        if !has_tables(alloc, &snap, &db)? {
-            return Ok(false);
-        }
-    }
-    Ok(true)
 }
 
 #[test]
 fn changes_are_done_whole_or_not_at_all(rt: HostRuntime) -> Result<(), Fail> {
     // With `rt try --test --fail-alloc N` the Nth allocation fails; outside of the changes it ends the test.
-    if let Ok(whole) = changes_are_whole::<Brand>(rt.alloc(), Blank::new(1)) {
+    if let Ok(whole) = changes_agree::<Brand>(rt.alloc(), true, Blank::new(1)) {
         assert!(rt; whole);
     }
     Ok(())
@@ -132,45 +98,18 @@ fn snapshot_stays<L: Ledger>(alloc: Global, blank: Blank) -> Result<bool, Memory
     requires parts { blank.parts ≡ L.parts }
     requires some { 0 < blank.parts }
 {
-    let mut steps = Steps::<L>::new(blank);
-    let scorer = by_last_use(alloc)?;
-    let mut book = empty_book(alloc)?;
-    let mut before = Db {
-        tables: Sequence::new(alloc),
-    };
+    let mut beside = Beside::<L>::new(alloc, blank)?;
     let many = many_rows(alloc)?;
-    let mut agree = write_both(
-        alloc,
-        &mut book,
-        &scorer,
-        &mut before,
-        "CREATE TABLE t (a INT)",
-        &mut steps,
-    )?;
+    let mut agree = beside.write(alloc, "CREATE TABLE t (a INT)", false)?;
     for _ in 0..13 {
-        agree &= write_both(
-            alloc,
-            &mut book,
-            &scorer,
-            &mut before,
-            many.as_str(),
-            &mut steps,
-        )?;
+        agree &= beside.write(alloc, many.as_str(), false)?;
     }
-    let held = snapshot_of(alloc, &mut book, "SELECT a FROM t")?;
-    let mut after = copy_tables(alloc, &before)?;
+    let held = beside.snapshot(alloc)?;
+    let before = copy_tables(alloc, &beside.db)?;
     for _ in 0..200 {
-        agree &= write_both(
-            alloc,
-            &mut book,
-            &scorer,
-            &mut after,
-            "INSERT INTO t VALUES (2)",
-            &mut steps,
-        )?;
+        agree &= beside.write(alloc, "INSERT INTO t VALUES (2)", false)?;
     }
-    let last = snapshot_of(alloc, &mut book, "SELECT a FROM t")?;
-    Ok(agree && has_tables(alloc, &held, &before)? && has_tables(alloc, &last, &after)?)
+    Ok(agree && has_tables(alloc, &held, &before)? && beside.agrees(alloc)?)
 }
 
 #[test]
