@@ -1,4 +1,4 @@
-//! That sessions run beside one another.
+//! That sessions run beside one another, and so do the instructions of a query.
 ghost use Rattle.std.specs.Prelude.{◌≡◌, ◌<◌};
 
 use bat_core::{Obj, Operate};
@@ -14,21 +14,69 @@ use std::sync::ledger::{Blank, Ledger};
 use std::test::Fail;
 use std::thread::Threads;
 
-/// How often the first selection looks for the second.
+/// How often the first selection looks for what it waits for.
 const MOST_LOOKS: u64 = 100_000_000;
 
-/// The kernel, which holds the first selection until a second has started, and notes whether one has.
+/// What the first selection waits for.
+#[derive(Clone, Copy)]
+enum Awaited {
+    /// The selection of another session.
+    Session,
+    /// The other selection of its own query.
+    Selection,
+    /// A mirror, which comes behind the other selection of its own query.
+    Mirror,
+}
+
+impl Awaited {
+    /// The number of workers, as a word.
+    fn workers(self) -> &'static str {
+        match self {
+            Awaited::Session => "1",
+            Awaited::Selection | Awaited::Mirror => "2",
+        }
+    }
+
+    /// The scripts, each with its name.
+    fn scripts(self) -> &'static [(&'static str, &'static str)] {
+        match self {
+            Awaited::Session => APART,
+            Awaited::Selection | Awaited::Mirror => TOGETHER,
+        }
+    }
+}
+
+/// The kernel, which holds the first selection until what it waits for has started, and notes whether it has.
 #[derive(Drop)]
 struct Holding {
-    started: AtomicU64,
+    awaited: Awaited,
+    selections: AtomicU64,
+    mirrors: AtomicU64,
     met: AtomicU64,
 }
 
 impl Holding {
-    /// Looks for a second selection.
+    fn new(awaited: Awaited) -> Holding {
+        Holding {
+            awaited,
+            selections: AtomicU64::new(0),
+            mirrors: AtomicU64::new(0),
+            met: AtomicU64::new(0),
+        }
+    }
+
+    /// Whether what the first selection waits for has started.
+    fn is_met(&self) -> bool {
+        match self.awaited {
+            Awaited::Session | Awaited::Selection => self.selections.load(Ordering::SeqCst) > 1,
+            Awaited::Mirror => self.mirrors.load(Ordering::SeqCst) > 0,
+        }
+    }
+
+    /// Looks for what the first selection waits for.
     fn hold(&self) {
         for _ in 0..MOST_LOOKS {
-            if self.started.load(Ordering::SeqCst) > 1 {
+            if self.is_met() {
                 self.met.store(1, Ordering::SeqCst);
                 return;
             }
@@ -44,7 +92,10 @@ impl Operate for Holding {
         args: &[Obj],
         steps: &mut Steps<L>,
     ) -> Result<Obj, RunError> {
-        if matches!(op, Op::Select) && self.started.fetch_add(1, Ordering::SeqCst) == 0 {
+        if matches!(op, Op::Mirror) {
+            self.mirrors.fetch_add(1, Ordering::SeqCst);
+        }
+        if matches!(op, Op::Select) && self.selections.fetch_add(1, Ordering::SeqCst) == 0 {
             self.hold();
         }
         Kernel::new().run(alloc, op, args, steps)
@@ -52,7 +103,7 @@ impl Operate for Holding {
 }
 
 /// Scripts that meet at no table.
-const APART: [(&str, &str); 2] = [
+const APART: &[(&str, &str)] = &[
     (
         "a.sql",
         "CREATE TABLE t (a INT); INSERT INTO t VALUES (3); SELECT a FROM t WHERE a BETWEEN 2 AND 3;",
@@ -63,10 +114,18 @@ const APART: [(&str, &str); 2] = [
     ),
 ];
 
-/// The status of a run of both, and whether their selections met.
-fn run_apart<L: Ledger, R: Threads + Wait + Sync>(
+/// A query with two selections that need nothing of one another.
+const TOGETHER: &[(&str, &str)] = &[(
+    "a.sql",
+    "CREATE TABLE t (a INT); INSERT INTO t VALUES (3); CREATE TABLE u (b INT); INSERT INTO u VALUES (4); \
+     SELECT a, b FROM t, u WHERE t.a < 5 AND u.b < 5;",
+)];
+
+/// The status of a run of the scripts, and whether the first selection met what it waited for.
+fn run_held<L: Ledger, R: Threads + Wait + Sync>(
     rt: &R,
     alloc: Global,
+    awaited: Awaited,
     blank: Blank,
 ) -> Result<(u8, u64), Memory>
     requires name { blank.name ≡ L.name }
@@ -74,9 +133,11 @@ fn run_apart<L: Ledger, R: Threads + Wait + Sync>(
     requires some { 0 < blank.parts }
 {
     let mut words = Vec::new(alloc);
-    words.push(word_of(alloc, "run")?)?;
+    for word in ["run", "--workers", awaited.workers()] {
+        words.push(word_of(alloc, word)?)?;
+    }
     let mut held = Vec::new(alloc);
-    for (name, text) in APART {
+    for (name, text) in awaited.scripts() {
         words.push(word_of(alloc, name)?)?;
         held.push((
             word_of(alloc, name)?,
@@ -86,10 +147,7 @@ fn run_apart<L: Ledger, R: Threads + Wait + Sync>(
     let mut scripts = SureScripts::new(held);
     let mut out = MemSink::new(alloc, 1000, 1000, Vec::new(alloc))?;
     let mut steps = Steps::<L>::new(blank);
-    let kernel = Holding {
-        started: AtomicU64::new(0),
-        met: AtomicU64::new(0),
-    };
+    let kernel = Holding::new(awaited);
     let served = top(
         rt,
         alloc,
@@ -103,14 +161,38 @@ fn run_apart<L: Ledger, R: Threads + Wait + Sync>(
 }
 
 /// The same with a counter of its own.
-fn run_here<R: Threads + Wait + Sync>(rt: &R, alloc: Global) -> Result<(u8, u64), Memory> {
-    run_apart::<Brand, _>(rt, alloc, Blank::new(1))
+fn run_here<R: Threads + Wait + Sync>(
+    rt: &R,
+    alloc: Global,
+    awaited: Awaited,
+) -> Result<(u8, u64), Memory> {
+    run_held::<Brand, _>(rt, alloc, awaited, Blank::new(1))
 }
 
 #[test]
 fn a_selection_starts_while_another_sessions_is_held(rt: HostRuntime) -> Result<(), Fail> {
     let alloc = rt.alloc();
-    let (status, met) = run_here(&rt, alloc)?;
+    let (status, met) = run_here(&rt, alloc, Awaited::Session)?;
+    assert_eq!(rt; (status, met), (0, 1));
+    Ok(())
+}
+
+#[test]
+fn a_selection_starts_while_the_other_one_of_its_query_is_held(
+    rt: HostRuntime,
+) -> Result<(), Fail> {
+    let alloc = rt.alloc();
+    let (status, met) = run_here(&rt, alloc, Awaited::Selection)?;
+    assert_eq!(rt; (status, met), (0, 1));
+    Ok(())
+}
+
+#[test]
+fn a_mirror_starts_while_the_first_selection_of_its_query_is_held(
+    rt: HostRuntime,
+) -> Result<(), Fail> {
+    let alloc = rt.alloc();
+    let (status, met) = run_here(&rt, alloc, Awaited::Mirror)?;
     assert_eq!(rt; (status, met), (0, 1));
     Ok(())
 }
