@@ -3,11 +3,11 @@ ghost use Rattle.std.specs.Prelude.{◌≡◌, ℕ, ◌+◌, ◌^◌, ◌-◌, �
 ghost use Rattle.turn_hall.specs.Entries.{StartsWith, entries_by, longer};
 ghost use Rattle.turn_hall.specs.Turns.{turn_value};
 
-use crate::bells::{BELLS, Bells};
 use crate::logged::Logged;
 use crate::rule::{HallRule, VALUE};
 use crate::turn::Turn;
 use crate::view::View;
+use crate::waiters::{Waiters, Wake};
 use atomic_table::{Seat, Table};
 use cell_core::Memory;
 use crossbeam_utils::Backoff;
@@ -18,7 +18,7 @@ use std::sync::Wait;
 #[derive(Drop)]
 pub struct Hall<V: Logged> {
     pub(crate) table: Table<Option<V>, View<V::Entry>, (), HallRule<V>, Global>,
-    pub(crate) bells: Bells,
+    pub(crate) waiters: Waiters,
     ghost sized: { (table.shared.table_id.words ≡ 3) × (table.shared.table_id.slots ≡ 1) },
 }
 
@@ -44,11 +44,13 @@ impl<V: Logged> Hall<V> {
         ensures alone { IfOk result (λ made. (split_count made.1 ≡ 0) × (joined_passes made.1 ≡ [])) }
         ensures free { IfOk result (λ made. IsFree made.1) }
     {
-        let bells = Bells::new(alloc)?;
         let mut slots = Vec::new(alloc);
         slots.push(Some(value))?;
         match Table::new(alloc, &[0, 0, 0], slots, &()) {
-            Ok((table, seat)) => Ok((Hall { table, bells }, Pass { seat })),
+            Ok((table, seat)) => {
+                let waiters = Waiters::new();
+                Ok((Hall { table, waiters }, Pass { seat }))
+            }
             Err(_refused) => Err(Memory),
         }
     }
@@ -90,19 +92,31 @@ impl<V: Logged> Hall<V> {
         ensures kept_own { own_entries pass.new ≡ own_entries pass.old }
         ensures kept_place { KeepsPlace pass.old pass.new }
     {
+        let wake = self.wait(rt);
         let ticket = self.draw(pass);
         let backoff = Backoff::new();
-        'waits: for _ in rt.forever() {
-            let before = self.watch(pass, ticket);
-            if before == 0 {
+        'watches: for _ in rt.forever() {
+            if self.watch(pass, ticket) {
+                self.waiters.served(&wake);
                 return Turn::new(self.take_value(pass));
             }
-            // A short wait spins and yields: to sleep and to be woken takes longer.
-            if backoff.is_completed() && before < BELLS {
-                self.bells.sleep(rt, ticket);
-                backoff.reset();
-            } else {
-                backoff.snooze();
+            backoff.snooze();
+        }
+        unreachable!()
+    }
+
+    /// Waits until no pass has the turn or a ticket for it, as it seems at a moment. A pass that waits here holds
+    /// up no other: who runs takes its turn before one that sleeps.
+    fn wait<R: Wait>(&self, rt: &R) -> Wake {
+        let mut wake = Wake::new();
+        'looks: for _ in rt.forever() {
+            let ticket = self.served();
+            if self.is_next(ticket) {
+                return wake;
+            }
+            if self.waiters.looked(&mut wake) {
+                self.sleep(rt, ticket);
+                self.waiters.slept(&mut wake);
             }
         }
         unreachable!()
@@ -169,7 +183,7 @@ impl<V: Logged> Hall<V> {
         ensures begins { StartsWith (V.entries result) (seen_by pass) }
         ensures each { (number : ℕ) → entries_by V.author number (V.entries result) ≡ entries_under pass number }
     {
-        let Hall { table, bells: _ } = self;
+        let Hall { table, waiters: _ } = self;
         let Pass { seat } = pass;
         let mut closed = table.close_with(seat);
         let value = closed.take(VALUE).unwrap();

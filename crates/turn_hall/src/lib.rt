@@ -1,11 +1,12 @@
 //! The hall: a value that many threads change, one turn after another, and a list that only grows.
 //!
 //! A value in the hall stands for a list of entries (`Logged`). A thread steps with a `Pass`, which
-//! has a number. `Hall::turn` waits until the pass's ticket is served, and lends the value in a
-//! `Turn`; `leave` gives it back with one entry more, and `give_up` gives it back as it was.
+//! has a number. `Hall::turn` waits until the hall seems free, draws a ticket, waits until that is
+//! served, and lends the value in a `Turn`; `leave` gives it back with one entry more, and `give_up`
+//! gives it back as it was.
 //!
 //! It stands on `atomic_table`, whose words and slot it steps on, on `crossbeam_utils`, whose
-//! `Backoff` a waiting ticket uses before it sleeps, and on `cell_core` for `Memory`.
+//! `Backoff` a waiting pass uses before it sleeps, and on `cell_core` for `Memory`.
 //!
 //! It promises, of any number of threads: at each turn the list begins with all that the pass has
 //! seen, and the entries of it that name the pass are exactly the pass's own, in order and each once;
@@ -13,7 +14,6 @@
 //! is promised of progress: a call that waits owes no return.
 #![tactic(auto)]
 
-mod bells;
 mod hall;
 mod logged;
 mod rule;
@@ -22,6 +22,7 @@ mod steps;
 mod tests;
 mod turn;
 mod view;
+mod waiters;
 
 pub use hall::{Hall, Pass};
 pub use logged::Logged;

@@ -1,5 +1,5 @@
 //! The steps of a pass, one function for each kind. The calls of `hall.rt` are made of them.
-ghost use Rattle.std.specs.Prelude.{◌≡◌, ◌≢◌, ◌^◌, ◌-◌, ◌<◌, [], ◌∷◌, length};
+ghost use Rattle.std.specs.Prelude.{◌≡◌, ◌≢◌, ◌^◌, ◌-◌, ◌<◌, [], ◌∷◌, length, true, false};
 ghost use Rattle.turn_hall.specs.declared.view.Stage.TheVariants.{Free, Serving};
 ghost use Rattle.turn_hall.specs.Steps.{slot_entries, Begins, Draws, Publishes, PassesOn, Compares};
 ghost use Rattle.turn_hall.specs.Views.{IsAtTurn, one_more, newcomer, joined_with};
@@ -9,9 +9,29 @@ use crate::logged::Logged;
 use crate::rule::{
     COUNT, Compare, DrawTicket, PassOn, Publish, SERVING, SplitJoin, TICKETS, VALUE, Watch,
 };
+use std::sync::Wait;
+use std::time::Duration;
 
 impl<V: Logged> Hall<V> {
     ghost use Rattle.turn_hall.specs.Passes.{IsPassOf, IsFree, AddsOne, Waits, HasValue, seen_by, pass_number, split_count};
+
+    /// The ticket that is served at this moment.
+    pub(crate) fn served(&self) -> u64 {
+        self.table.shared.peek(SERVING)
+    }
+
+    /// Whether a ticket is the next one at this moment. A look is cheaper than to try and fail.
+    pub(crate) fn is_next(&self, ticket: u64) -> bool {
+        self.table.shared.peek(TICKETS) == ticket
+    }
+
+    /// Sleeps until the ticket that is served is another one, or for a millisecond.
+    pub(crate) fn sleep<R: Wait>(&self, rt: &R, ticket: u64) {
+        let longest = Duration::from_millis(1);
+        self.table
+            .shared
+            .park_timeout(rt, SERVING, (ticket % (1 << 32)) as u32, longest);
+    }
 
     /// Draws a ticket.
     pub(crate) fn draw(&self, pass: &mut Pass<V>) -> u64
@@ -25,17 +45,16 @@ impl<V: Logged> Hall<V> {
             .fetch_add::<DrawTicket>(&mut pass.seat, TICKETS, 1)
     }
 
-    /// Watches the ticket that is served, and says how many are before this one. Where none is, the turn begins.
-    pub(crate) fn watch(&self, pass: &mut Pass<V>, ticket: u64) -> u64
+    /// Watches the ticket that is served, and says whether it is this one. Then the turn begins.
+    pub(crate) fn watch(&self, pass: &mut Pass<V>, ticket: u64) -> bool
         requires hall { IsPassOf self.now pass.old }
         requires waits { Waits ticket pass.old }
         ensures hall { IsPassOf self.now pass.new }
-        ensures served { result ≡ 0 → Begins V.entries V.author pass.old.seat.me pass.new.seat.me }
-        ensures whole { result ≡ 0 → HasValue V.entries pass.new }
-        ensures later { result ≢ 0 → pass.new.seat.me ≡ pass.old.seat.me }
+        ensures served { result ≡ true → Begins V.entries V.author pass.old.seat.me pass.new.seat.me }
+        ensures whole { result ≡ true → HasValue V.entries pass.new }
+        ensures later { result ≡ false → pass.new.seat.me ≡ pass.old.seat.me }
     {
-        let served = self.table.shared.load::<Watch<V>>(&mut pass.seat, SERVING);
-        ticket.wrapping_sub(served)
+        self.table.shared.load::<Watch<V>>(&mut pass.seat, SERVING) == ticket
     }
 
     /// Takes the value out of the slot.
@@ -80,7 +99,8 @@ impl<V: Logged> Hall<V> {
             .store::<Publish<V>>(&mut pass.seat, COUNT, count);
     }
 
-    /// Passes the turn on, where the value in the slot stands for what the pass has seen, and wakes who waits for it.
+    /// Passes the turn on, where the value in the slot stands for what the pass has seen, and wakes one that sleeps
+    /// where nobody is awake who would take it.
     pub(crate) fn pass_on(&self, pass: &mut Pass<V>)
         requires hall { IsPassOf self.now pass.old }
         requires turn { IsAtTurn pass.old.seat.me.0.stage }
@@ -88,13 +108,12 @@ impl<V: Logged> Hall<V> {
         ensures hall { IsPassOf self.now pass.new }
         ensures passed { PassesOn pass.old.seat.me pass.new.seat.me }
     {
-        let served = self
-            .table
+        self.table
             .shared
             .fetch_add::<PassOn>(&mut pass.seat, SERVING, 1);
-        self.bells.ring(served.wrapping_add(1));
-        // Who comes behind wakes up meanwhile.
-        self.bells.ring(served.wrapping_add(2));
+        if self.waiters.wants_call() {
+            self.table.shared.wake_one(SERVING);
+        }
     }
 
     /// Splits a pass from the first one.
