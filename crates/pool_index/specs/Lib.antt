@@ -1,3 +1,4 @@
 pub mod Printed
 pub mod Named
 pub mod Under
+pub mod Beside

@@ -1,15 +1,17 @@
 //! By what a pool finds at once an entry with a key, and those that stand on a result: the prints of keys
-//! with the ids under them, and ids under those of their first parents.
+//! with the ids under them, and ids under those of their first parents. And beside the ids their parents.
 //!
 //! It stands on `lineage_key` for keys and on `indexmap`. A key's print is a number that equal keys have
-//! in common. `Prints` keeps an id under a print, `Children` ids under a parent, both in room that is taken
-//! at the start, so that no later call takes memory.
+//! in common. `Prints` keeps an id under a print, `Children` ids under a parent, `Parents` the parents of
+//! ids, all in room that is taken at the start, so that no later call takes memory.
 #![tactic(auto)]
 
 mod children;
+mod parents;
 mod print;
 mod prints;
 
 pub use children::Children;
+pub use parents::{Kin, Parents};
 pub use print::print_of;
 pub use prints::Prints;

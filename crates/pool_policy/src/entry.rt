@@ -1,7 +1,6 @@
 ghost use Rattle.std.specs.Prelude.{◌≡◌, ◌<◌, ◌^◌, []};
 ghost use Rattle.pool_policy.specs.Admits.{is_held, pays_at_end, row_of, unpinned};
 ghost use Rattle.pool_policy.specs.Looks.{is_own, pays_back, pinned, used};
-ghost use Rattle.lineage_key.specs.Parents.{parents_of};
 
 use bat_core::Shared;
 use evict_admit::Row;
@@ -110,19 +109,6 @@ impl PoolEntry {
             id: self.id,
             bytes: self.bytes,
             free: !self.is_held(),
-            parents: self.key.parents(),
-            stats: self.stats,
-        }
-    }
-
-    /// It as it is weighed where a result with this key is to be admitted, whose parents are kept.
-    pub fn row(&self, key: &Key) -> Row
-        ensures { result ≡ row_of (parents_of key.now) self.now }
-    {
-        Row {
-            id: self.id,
-            bytes: self.bytes,
-            free: !self.is_held() && !key.names(self.id),
             parents: self.key.parents(),
             stats: self.stats,
         }

@@ -15,3 +15,4 @@ pub mod Admissions
 pub mod Carrying
 pub mod Contained
 pub mod Walks
+pub mod Beside

@@ -1,11 +1,14 @@
--- Entries that are found by their first parents.
+-- Entries that are found by their first parents, and the parents beside them.
 use Rattle.std.specs.Prelude.{◌≡◌, ℕ, ◌==◌, List, Option, Some, Bool, false, not, ◌&&◌, ◌||◌, if◌then◌else◌, length, map, nat_lt}
 use Rattle.std.specs.List.{filter_map}
 use Rattle.std.specs.Option.{option_and_then, option_map, option_map_or}
 use Rattle.cell_core.specs.declared.cut.Span.{Span}
+use Rattle.lineage_key.specs.Parents.{two_parents}
 use Rattle.lineage_key.specs.Spans.{span_asked}
 use Rattle.subsume.specs.Cutting.{is_contained}
 use Rattle.least_cover.specs.Chosen.{Selection}
+use Rattle.pool_index.specs.declared.parents.Kin.{Kin}
+use Rattle.pool_index.specs.Beside.{ParentsView}
 use Rattle.pool_index.specs.Under.{ChildrenView, under}
 use Rattle.pool_policy.specs.declared.entry.PoolEntry.{PoolEntry}
 use Rattle.pool_policy.specs.Keyed.{entry_of_id, first_parent}
@@ -17,6 +20,14 @@ pair_of e = (first_parent e.key, e.id)
 -- under each parent stand the entries that have it first, in the order of their ids
 abbrev pub IsIndexed : ChildrenView → List PoolEntry → Type 0
 IsIndexed children entries = (parent : ℕ) → under parent children.pairs ≡ under parent (map pair_of entries)
+
+-- an entry's id and its parents
+abbrev pub kin_of : PoolEntry → Kin
+kin_of e = record { id = e.id; parents = two_parents e.key }
+
+-- beside each entry stand its parents, in the same order
+abbrev pub AreBeside : ParentsView → List PoolEntry → Type 0
+AreBeside parents entries = parents.kin ≡ map kin_of entries
 
 -- an entry as a selection, whatever it selects from
 abbrev pub own_selection : PoolEntry → Option Selection

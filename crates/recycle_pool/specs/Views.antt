@@ -6,7 +6,7 @@ use Rattle.pool_policy.specs.Keeps.{IsPool}
 use Rattle.recycle_pool.specs.declared.lists.Lists.{Lists}
 use Rattle.recycle_pool.specs.declared.pool.Pool.TheInside.{Inside}
 use Rattle.recycle_pool.specs.Named.{IsNamed}
-use Rattle.recycle_pool.specs.Indexed.{IsIndexed}
+use Rattle.recycle_pool.specs.Indexed.{AreBeside, IsIndexed}
 
 abbrev pub pool_shown : Inside → PoolState
 pool_shown p = record { options = p.options; entries = p.entries.items; next = p.next; moment = p.moment; shapes = p.shapes.items; credit = p.ledger.each }
@@ -17,7 +17,7 @@ pub record HaveRoom (places : ℕ) (lists : Lists) : Type 0 where
   pub gone : places ≤ vec_capacity lists.gone
   pub rows : places ≤ vec_capacity lists.rows
 
--- it is a pool, each shape starts with the credit of the options, all places are taken at the start, each key is found by its print and each entry by its first parent, the bytes are told, and there are few ids and shapes for its moment
+-- it is a pool, each shape starts with the credit of the options, all places are taken at the start, each key is found by its print and each entry by its first parent, the parents of each stand beside it, the bytes are told, and there are few ids and shapes for its moment
 pub record IsKept (p : Inside) : Type 0 where
   pub pool : IsPool (pool_shown p)
   pub few : p.options.places ≤ 1024
@@ -33,3 +33,5 @@ pub record IsKept (p : Inside) : Type 0 where
   pub prints : 2 * p.options.places ≤ p.keys.prints.room
   pub children : IsIndexed p.children p.entries.items
   pub spare : p.options.places ≤ p.children.room
+  pub kin : AreBeside p.parents p.entries.items
+  pub kin_room : p.options.places ≤ p.parents.room

@@ -130,16 +130,16 @@ impl Pool {
         if is_spent(&self.ledger, shape) {
             return Ok(Admitted::NoCredit(shape));
         }
-        let (need, slots) = wanted(self.entries.as_slice(), self.bytes, &self.options, bytes);
+        let want = wanted(self.entries.as_slice(), self.bytes, &self.options, bytes);
         let enough = plan_room(
             &mut self.lists,
             self.entries.as_slice(),
+            self.parents.all(),
             &self.options,
             scorer,
             now,
             &offered.key,
-            need,
-            slots,
+            want,
         );
         let gone = self.lists.gone.as_slice();
         let left = left_bytes(self.entries.as_slice(), self.bytes, gone);
@@ -149,11 +149,11 @@ impl Pool {
         let id = self.next;
         let entry = new_entry(id, shape, offered, bytes, who, now);
         leave(&mut self.entries, &mut self.ledger, gone);
-        take_children(&mut self.children, gone);
+        take_children(&mut self.children, &mut self.parents, gone);
         self.bytes = left + bytes;
         pay(&mut self.ledger, shape);
         self.keys.add(self.entries.as_slice(), &entry);
-        add_child(&mut self.children, &entry);
+        add_child(&mut self.children, &mut self.parents, &entry);
         enter(&mut self.entries, entry);
         self.next = id + 1;
         let gone = self.lists.gone.len() as u64;

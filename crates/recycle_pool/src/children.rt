@@ -1,48 +1,57 @@
-//! By what the entries that stand on a parent are found at once: their ids under its own.
+//! What stands of parents beside the entries: under each parent the ids of those that stand on it, and in
+//! the order of the entries the parents of each.
 ghost use Rattle.std.specs.Prelude.{◌≡◌, ◌+◌, ◌<◌, ◌≤◌, ◌++◌, ◌∷◌, [], List, length};
 ghost use Rattle.pool_policy.specs.declared.entry.PoolEntry.{PoolEntry as EntryValue};
 ghost use Rattle.pool_policy.specs.Admits.{left_without};
-ghost use Rattle.pool_policy.specs.Keyed.{first_parent as parent_in};
-ghost use Rattle.recycle_pool.specs.Indexed.{IsIndexed};
+ghost use Rattle.recycle_pool.specs.Indexed.{AreBeside, IsIndexed, kin_of};
 
-use lineage_key::Key;
-use pool_index::Children;
+use pool_index::{Children, Kin, Parents};
 use pool_policy::PoolEntry;
 
-/// The first parent of a key, 0 where it has none.
-pub(crate) fn first_parent(key: &Key) -> u64
-    ensures { result ≡ parent_in key.now }
-{
-    let [first, _] = key.parents();
-    first
-}
-
-/// One more entry stands under its parent, which comes behind the others.
-pub(crate) fn add_child(children: &mut Children, entry: &PoolEntry)
-    requires { length children.old.pairs < children.old.room }
+/// One more entry stands under its parent, and has its parents beside it. It comes behind the others.
+pub(crate) fn add_child(children: &mut Children, parents: &mut Parents, entry: &PoolEntry)
+    requires pairs { length children.old.pairs < children.old.room }
+    requires kin { length parents.old.kin < parents.old.room }
     ensures indexed { (entries : List EntryValue) → IsIndexed children.old entries → IsIndexed children.new (entries ++ entry.now ∷ []) }
     ensures count { length children.new.pairs ≡ length children.old.pairs + 1 }
     ensures room { children.old.room ≤ children.new.room }
+    ensures kin { parents.new.kin ≡ parents.old.kin ++ kin_of entry.now ∷ [] }
+    ensures kin_room { parents.old.room ≤ parents.new.room }
 {
-    children.add(first_parent(&entry.key), entry.id);
+    let [first, second] = entry.key.parents();
+    children.add(first, entry.id);
+    parents.add(Kin {
+        id: entry.id,
+        parents: [first, second],
+    });
 }
 
-/// The entries whose ids are among these stand under no parent any more.
-pub(crate) fn take_children(children: &mut Children, gone: &[u64])
+/// The entries whose ids are among these stand under no parent any more, and their parents go.
+pub(crate) fn take_children(children: &mut Children, parents: &mut Parents, gone: &[u64])
     ensures indexed { (entries : List EntryValue) → IsIndexed children.old entries → IsIndexed children.new (left_without gone.now entries) }
     ensures room { children.old.room ≤ children.new.room }
+    ensures kin { (entries : List EntryValue) → AreBeside parents.old entries → AreBeside parents.new (left_without gone.now entries) }
+    ensures kin_room { parents.old.room ≤ parents.new.room }
 {
+    if gone.is_empty() {
+        return;
+    }
     children.take_out(gone);
+    parents.take_out(gone);
 }
 
-/// These entries alone stand under their parents.
-pub(crate) fn renew_children(children: &mut Children, entries: &[PoolEntry])
-    requires { length entries.now ≤ children.old.room }
+/// These entries alone stand under their parents, and have their parents beside them.
+pub(crate) fn renew_children(children: &mut Children, parents: &mut Parents, entries: &[PoolEntry])
+    requires pairs { length entries.now ≤ children.old.room }
+    requires kin { length entries.now ≤ parents.old.room }
     ensures indexed { IsIndexed children.new entries.now }
     ensures room { children.old.room ≤ children.new.room }
+    ensures kin { AreBeside parents.new entries.now }
+    ensures kin_room { parents.old.room ≤ parents.new.room }
 {
     children.clear();
+    parents.clear();
     'entries: for i in 0..entries.len() {
-        add_child(children, &entries[i]);
+        add_child(children, parents, &entries[i]);
     }
 }

@@ -8,7 +8,6 @@ ghost use Rattle.recycle_pool.specs.Indexed.{IsIndexed};
 ghost use Rattle.recycle_pool.specs.Named.{IsNamed};
 ghost use Rattle.recycle_pool.specs.Usable.{IsLookable};
 
-use crate::children::first_parent;
 use crate::covers::{find_cover, value_at};
 use crate::found::{Found, Part};
 use crate::keys::Keys;
@@ -60,7 +59,10 @@ fn find_range(
 {
     match span_of(key)? {
         None => Ok(Found::Miss),
-        Some(target) => find_selection(children, entries, first_parent(key), &target, parts),
+        Some(target) => {
+            let [parent, _] = key.parents();
+            find_selection(children, entries, parent, &target, parts)
+        }
     }
 }
 

@@ -10,7 +10,7 @@ use bat_core::Shared;
 use cell_core::Memory;
 use evict_admit::Ledger;
 use lineage_key::{Key, Shape};
-use pool_index::Children;
+use pool_index::{Children, Parents};
 use pool_policy::{PoolEntry, PoolOptions};
 use std::alloc::Global;
 use std::marker::Model;
@@ -28,6 +28,8 @@ pub struct Pool {
     pub(crate) keys: Keys,
     /// The ids of the entries under those of their first parents.
     pub(crate) children: Children,
+    /// The parents of each entry, in the order of the entries.
+    pub(crate) parents: Parents,
     /// The stated bytes of all entries.
     pub(crate) bytes: u64,
 }
@@ -55,6 +57,7 @@ impl Pool {
         let lists = Lists::new(alloc, options.places as usize)?;
         let keys = Keys::new(alloc, options.places as usize)?;
         let children = Children::new(alloc, options.places as usize)?;
+        let parents = Parents::new(alloc, options.places as usize)?;
         let ledger = Ledger::new(alloc, options.credits);
         Ok(Pool {
             options,
@@ -66,6 +69,7 @@ impl Pool {
             lists,
             keys,
             children,
+            parents,
             bytes: 0,
         })
     }

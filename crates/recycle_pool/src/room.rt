@@ -1,30 +1,50 @@
 //! Room for a new entry: which entries go, and what their leaving pays back.
-ghost use Rattle.std.specs.Prelude.{◌≡◌, ◌≢◌, ◌==◌, ◌&&◌, ◌++◌, ◌∷◌, ◌-◌, ◌+◌, ◌<◌, ◌≤◌, ◌^◌, [], false, filter, length, not, slice_index, vec_len};
+ghost use Rattle.std.specs.Prelude.{◌≡◌, ◌≢◌, ◌==◌, ◌&&◌, ◌++◌, ◌∷◌, ◌-◌, ◌+◌, ◌<◌, ◌≤◌, ◌^◌, [], false, filter, length, map, not, slice_index, vec_len};
 ghost use Rattle.std.specs.Vec.{vec_capacity};
-ghost use Rattle.lineage_key.specs.Parents.{parents_of};
+ghost use Rattle.lineage_key.specs.Parents.{parents_of, two_parents};
 ghost use Rattle.evict_admit.specs.Evictions.{is_enough};
 ghost use Rattle.evict_admit.specs.Runs.{given_up, is_one_of};
 ghost use Rattle.pool_policy.specs.Pool.{pool_bytes, score_at};
 ghost use Rattle.pool_policy.specs.Looks.{paid_back};
-ghost use Rattle.pool_policy.specs.Admits.{credit_of, left_without, one_less, pays_at_end, rows_of};
+ghost use Rattle.pool_policy.specs.Admits.{credit_of, left_without, one_less, pays_at_end, row_of, rows_of};
+ghost use Rattle.recycle_pool.specs.Indexed.{kin_of};
 ghost use Rattle.recycle_pool.specs.Usable.{IsOwed, IsWeighable};
 
 use crate::lists::Lists;
 use crate::uses::pay_if;
 use evict_admit::{Ledger, Row, plan_evictions};
 use lineage_key::Key;
+use pool_index::Kin;
 use pool_policy::{PoolEntry, PoolOptions, is_among};
 use score_hook::Scorer;
 
-/// The entries as they are weighed where an entry with this key is to come.
-fn fill_rows(rows: &mut Vec<Row>, entries: &[PoolEntry], key: &Key)
-    requires { length entries.now ≤ vec_capacity rows.old }
+/// An entry as it is weighed where an entry with this key is to come. Its parents are handed in, so that
+/// its own key isn't read.
+fn row_with(entry: &PoolEntry, parents: [u64; 2], key: &Key) -> Row
+    requires { parents ≡ two_parents entry.now.key }
+    ensures { result ≡ row_of (parents_of key.now) entry.now }
+{
+    Row {
+        id: entry.id,
+        bytes: entry.bytes,
+        free: !entry.is_held() && !key.names(entry.id),
+        parents,
+        stats: entry.stats,
+    }
+}
+
+/// The entries as they are weighed where an entry with this key is to come. Their parents are read beside
+/// them: in each key they lie on the heap, far from each other.
+fn fill_rows(rows: &mut Vec<Row>, entries: &[PoolEntry], kin: &[Kin], key: &Key)
+    requires room { length entries.now ≤ vec_capacity rows.old }
+    requires kin { kin.now ≡ map kin_of entries.now }
     ensures rows { rows.new.items ≡ rows_of (parents_of key.now) entries.now }
     ensures room { vec_capacity rows.old ≤ vec_capacity rows.new }
 {
     rows.clear();
     'rows: for i in 0..entries.len() {
-        if rows.push(entries[i].row(key)).is_err() {
+        let row = row_with(&entries[i], kin[i].parents, key);
+        if rows.push(row).is_err() {
             unreachable!();
         }
     }
@@ -54,33 +74,35 @@ fn is_nothing(need: u128, slots: u64) -> bool
     need == 0 && slots == 0
 }
 
-/// Lists which entries are given up for a new one, where so many bytes and places are wanted. Whether
-/// that is enough.
+/// Lists which entries are given up for a new one, where so many bytes and places are wanted. Their
+/// parents stand beside them. Whether that is enough.
 pub(crate) fn plan_room(
     lists: &mut Lists,
     entries: &[PoolEntry],
+    kin: &[Kin],
     options: &PoolOptions,
     scorer: &Scorer,
     now: u64,
     key: &Key,
-    need: u128,
-    slots: u64,
+    want: (u128, u64),
 ) -> bool
     requires kind { scorer.now.kind ≡ options.now.evict }
     requires weights { scorer.now.weights.items ≡ options.now.weights }
     requires plan { IsWeighable now entries.now }
     requires rows { length entries.now ≤ vec_capacity lists.old.rows }
     requires gone { length entries.now ≤ vec_capacity lists.old.gone }
-    ensures plan { (lists.new.gone.items, result) ≡ given_up (score_at options.now now) (rows_of (parents_of key.now) entries.now) need slots }
+    requires kin { kin.now ≡ map kin_of entries.now }
+    ensures plan { (lists.new.gone.items, result) ≡ given_up (score_at options.now now) (rows_of (parents_of key.now) entries.now) want.0 want.1 }
     ensures gone_room { vec_capacity lists.old.gone ≤ vec_capacity lists.new.gone }
     ensures rows_room { vec_capacity lists.old.rows ≤ vec_capacity lists.new.rows }
     ensures touched { lists.new.touched ≡ lists.old.touched }
 {
     lists.gone.clear();
+    let (need, slots) = want;
     if is_nothing(need, slots) {
         return true;
     }
-    fill_rows(&mut lists.rows, entries, key);
+    fill_rows(&mut lists.rows, entries, kin, key);
     let rows = lists.rows.as_slice();
     plan_evictions(rows, need, slots, scorer, now, &mut lists.gone)
 }

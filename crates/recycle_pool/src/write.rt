@@ -29,7 +29,11 @@ impl Pool {
             &mut self.ledger,
             self.lists.touched.as_slice(),
         );
-        take_children(&mut self.children, self.lists.touched.as_slice());
+        take_children(
+            &mut self.children,
+            &mut self.parents,
+            self.lists.touched.as_slice(),
+        );
         self.bytes = total_bytes(self.entries.as_slice());
     }
 
@@ -73,25 +77,17 @@ impl Pool {
             ids.as_slice(),
         );
         enter_all(&mut self.entries, entries);
-        self.keys.renew(self.entries.as_slice());
-        renew_children(&mut self.children, self.entries.as_slice());
+        let entered = self.entries.as_slice();
+        self.keys.renew(entered);
+        renew_children(&mut self.children, &mut self.parents, entered);
         let back = ids.len() as u64;
         let dropped = (self.lists.touched.len() as u64).saturating_sub(back);
         self.next += back;
         self.moment = now;
-        plan_last(
-            &mut self.lists,
-            self.entries.as_slice(),
-            &self.options,
-            scorer,
-            now,
-        );
-        leave(
-            &mut self.entries,
-            &mut self.ledger,
-            self.lists.gone.as_slice(),
-        );
-        take_children(&mut self.children, self.lists.gone.as_slice());
+        plan_last(&mut self.lists, entered, &self.options, scorer, now);
+        let gone = self.lists.gone.as_slice();
+        leave(&mut self.entries, &mut self.ledger, gone);
+        take_children(&mut self.children, &mut self.parents, gone);
         self.bytes = total_bytes(self.entries.as_slice());
         (dropped, self.lists.gone.len() as u64)
     }

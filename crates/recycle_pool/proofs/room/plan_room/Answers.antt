@@ -23,10 +23,10 @@ plan_evictions-requires-clause-range g c =
 
 pub returns-then-is_nothing-clause-plan : goal.returns-then-is_nothing-clause-plan
 returns-then-is_nothing-clause-plan g c =
-    nothing_given (score_at c.args.options.now c.args.now) (rows_of (parents_of c.args.key.now) c.args.entries.now) c.args.need c.args.slots c.clear.new.self.items c.clear.ensures.items (sym c.is_nothing.ensures ∙ c.if-is_nothing.true)
+    nothing_given (score_at c.args.options.now c.args.now) (rows_of (parents_of c.args.key.now) c.args.entries.now) c.args.want.0 c.args.want.1 c.clear.new.self.items c.clear.ensures.items (sym c.is_nothing.ensures ∙ c.if-is_nothing.true)
 
 pub returns-clause-plan : goal.returns-clause-plan
 returns-clause-plan g c =
-    planned c.args.options.now c.args.scorer.now.kind c.args.scorer.now.weights.items c.args.now (rows_of (parents_of c.args.key.now) c.args.entries.now) c.as_slice-rows.result.now c.args.need c.args.slots c.args.need c.args.slots
+    planned c.args.options.now c.args.scorer.now.kind c.args.scorer.now.weights.items c.args.now (rows_of (parents_of c.args.key.now) c.args.entries.now) c.as_slice-rows.result.now c.args.want.0 c.args.want.1 c.args.want.0 c.args.want.1
     c.plan_evictions.new.out.items c.plan_evictions.result
     c.requires.kind c.requires.weights (c.as_slice-rows.ensures.value ∙ c.fill_rows.ensures.rows) refl refl c.plan_evictions.ensures.plan

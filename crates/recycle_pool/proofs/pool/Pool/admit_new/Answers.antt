@@ -1,5 +1,5 @@
 -- An admission of what is new leaves what the policy says.
-use Rattle.std.proofs.Common.{◌≡◌, ◌<◌, ◌++◌, [], ◌∷◌, List, length, ap, sym, ◌∙◌, subst, refl, arith}
+use Rattle.std.proofs.Common.{◌≡◌, ◌<◌, ◌++◌, [], ◌∷◌, List, length, map, ap, sym, ◌∙◌, subst, refl, arith}
 use Rattle.std.specs.Prelude.{ℕ, ◌&&◌, filter}
 use Rattle.std.specs.Vec.{vec_capacity}
 use Rattle.evict_admit.specs.Runs.{is_one_of}
@@ -14,10 +14,11 @@ use Rattle.pool_policy.proofs.Leaving.{bytes_left}
 use Rattle.recycle_pool.specs.Answers.{offer_in}
 use Rattle.recycle_pool.specs.Usable.{IsNew, IsOwed}
 use Rattle.recycle_pool.specs.Named.{IsNamed}
-use Rattle.recycle_pool.specs.Indexed.{IsIndexed}
+use Rattle.recycle_pool.specs.Indexed.{IsIndexed, kin_of}
 use Rattle.recycle_pool.specs.Views.{pool_shown}
 use Rattle.recycle_pool.proofs.Admissions.{few_shapes, plannable, run_from, shaped_from}
 use Rattle.recycle_pool.proofs.Answered.{no_credit_is, no_room_is, owed_shaped, place_left, said_keeps, spent_is, still_some, taken_is}
+use Rattle.recycle_pool.proofs.Beside.{as_many, beside_more}
 use Rattle.recycle_pool.proofs.Looked.{rising}
 use Rattle.recycle_pool.proofs.Prints.{named_left}
 use Rattle.recycle_pool.proofs.Totals.{bytes_more}
@@ -35,6 +36,9 @@ plan_room-enough-requires-clause-rows g c = let l = ap (λ (es : List PoolEntry)
 pub plan_room-enough-requires-clause-gone : goal.plan_room-enough-requires-clause-gone
 plan_room-enough-requires-clause-gone g c = let l = ap (λ (es : List PoolEntry). length es) c.as_slice-3.ensures.value in omega (arith, l, c.self.invariant.pool.places, c.self.invariant.lists.gone)
 
+pub plan_room-enough-requires-clause-kin : goal.plan_room-enough-requires-clause-kin
+plan_room-enough-requires-clause-kin g c = c.all.ensures ∙ c.self.invariant.kin ∙ ap (map kin_of) (sym c.as_slice-3.ensures.value)
+
 pub invariant_of-self-then-is_spent : goal.invariant_of-self-then-is_spent
 invariant_of-self-then-is_spent g c =
     let pool : PoolState = pool_shown c.self.inside in
@@ -46,7 +50,7 @@ invariant_of-self-then-is_spent g c =
     let later : c.self.inside.moment < c.args.now = let m = ap (λ (p : PoolState). p.moment) c.self.view_is in omega (arith, m, c.requires.later) in
     let fits = subst (λ (p : PoolState). IsOffer p offer) (sym c.self.view_is) c.requires.fits in
     let done = no_credit_is c.args.who c.args.now offer pool c.self.inside.ledger.start c.in_ok-shape.shape c.give_number.new.shapes.items c.give_number.new.ledger.each shaped c.is_spent.result test c.if-is_spent.true in
-    kept_on c.self.inside _ c.self.invariant (said_keeps c.args.who c.args.now offer pool _ _ done later c.self.invariant.pool fits) refl c.give_number.ensures.start c.requires.early (omega (arith, later, c.self.invariant.next)) (few_shapes c.self.inside c.args.now (shape_in c.as_slice.result.now c.args.offered.key) (has_credits c.self.inside.options) c.give_number.new.shapes.items c.self.invariant later c.in_ok-shape.ensures.shapes) (omega arith) c.self.invariant.lists c.self.invariant.keys (omega arith) c.self.invariant.bytes c.self.invariant.children (omega arith)
+    kept_on c.self.inside _ c.self.invariant (said_keeps c.args.who c.args.now offer pool _ _ done later c.self.invariant.pool fits) refl c.give_number.ensures.start c.requires.early (omega (arith, later, c.self.invariant.next)) (few_shapes c.self.inside c.args.now (shape_in c.as_slice.result.now c.args.offered.key) (has_credits c.self.inside.options) c.give_number.new.shapes.items c.self.invariant later c.in_ok-shape.ensures.shapes) (omega arith) c.self.invariant.lists c.self.invariant.keys (omega arith) c.self.invariant.bytes c.self.invariant.children (omega arith) c.self.invariant.kin (omega arith)
 
 pub returns-then-is_spent-clause-done : goal.returns-then-is_spent-clause-done
 returns-then-is_spent-clause-done g c =
@@ -68,14 +72,14 @@ invariant_of-self-then-not-enough g c =
     let test = spent_is (has_credits c.self.inside.options) c.is_spent.result c.in_ok-shape.shape c.give_number.new.ledger.each c.in_ok-shape.ensures.marked c.in_ok-shape.ensures.none c.is_spent.ensures.spent c.is_spent.ensures.none in
     let later : c.self.inside.moment < c.args.now = let m = ap (λ (p : PoolState). p.moment) c.self.view_is in omega (arith, m, c.requires.later) in
     let fits = subst (λ (p : PoolState). IsOffer p offer) (sym c.self.view_is) c.requires.fits in
-    let run = run_from c.args.now c.self.inside offer c.as_slice-2.result.now c.as_slice-3.result.now c.bytes_of-bytes.result c.wanted-need.result.0 c.wanted-need.result.1 (c.plan_room-enough.new.lists.gone.items, c.plan_room-enough.result) c.self.invariant c.as_slice-2.ensures.value c.as_slice-3.ensures.value c.bytes_of-bytes.ensures.bytes c.wanted-need.ensures.bytes c.wanted-need.ensures.places c.plan_room-enough.ensures.plan in
+    let run = run_from c.args.now c.self.inside offer c.as_slice-2.result.now c.as_slice-3.result.now c.bytes_of-bytes.result c.wanted-want.result.0 c.wanted-want.result.1 (c.plan_room-enough.new.lists.gone.items, c.plan_room-enough.result) c.self.invariant c.as_slice-2.ensures.value c.as_slice-3.ensures.value c.bytes_of-bytes.ensures.bytes c.wanted-want.ensures.bytes c.wanted-want.ensures.places c.plan_room-enough.ensures.plan in
     let left = c.left_bytes-left.ensures ∙ ap (λ (ids : List ℕ). pool_bytes (left_without ids c.as_slice-4.result.now)) c.as_slice-gone.ensures.value ∙ ap (λ (es : List PoolEntry). pool_bytes (left_without c.plan_room-enough.new.lists.gone.items es)) c.as_slice-4.ensures.value in
     let done = no_room_is c.args.who c.args.now offer pool c.self.inside.ledger.start c.in_ok-shape.shape c.give_number.new.shapes.items c.give_number.new.ledger.each shaped c.is_spent.result c.plan_room-enough.result test c.if-is_spent.false c.plan_room-enough.new.lists.gone.items c.left_bytes-left.result c.if-not-enough.true run left in
     kept_on c.self.inside _ c.self.invariant (said_keeps c.args.who c.args.now offer pool _ _ done later c.self.invariant.pool fits) refl c.give_number.ensures.start c.requires.early (omega (arith, later, c.self.invariant.next)) (few_shapes c.self.inside c.args.now (shape_in c.as_slice.result.now c.args.offered.key) (has_credits c.self.inside.options) c.give_number.new.shapes.items c.self.invariant later c.in_ok-shape.ensures.shapes) (omega arith) (record {
       touched = (let same = ap (λ v. vec_capacity v) c.plan_room-enough.ensures.touched in omega (arith, same, c.self.invariant.lists.touched));
       gone = omega (arith, c.self.invariant.lists.gone, c.plan_room-enough.ensures.gone_room);
       rows = omega (arith, c.self.invariant.lists.rows, c.plan_room-enough.ensures.rows_room);
-    }) c.self.invariant.keys (omega arith) c.self.invariant.bytes c.self.invariant.children (omega arith)
+    }) c.self.invariant.keys (omega arith) c.self.invariant.bytes c.self.invariant.children (omega arith) c.self.invariant.kin (omega arith)
 
 pub returns-then-not-enough-clause-done : goal.returns-then-not-enough-clause-done
 returns-then-not-enough-clause-done g c =
@@ -85,7 +89,7 @@ returns-then-not-enough-clause-done g c =
     let new : IsNew offer pool = subst (IsNew offer) (sym c.self.view_is) c.requires.new in
     let shaped = shaped_from c.args.who c.args.now offer c.self.inside c.as_slice.result.now c.in_ok-shape.shape c.give_number.new.shapes.items c.give_number.new.ledger.each c.self.invariant shown new c.in_ok-shape.ensures.shapes c.in_ok-shape.ensures.each c.in_ok-shape.ensures.number in
     let test = spent_is (has_credits c.self.inside.options) c.is_spent.result c.in_ok-shape.shape c.give_number.new.ledger.each c.in_ok-shape.ensures.marked c.in_ok-shape.ensures.none c.is_spent.ensures.spent c.is_spent.ensures.none in
-    let run = run_from c.args.now c.self.inside offer c.as_slice-2.result.now c.as_slice-3.result.now c.bytes_of-bytes.result c.wanted-need.result.0 c.wanted-need.result.1 (c.plan_room-enough.new.lists.gone.items, c.plan_room-enough.result) c.self.invariant c.as_slice-2.ensures.value c.as_slice-3.ensures.value c.bytes_of-bytes.ensures.bytes c.wanted-need.ensures.bytes c.wanted-need.ensures.places c.plan_room-enough.ensures.plan in
+    let run = run_from c.args.now c.self.inside offer c.as_slice-2.result.now c.as_slice-3.result.now c.bytes_of-bytes.result c.wanted-want.result.0 c.wanted-want.result.1 (c.plan_room-enough.new.lists.gone.items, c.plan_room-enough.result) c.self.invariant c.as_slice-2.ensures.value c.as_slice-3.ensures.value c.bytes_of-bytes.ensures.bytes c.wanted-want.ensures.bytes c.wanted-want.ensures.places c.plan_room-enough.ensures.plan in
     let left = c.left_bytes-left.ensures ∙ ap (λ (ids : List ℕ). pool_bytes (left_without ids c.as_slice-4.result.now)) c.as_slice-gone.ensures.value ∙ ap (λ (es : List PoolEntry). pool_bytes (left_without c.plan_room-enough.new.lists.gone.items es)) c.as_slice-4.ensures.value in
     no_room_is c.args.who c.args.now offer pool c.self.inside.ledger.start c.in_ok-shape.shape c.give_number.new.shapes.items c.give_number.new.ledger.each shaped c.is_spent.result c.plan_room-enough.result test c.if-is_spent.false c.plan_room-enough.new.lists.gone.items c.left_bytes-left.result c.if-not-enough.true run left ∙ ap (admit_of c.args.who c.args.now (offer_in c.args.offered)) c.self.view_is
 
@@ -133,7 +137,7 @@ add-requires-clause-room g c =
     let test = spent_is (has_credits c.self.inside.options) c.is_spent.result c.in_ok-shape.shape c.give_number.new.ledger.each c.in_ok-shape.ensures.marked c.in_ok-shape.ensures.none c.is_spent.ensures.spent c.is_spent.ensures.none in
     let later : c.self.inside.moment < c.args.now = let m = ap (λ (p : PoolState). p.moment) c.self.view_is in omega (arith, m, c.requires.later) in
     let fits = subst (λ (p : PoolState). IsOffer p offer) (sym c.self.view_is) c.requires.fits in
-    let run = run_from c.args.now c.self.inside offer c.as_slice-2.result.now c.as_slice-3.result.now c.bytes_of-bytes.result c.wanted-need.result.0 c.wanted-need.result.1 (c.plan_room-enough.new.lists.gone.items, c.plan_room-enough.result) c.self.invariant c.as_slice-2.ensures.value c.as_slice-3.ensures.value c.bytes_of-bytes.ensures.bytes c.wanted-need.ensures.bytes c.wanted-need.ensures.places c.plan_room-enough.ensures.plan in
+    let run = run_from c.args.now c.self.inside offer c.as_slice-2.result.now c.as_slice-3.result.now c.bytes_of-bytes.result c.wanted-want.result.0 c.wanted-want.result.1 (c.plan_room-enough.new.lists.gone.items, c.plan_room-enough.result) c.self.invariant c.as_slice-2.ensures.value c.as_slice-3.ensures.value c.bytes_of-bytes.ensures.bytes c.wanted-want.ensures.bytes c.wanted-want.ensures.places c.plan_room-enough.ensures.plan in
     let rest = c.leave.ensures.entries ∙ ap (λ (ids : List ℕ). left_without ids c.self.inside.entries.items) c.as_slice-gone.ensures.value in
     let paid = c.leave.ensures.each ∙ ap (λ (ids : List ℕ). paid_back c.give_number.new.ledger.each (filter (λ (e : PoolEntry). is_one_of ids e.id && pays_at_end e) c.self.inside.entries.items)) c.as_slice-gone.ensures.value in
     let done = taken_is c.args.who c.args.now offer pool c.self.inside.ledger.start c.in_ok-shape.shape c.give_number.new.shapes.items c.give_number.new.ledger.each shaped c.is_spent.result c.plan_room-enough.result test c.if-is_spent.false c.plan_room-enough.new.lists.gone.items c.bytes_of-bytes.result (length c.plan_room-enough.new.lists.gone.items) c.leave.new.entries.items (c.leave.new.entries.items ++ c.new_entry-entry.result ∷ []) c.new_entry-entry.result c.leave.new.ledger.each c.pay.new.ledger.each c.if-not-enough.false run c.bytes_of-bytes.ensures.bytes refl rest refl c.new_entry-entry.ensures paid c.pay.ensures.each in
@@ -141,8 +145,8 @@ add-requires-clause-room g c =
     let l = ap (λ (es : List PoolEntry). length es) c.as_slice-5.ensures.value in
     omega (arith, l, place, c.self.invariant.prints)
 
-pub add_child-requires : goal.add_child-requires
-add_child-requires g c =
+pub add_child-requires-clause-pairs : goal.add_child-requires-clause-pairs
+add_child-requires-clause-pairs g c =
     let pool : PoolState = pool_shown c.self.inside in
     let offer : Offer = offer_in c.args.offered in
     let shown : c.as_slice.result.now ≡ c.self.inside.entries.items = c.as_slice.ensures.value in
@@ -151,7 +155,7 @@ add_child-requires g c =
     let test = spent_is (has_credits c.self.inside.options) c.is_spent.result c.in_ok-shape.shape c.give_number.new.ledger.each c.in_ok-shape.ensures.marked c.in_ok-shape.ensures.none c.is_spent.ensures.spent c.is_spent.ensures.none in
     let later : c.self.inside.moment < c.args.now = let m = ap (λ (p : PoolState). p.moment) c.self.view_is in omega (arith, m, c.requires.later) in
     let fits = subst (λ (p : PoolState). IsOffer p offer) (sym c.self.view_is) c.requires.fits in
-    let run = run_from c.args.now c.self.inside offer c.as_slice-2.result.now c.as_slice-3.result.now c.bytes_of-bytes.result c.wanted-need.result.0 c.wanted-need.result.1 (c.plan_room-enough.new.lists.gone.items, c.plan_room-enough.result) c.self.invariant c.as_slice-2.ensures.value c.as_slice-3.ensures.value c.bytes_of-bytes.ensures.bytes c.wanted-need.ensures.bytes c.wanted-need.ensures.places c.plan_room-enough.ensures.plan in
+    let run = run_from c.args.now c.self.inside offer c.as_slice-2.result.now c.as_slice-3.result.now c.bytes_of-bytes.result c.wanted-want.result.0 c.wanted-want.result.1 (c.plan_room-enough.new.lists.gone.items, c.plan_room-enough.result) c.self.invariant c.as_slice-2.ensures.value c.as_slice-3.ensures.value c.bytes_of-bytes.ensures.bytes c.wanted-want.ensures.bytes c.wanted-want.ensures.places c.plan_room-enough.ensures.plan in
     let rest = c.leave.ensures.entries ∙ ap (λ (ids : List ℕ). left_without ids c.self.inside.entries.items) c.as_slice-gone.ensures.value in
     let paid = c.leave.ensures.each ∙ ap (λ (ids : List ℕ). paid_back c.give_number.new.ledger.each (filter (λ (e : PoolEntry). is_one_of ids e.id && pays_at_end e) c.self.inside.entries.items)) c.as_slice-gone.ensures.value in
     let done = taken_is c.args.who c.args.now offer pool c.self.inside.ledger.start c.in_ok-shape.shape c.give_number.new.shapes.items c.give_number.new.ledger.each shaped c.is_spent.result c.plan_room-enough.result test c.if-is_spent.false c.plan_room-enough.new.lists.gone.items c.bytes_of-bytes.result (length c.plan_room-enough.new.lists.gone.items) c.leave.new.entries.items (c.leave.new.entries.items ++ c.new_entry-entry.result ∷ []) c.new_entry-entry.result c.leave.new.ledger.each c.pay.new.ledger.each c.if-not-enough.false run c.bytes_of-bytes.ensures.bytes refl rest refl c.new_entry-entry.ensures paid c.pay.ensures.each in
@@ -159,6 +163,25 @@ add_child-requires g c =
     let few = few_pairs c.take_children.new.children (left_without c.as_slice-gone.result.now c.self.inside.entries.items) (c.take_children.ensures.indexed c.self.inside.entries.items c.self.invariant.children) in
     let l = ap (λ (es : List PoolEntry). length es) c.leave.ensures.entries in
     omega (arith, few, l, place, c.self.invariant.spare, c.take_children.ensures.room)
+
+pub add_child-requires-clause-kin : goal.add_child-requires-clause-kin
+add_child-requires-clause-kin g c =
+    let pool : PoolState = pool_shown c.self.inside in
+    let offer : Offer = offer_in c.args.offered in
+    let shown : c.as_slice.result.now ≡ c.self.inside.entries.items = c.as_slice.ensures.value in
+    let new : IsNew offer pool = subst (IsNew offer) (sym c.self.view_is) c.requires.new in
+    let shaped = shaped_from c.args.who c.args.now offer c.self.inside c.as_slice.result.now c.in_ok-shape.shape c.give_number.new.shapes.items c.give_number.new.ledger.each c.self.invariant shown new c.in_ok-shape.ensures.shapes c.in_ok-shape.ensures.each c.in_ok-shape.ensures.number in
+    let test = spent_is (has_credits c.self.inside.options) c.is_spent.result c.in_ok-shape.shape c.give_number.new.ledger.each c.in_ok-shape.ensures.marked c.in_ok-shape.ensures.none c.is_spent.ensures.spent c.is_spent.ensures.none in
+    let later : c.self.inside.moment < c.args.now = let m = ap (λ (p : PoolState). p.moment) c.self.view_is in omega (arith, m, c.requires.later) in
+    let fits = subst (λ (p : PoolState). IsOffer p offer) (sym c.self.view_is) c.requires.fits in
+    let run = run_from c.args.now c.self.inside offer c.as_slice-2.result.now c.as_slice-3.result.now c.bytes_of-bytes.result c.wanted-want.result.0 c.wanted-want.result.1 (c.plan_room-enough.new.lists.gone.items, c.plan_room-enough.result) c.self.invariant c.as_slice-2.ensures.value c.as_slice-3.ensures.value c.bytes_of-bytes.ensures.bytes c.wanted-want.ensures.bytes c.wanted-want.ensures.places c.plan_room-enough.ensures.plan in
+    let rest = c.leave.ensures.entries ∙ ap (λ (ids : List ℕ). left_without ids c.self.inside.entries.items) c.as_slice-gone.ensures.value in
+    let paid = c.leave.ensures.each ∙ ap (λ (ids : List ℕ). paid_back c.give_number.new.ledger.each (filter (λ (e : PoolEntry). is_one_of ids e.id && pays_at_end e) c.self.inside.entries.items)) c.as_slice-gone.ensures.value in
+    let done = taken_is c.args.who c.args.now offer pool c.self.inside.ledger.start c.in_ok-shape.shape c.give_number.new.shapes.items c.give_number.new.ledger.each shaped c.is_spent.result c.plan_room-enough.result test c.if-is_spent.false c.plan_room-enough.new.lists.gone.items c.bytes_of-bytes.result (length c.plan_room-enough.new.lists.gone.items) c.leave.new.entries.items (c.leave.new.entries.items ++ c.new_entry-entry.result ∷ []) c.new_entry-entry.result c.leave.new.ledger.each c.pay.new.ledger.each c.if-not-enough.false run c.bytes_of-bytes.ensures.bytes refl rest refl c.new_entry-entry.ensures paid c.pay.ensures.each in
+    let place = place_left c.args.who c.args.now offer pool _ c.leave.new.entries.items c.new_entry-entry.result _ c.self.invariant.pool done later fits refl refl in
+    let many = as_many c.take_children.new.parents (left_without c.as_slice-gone.result.now c.self.inside.entries.items) (c.take_children.ensures.kin c.self.inside.entries.items c.self.invariant.kin) in
+    let l = ap (λ (es : List PoolEntry). length es) c.leave.ensures.entries in
+    omega (arith, many, l, place, c.self.invariant.kin_room, c.take_children.ensures.kin_room)
 
 pub enter-requires : goal.enter-requires
 enter-requires g c =
@@ -170,7 +193,7 @@ enter-requires g c =
     let test = spent_is (has_credits c.self.inside.options) c.is_spent.result c.in_ok-shape.shape c.give_number.new.ledger.each c.in_ok-shape.ensures.marked c.in_ok-shape.ensures.none c.is_spent.ensures.spent c.is_spent.ensures.none in
     let later : c.self.inside.moment < c.args.now = let m = ap (λ (p : PoolState). p.moment) c.self.view_is in omega (arith, m, c.requires.later) in
     let fits = subst (λ (p : PoolState). IsOffer p offer) (sym c.self.view_is) c.requires.fits in
-    let run = run_from c.args.now c.self.inside offer c.as_slice-2.result.now c.as_slice-3.result.now c.bytes_of-bytes.result c.wanted-need.result.0 c.wanted-need.result.1 (c.plan_room-enough.new.lists.gone.items, c.plan_room-enough.result) c.self.invariant c.as_slice-2.ensures.value c.as_slice-3.ensures.value c.bytes_of-bytes.ensures.bytes c.wanted-need.ensures.bytes c.wanted-need.ensures.places c.plan_room-enough.ensures.plan in
+    let run = run_from c.args.now c.self.inside offer c.as_slice-2.result.now c.as_slice-3.result.now c.bytes_of-bytes.result c.wanted-want.result.0 c.wanted-want.result.1 (c.plan_room-enough.new.lists.gone.items, c.plan_room-enough.result) c.self.invariant c.as_slice-2.ensures.value c.as_slice-3.ensures.value c.bytes_of-bytes.ensures.bytes c.wanted-want.ensures.bytes c.wanted-want.ensures.places c.plan_room-enough.ensures.plan in
     let rest = c.leave.ensures.entries ∙ ap (λ (ids : List ℕ). left_without ids c.self.inside.entries.items) c.as_slice-gone.ensures.value in
     let paid = c.leave.ensures.each ∙ ap (λ (ids : List ℕ). paid_back c.give_number.new.ledger.each (filter (λ (e : PoolEntry). is_one_of ids e.id && pays_at_end e) c.self.inside.entries.items)) c.as_slice-gone.ensures.value in
     let done = taken_is c.args.who c.args.now offer pool c.self.inside.ledger.start c.in_ok-shape.shape c.give_number.new.shapes.items c.give_number.new.ledger.each shaped c.is_spent.result c.plan_room-enough.result test c.if-is_spent.false c.plan_room-enough.new.lists.gone.items c.bytes_of-bytes.result (length c.plan_room-enough.new.lists.gone.items) c.leave.new.entries.items (c.leave.new.entries.items ++ c.new_entry-entry.result ∷ []) c.new_entry-entry.result c.leave.new.ledger.each c.pay.new.ledger.each c.if-not-enough.false run c.bytes_of-bytes.ensures.bytes refl rest refl c.new_entry-entry.ensures paid c.pay.ensures.each in
@@ -187,7 +210,7 @@ invariant_of-self-2 g c =
     let test = spent_is (has_credits c.self.inside.options) c.is_spent.result c.in_ok-shape.shape c.give_number.new.ledger.each c.in_ok-shape.ensures.marked c.in_ok-shape.ensures.none c.is_spent.ensures.spent c.is_spent.ensures.none in
     let later : c.self.inside.moment < c.args.now = let m = ap (λ (p : PoolState). p.moment) c.self.view_is in omega (arith, m, c.requires.later) in
     let fits = subst (λ (p : PoolState). IsOffer p offer) (sym c.self.view_is) c.requires.fits in
-    let run = run_from c.args.now c.self.inside offer c.as_slice-2.result.now c.as_slice-3.result.now c.bytes_of-bytes.result c.wanted-need.result.0 c.wanted-need.result.1 (c.plan_room-enough.new.lists.gone.items, c.plan_room-enough.result) c.self.invariant c.as_slice-2.ensures.value c.as_slice-3.ensures.value c.bytes_of-bytes.ensures.bytes c.wanted-need.ensures.bytes c.wanted-need.ensures.places c.plan_room-enough.ensures.plan in
+    let run = run_from c.args.now c.self.inside offer c.as_slice-2.result.now c.as_slice-3.result.now c.bytes_of-bytes.result c.wanted-want.result.0 c.wanted-want.result.1 (c.plan_room-enough.new.lists.gone.items, c.plan_room-enough.result) c.self.invariant c.as_slice-2.ensures.value c.as_slice-3.ensures.value c.bytes_of-bytes.ensures.bytes c.wanted-want.ensures.bytes c.wanted-want.ensures.places c.plan_room-enough.ensures.plan in
     let rest = c.leave.ensures.entries ∙ ap (λ (ids : List ℕ). left_without ids c.self.inside.entries.items) c.as_slice-gone.ensures.value in
     let paid = c.leave.ensures.each ∙ ap (λ (ids : List ℕ). paid_back c.give_number.new.ledger.each (filter (λ (e : PoolEntry). is_one_of ids e.id && pays_at_end e) c.self.inside.entries.items)) c.as_slice-gone.ensures.value in
     let count : c.len-gone.result ≡ length c.plan_room-enough.new.lists.gone.items = omega (arith, c.len-gone.ensures, c.plan_room-enough.new.lists.gone.ok.0) in
@@ -203,6 +226,9 @@ invariant_of-self-2 g c =
     (subst (IsIndexed c.add_child.new.children) (ap (λ (es : List PoolEntry). es ++ c.new_entry-entry.result ∷ []) (sym c.leave.ensures.entries) ∙ sym c.enter.ensures.items)
     (c.add_child.ensures.indexed (left_without c.as_slice-gone.result.now c.self.inside.entries.items) (c.take_children.ensures.indexed c.self.inside.entries.items c.self.invariant.children)))
     (omega (arith, c.take_children.ensures.room, c.add_child.ensures.room))
+    (beside_more c.take_children.new.parents c.add_child.new.parents (left_without c.as_slice-gone.result.now c.self.inside.entries.items) c.enter.new.entries.items c.new_entry-entry.result
+    (c.take_children.ensures.kin c.self.inside.entries.items c.self.invariant.kin) c.add_child.ensures.kin (c.enter.ensures.items ∙ ap (λ (es : List PoolEntry). es ++ c.new_entry-entry.result ∷ []) c.leave.ensures.entries))
+    (omega (arith, c.take_children.ensures.kin_room, c.add_child.ensures.kin_room))
 
 pub returns-clause-done : goal.returns-clause-done
 returns-clause-done g c =
@@ -212,7 +238,7 @@ returns-clause-done g c =
     let new : IsNew offer pool = subst (IsNew offer) (sym c.self.view_is) c.requires.new in
     let shaped = shaped_from c.args.who c.args.now offer c.self.inside c.as_slice.result.now c.in_ok-shape.shape c.give_number.new.shapes.items c.give_number.new.ledger.each c.self.invariant shown new c.in_ok-shape.ensures.shapes c.in_ok-shape.ensures.each c.in_ok-shape.ensures.number in
     let test = spent_is (has_credits c.self.inside.options) c.is_spent.result c.in_ok-shape.shape c.give_number.new.ledger.each c.in_ok-shape.ensures.marked c.in_ok-shape.ensures.none c.is_spent.ensures.spent c.is_spent.ensures.none in
-    let run = run_from c.args.now c.self.inside offer c.as_slice-2.result.now c.as_slice-3.result.now c.bytes_of-bytes.result c.wanted-need.result.0 c.wanted-need.result.1 (c.plan_room-enough.new.lists.gone.items, c.plan_room-enough.result) c.self.invariant c.as_slice-2.ensures.value c.as_slice-3.ensures.value c.bytes_of-bytes.ensures.bytes c.wanted-need.ensures.bytes c.wanted-need.ensures.places c.plan_room-enough.ensures.plan in
+    let run = run_from c.args.now c.self.inside offer c.as_slice-2.result.now c.as_slice-3.result.now c.bytes_of-bytes.result c.wanted-want.result.0 c.wanted-want.result.1 (c.plan_room-enough.new.lists.gone.items, c.plan_room-enough.result) c.self.invariant c.as_slice-2.ensures.value c.as_slice-3.ensures.value c.bytes_of-bytes.ensures.bytes c.wanted-want.ensures.bytes c.wanted-want.ensures.places c.plan_room-enough.ensures.plan in
     let rest = c.leave.ensures.entries ∙ ap (λ (ids : List ℕ). left_without ids c.self.inside.entries.items) c.as_slice-gone.ensures.value in
     let paid = c.leave.ensures.each ∙ ap (λ (ids : List ℕ). paid_back c.give_number.new.ledger.each (filter (λ (e : PoolEntry). is_one_of ids e.id && pays_at_end e) c.self.inside.entries.items)) c.as_slice-gone.ensures.value in
     let count : c.len-gone.result ≡ length c.plan_room-enough.new.lists.gone.items = omega (arith, c.len-gone.ensures, c.plan_room-enough.new.lists.gone.ok.0) in

@@ -9,6 +9,7 @@ use Rattle.pool_policy.proofs.Kept.{pins_keep}
 use Rattle.recycle_pool.specs.Answers.{offer_in}
 use Rattle.recycle_pool.specs.Views.{pool_shown}
 use Rattle.recycle_pool.proofs.Answered.{there_shown}
+use Rattle.recycle_pool.proofs.Beside.{beside_faces}
 use Rattle.recycle_pool.proofs.Looked.{named, rising}
 use Rattle.recycle_pool.proofs.Prints.{named_faces}
 use Rattle.recycle_pool.proofs.Totals.{bytes_on}
@@ -35,6 +36,7 @@ invariant_of-self c =
     (named_faces c.self.inside.keys c.self.inside.entries.items c.pin_id.new.entries.items (ap faces c.pin_id.ensures.entries ∙ pinned_faces c.args.who (c.index.result.now.id ∷ []) c.self.inside.entries.items) c.self.invariant.keys) (omega arith)
     (bytes_on c.self.inside.bytes c.self.inside.entries.items c.pin_id.new.entries.items (ap faces c.pin_id.ensures.entries ∙ pinned_faces c.args.who (c.index.result.now.id ∷ []) c.self.inside.entries.items) c.self.invariant.bytes)
     (indexed_faces c.self.inside.children c.self.inside.entries.items c.pin_id.new.entries.items (ap faces c.pin_id.ensures.entries ∙ pinned_faces c.args.who (c.index.result.now.id ∷ []) c.self.inside.entries.items) c.self.invariant.children) (omega arith)
+    (beside_faces c.self.inside.parents c.self.inside.entries.items c.pin_id.new.entries.items (ap faces c.pin_id.ensures.entries ∙ pinned_faces c.args.who (c.index.result.now.id ∷ []) c.self.inside.entries.items) c.self.invariant.kin) (omega arith)
 
 pub returns-in-Some-clause-some : goal.returns-in-Some-clause-some
 returns-in-Some-clause-some c =

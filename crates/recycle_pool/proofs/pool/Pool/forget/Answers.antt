@@ -4,7 +4,7 @@ use Rattle.pool_policy.specs.declared.entry.PoolEntry.{PoolEntry}
 use Rattle.pool_policy.specs.Pool.{pool_bytes}
 use Rattle.pool_policy.specs.Writes.{forget_of, touched_ids}
 use Rattle.pool_policy.specs.Admits.{left_without}
-use Rattle.recycle_pool.specs.Indexed.{IsIndexed}
+use Rattle.recycle_pool.specs.Indexed.{AreBeside, IsIndexed}
 use Rattle.recycle_pool.proofs.Looked.{owed}
 use Rattle.recycle_pool.proofs.Carrying.{forgotten, forgotten_keeps}
 use Rattle.recycle_pool.proofs.Prints.{named_left}
@@ -34,6 +34,7 @@ invariant_of-self c =
     (record { touched = omega (arith, c.self.invariant.lists.touched, c.note_touched.ensures.room); gone = c.self.invariant.lists.gone; rows = c.self.invariant.lists.rows })
     (named_left c.self.inside.keys c.as_slice-2.result.now c.self.inside.entries.items c.leave.new.entries.items c.leave.ensures.entries c.self.invariant.keys) (omega arith) (c.total_bytes-self-inside.ensures ∙ ap pool_bytes c.as_slice-4.ensures.value)
     (subst (IsIndexed c.take_children.new.children) (ap (λ (ids : List ℕ). left_without ids c.self.inside.entries.items) (c.as_slice-3.ensures.value ∙ sym c.as_slice-2.ensures.value) ∙ sym c.leave.ensures.entries) (c.take_children.ensures.indexed c.self.inside.entries.items c.self.invariant.children)) (omega (arith, c.take_children.ensures.room))
+    (subst (AreBeside c.take_children.new.parents) (ap (λ (ids : List ℕ). left_without ids c.self.inside.entries.items) (c.as_slice-3.ensures.value ∙ sym c.as_slice-2.ensures.value) ∙ sym c.leave.ensures.entries) (c.take_children.ensures.kin c.self.inside.entries.items c.self.invariant.kin)) (omega (arith, c.take_children.ensures.kin_room))
 
 pub returns : goal.returns
 returns c =

@@ -10,6 +10,7 @@ use Rattle.pool_policy.proofs.AdmitGiven.{pinned_faces, used_faces}
 use Rattle.pool_policy.proofs.Kept.{look_keeps}
 use Rattle.recycle_pool.specs.Answers.{told}
 use Rattle.recycle_pool.specs.Views.{pool_shown}
+use Rattle.recycle_pool.proofs.Beside.{beside_faces}
 use Rattle.recycle_pool.proofs.Ids.{rising_on}
 use Rattle.recycle_pool.proofs.Looked.{indexed, lookable, looked, named, owed, rising, usable}
 use Rattle.recycle_pool.proofs.Prints.{named_faces}
@@ -63,6 +64,10 @@ invariant_of-self c =
     (indexed_faces c.self.inside.children c.self.inside.entries.items c.pin_found.new.entries.items
     (ap faces (c.pin_found.ensures.entries c.as_slice-used.result.now) ∙ pinned_faces c.args.who (ids_pinned found) c.use_all.new.entries.items ∙ ap faces c.use_all.ensures.entries ∙ used_faces c.args.who c.args.now (ids_used found) c.self.inside.entries.items)
     c.self.invariant.children)
+    (omega arith)
+    (beside_faces c.self.inside.parents c.self.inside.entries.items c.pin_found.new.entries.items
+    (ap faces (c.pin_found.ensures.entries c.as_slice-used.result.now) ∙ pinned_faces c.args.who (ids_pinned found) c.use_all.new.entries.items ∙ ap faces c.use_all.ensures.entries ∙ used_faces c.args.who c.args.now (ids_used found) c.self.inside.entries.items)
+    c.self.invariant.kin)
     (omega arith)
 
 pub returns-clause-pool : goal.returns-clause-pool

@@ -10,7 +10,7 @@ use Rattle.pool_policy.specs.WriteLaws.{IsWrite}
 use Rattle.evict_admit.specs.Runs.{given_up}
 use Rattle.recycle_pool.specs.Carries.{IsCarried}
 use Rattle.recycle_pool.specs.Named.{IsNamed}
-use Rattle.recycle_pool.specs.Indexed.{IsIndexed}
+use Rattle.recycle_pool.specs.Indexed.{AreBeside, IsIndexed}
 use Rattle.recycle_pool.specs.Views.{pool_shown}
 use Rattle.recycle_pool.proofs.Looked.{owed}
 use Rattle.recycle_pool.proofs.Carrying.{backs, credit_is, entries_are, few_after, few_backs, owed_after, places_left, touched, weighable, written_is, written_keeps}
@@ -53,20 +53,31 @@ renew-requires g c =
     let carried : IsCarried c.args.touched.now c.args.now (pool_shown c.self.inside) c.args.carried = subst (λ (p : PoolState). IsCarried c.args.touched.now c.args.now p c.args.carried) (sym c.self.view_is) c.requires.carried in
     let shown : c.as_slice-3.result.now ≡ touched c.self.inside c.args.touched.now c.args.now = c.as_slice-3.ensures.value ∙ c.note_touched.ensures.ids ∙ (λ i. touched_ids c.args.touched.now.table (c.as_slice-2.ensures i) (c.as_slice.ensures.value i)) in
     let mid = entries_are c.self.inside c.args.touched.now c.args.now c.as_slice-3.result.now c.take_touched.new.entries.items c.args.carried.entries.items c.enter_all.new.entries.items shown c.take_touched.ensures.entries carried.entries c.enter_all.ensures.items in
-    let same = ap (λ (es : List PoolEntry). length es) (c.as_slice-5.ensures.value ∙ mid) in
+    let same = ap (λ (es : List PoolEntry). length es) (c.as_slice-entered.ensures.value ∙ mid) in
     let few = few_after c.self.inside c.args.touched.now c.args.now c.self.invariant later c.requires.early fits in
     omega (arith, same, few, c.self.invariant.prints)
 
-pub renew_children-requires : goal.renew_children-requires
-renew_children-requires g c =
+pub renew_children-requires-clause-pairs : goal.renew_children-requires-clause-pairs
+renew_children-requires-clause-pairs g c =
     let fits : IsWrite c.args.touched.now c.args.now (pool_shown c.self.inside) = subst (IsWrite c.args.touched.now c.args.now) (sym c.self.view_is) c.requires.write in
     let later : c.self.inside.moment < c.args.now = let m = ap (λ (p : PoolState). p.moment) c.self.view_is in omega (arith, m, c.requires.later) in
     let carried : IsCarried c.args.touched.now c.args.now (pool_shown c.self.inside) c.args.carried = subst (λ (p : PoolState). IsCarried c.args.touched.now c.args.now p c.args.carried) (sym c.self.view_is) c.requires.carried in
     let shown : c.as_slice-3.result.now ≡ touched c.self.inside c.args.touched.now c.args.now = c.as_slice-3.ensures.value ∙ c.note_touched.ensures.ids ∙ (λ i. touched_ids c.args.touched.now.table (c.as_slice-2.ensures i) (c.as_slice.ensures.value i)) in
     let mid = entries_are c.self.inside c.args.touched.now c.args.now c.as_slice-3.result.now c.take_touched.new.entries.items c.args.carried.entries.items c.enter_all.new.entries.items shown c.take_touched.ensures.entries carried.entries c.enter_all.ensures.items in
-    let same = ap (λ (es : List PoolEntry). length es) (c.as_slice-6.ensures.value ∙ mid) in
+    let same = ap (λ (es : List PoolEntry). length es) (c.as_slice-entered.ensures.value ∙ mid) in
     let few = few_after c.self.inside c.args.touched.now c.args.now c.self.invariant later c.requires.early fits in
     omega (arith, same, few, c.self.invariant.spare)
+
+pub renew_children-requires-clause-kin : goal.renew_children-requires-clause-kin
+renew_children-requires-clause-kin g c =
+    let fits : IsWrite c.args.touched.now c.args.now (pool_shown c.self.inside) = subst (IsWrite c.args.touched.now c.args.now) (sym c.self.view_is) c.requires.write in
+    let later : c.self.inside.moment < c.args.now = let m = ap (λ (p : PoolState). p.moment) c.self.view_is in omega (arith, m, c.requires.later) in
+    let carried : IsCarried c.args.touched.now c.args.now (pool_shown c.self.inside) c.args.carried = subst (λ (p : PoolState). IsCarried c.args.touched.now c.args.now p c.args.carried) (sym c.self.view_is) c.requires.carried in
+    let shown : c.as_slice-3.result.now ≡ touched c.self.inside c.args.touched.now c.args.now = c.as_slice-3.ensures.value ∙ c.note_touched.ensures.ids ∙ (λ i. touched_ids c.args.touched.now.table (c.as_slice-2.ensures i) (c.as_slice.ensures.value i)) in
+    let mid = entries_are c.self.inside c.args.touched.now c.args.now c.as_slice-3.result.now c.take_touched.new.entries.items c.args.carried.entries.items c.enter_all.new.entries.items shown c.take_touched.ensures.entries carried.entries c.enter_all.ensures.items in
+    let same = ap (λ (es : List PoolEntry). length es) (c.as_slice-entered.ensures.value ∙ mid) in
+    let few = few_after c.self.inside c.args.touched.now c.args.now c.self.invariant later c.requires.early fits in
+    omega (arith, same, few, c.self.invariant.kin_room)
 
 pub plan_last-requires-clause-plan : goal.plan_last-requires-clause-plan
 plan_last-requires-clause-plan g c =
@@ -75,7 +86,7 @@ plan_last-requires-clause-plan g c =
     let carried : IsCarried c.args.touched.now c.args.now (pool_shown c.self.inside) c.args.carried = subst (λ (p : PoolState). IsCarried c.args.touched.now c.args.now p c.args.carried) (sym c.self.view_is) c.requires.carried in
     let shown : c.as_slice-3.result.now ≡ touched c.self.inside c.args.touched.now c.args.now = c.as_slice-3.ensures.value ∙ c.note_touched.ensures.ids ∙ (λ i. touched_ids c.args.touched.now.table (c.as_slice-2.ensures i) (c.as_slice.ensures.value i)) in
     let mid = entries_are c.self.inside c.args.touched.now c.args.now c.as_slice-3.result.now c.take_touched.new.entries.items c.args.carried.entries.items c.enter_all.new.entries.items shown c.take_touched.ensures.entries carried.entries c.enter_all.ensures.items in
-    weighable c.self.inside c.args.touched.now c.args.now c.self.invariant later c.requires.early fits c.as_slice-7.result.now (c.as_slice-7.ensures.value ∙ mid)
+    weighable c.self.inside c.args.touched.now c.args.now c.self.invariant later c.requires.early fits c.as_slice-entered.result.now (c.as_slice-entered.ensures.value ∙ mid)
 
 pub plan_last-requires-clause-rows : goal.plan_last-requires-clause-rows
 plan_last-requires-clause-rows g c =
@@ -84,7 +95,7 @@ plan_last-requires-clause-rows g c =
     let carried : IsCarried c.args.touched.now c.args.now (pool_shown c.self.inside) c.args.carried = subst (λ (p : PoolState). IsCarried c.args.touched.now c.args.now p c.args.carried) (sym c.self.view_is) c.requires.carried in
     let shown : c.as_slice-3.result.now ≡ touched c.self.inside c.args.touched.now c.args.now = c.as_slice-3.ensures.value ∙ c.note_touched.ensures.ids ∙ (λ i. touched_ids c.args.touched.now.table (c.as_slice-2.ensures i) (c.as_slice.ensures.value i)) in
     let mid = entries_are c.self.inside c.args.touched.now c.args.now c.as_slice-3.result.now c.take_touched.new.entries.items c.args.carried.entries.items c.enter_all.new.entries.items shown c.take_touched.ensures.entries carried.entries c.enter_all.ensures.items in
-    let same = ap (λ (es : List PoolEntry). length es) (c.as_slice-7.ensures.value ∙ mid) in
+    let same = ap (λ (es : List PoolEntry). length es) (c.as_slice-entered.ensures.value ∙ mid) in
     let few = few_after c.self.inside c.args.touched.now c.args.now c.self.invariant later c.requires.early fits in
     omega (arith, same, few, c.self.invariant.lists.rows)
 
@@ -95,7 +106,7 @@ plan_last-requires-clause-gone g c =
     let carried : IsCarried c.args.touched.now c.args.now (pool_shown c.self.inside) c.args.carried = subst (λ (p : PoolState). IsCarried c.args.touched.now c.args.now p c.args.carried) (sym c.self.view_is) c.requires.carried in
     let shown : c.as_slice-3.result.now ≡ touched c.self.inside c.args.touched.now c.args.now = c.as_slice-3.ensures.value ∙ c.note_touched.ensures.ids ∙ (λ i. touched_ids c.args.touched.now.table (c.as_slice-2.ensures i) (c.as_slice.ensures.value i)) in
     let mid = entries_are c.self.inside c.args.touched.now c.args.now c.as_slice-3.result.now c.take_touched.new.entries.items c.args.carried.entries.items c.enter_all.new.entries.items shown c.take_touched.ensures.entries carried.entries c.enter_all.ensures.items in
-    let same = ap (λ (es : List PoolEntry). length es) (c.as_slice-7.ensures.value ∙ mid) in
+    let same = ap (λ (es : List PoolEntry). length es) (c.as_slice-entered.ensures.value ∙ mid) in
     let few = few_after c.self.inside c.args.touched.now c.args.now c.self.invariant later c.requires.early fits in
     omega (arith, same, few, c.self.invariant.lists.gone)
 
@@ -119,11 +130,11 @@ total_bytes-self-inside-requires g c =
     let paid = credit_is c.self.inside c.args.touched.now c.args.now c.as_slice-3.result.now c.as_slice-4.result.now c.take_touched.new.ledger.each shown (c.as_slice-4.ensures.value ∙ carried.ids) c.take_touched.ensures.each in
     let many = ap (λ (ids : List ℕ). length ids) carried.ids ∙ length-map (backs c.self.inside c.args.touched.now c.args.now) (λ (r : Return). r.old.id) in
     let back : c.len-back.result ≡ length (backs c.self.inside c.args.touched.now c.args.now) = omega (arith, c.len-back.ensures, c.args.carried.ids.ok.0, many) in
-    let gone = c.as_slice-8.ensures.value ∙ c.plan_last.ensures.gone ∙ ap (λ (es : List PoolEntry). (given_up (score_at c.self.inside.options c.args.now) (rows_of [] es) (pool_bytes es - c.self.inside.options.budget) 0).0) (c.as_slice-7.ensures.value ∙ mid) in
-    let done = written_is c.self.inside c.args.touched.now c.args.now c.enter_all.new.entries.items c.leave.new.entries.items c.take_touched.new.ledger.each c.leave.new.ledger.each c.as_slice-8.result.now (c.self.inside.next + c.len-back.result) mid paid (ap (λ n. c.self.inside.next + n) back) gone c.leave.ensures.entries c.leave.ensures.each in
+    let gone = c.as_slice-gone.ensures.value ∙ c.plan_last.ensures.gone ∙ ap (λ (es : List PoolEntry). (given_up (score_at c.self.inside.options c.args.now) (rows_of [] es) (pool_bytes es - c.self.inside.options.budget) 0).0) (c.as_slice-entered.ensures.value ∙ mid) in
+    let done = written_is c.self.inside c.args.touched.now c.args.now c.enter_all.new.entries.items c.leave.new.entries.items c.take_touched.new.ledger.each c.leave.new.ledger.each c.as_slice-gone.result.now (c.self.inside.next + c.len-back.result) mid paid (ap (λ n. c.self.inside.next + n) back) gone c.leave.ensures.entries c.leave.ensures.each in
     let few = few_backs c.self.inside c.args.touched.now c.args.now c.self.invariant later c.requires.early fits in
     let kept = written_keeps c.self.inside c.args.touched.now c.args.now c.self.invariant later c.requires.early fits _ done in
-    let same = ap pool_bytes c.as_slice-10.ensures.value in
+    let same = ap pool_bytes c.as_slice-5.ensures.value in
     omega (arith, same, kept.bytes, c.self.invariant.budget)
 
 pub invariant_of-self : goal.invariant_of-self
@@ -136,8 +147,8 @@ invariant_of-self g c =
     let paid = credit_is c.self.inside c.args.touched.now c.args.now c.as_slice-3.result.now c.as_slice-4.result.now c.take_touched.new.ledger.each shown (c.as_slice-4.ensures.value ∙ carried.ids) c.take_touched.ensures.each in
     let many = ap (λ (ids : List ℕ). length ids) carried.ids ∙ length-map (backs c.self.inside c.args.touched.now c.args.now) (λ (r : Return). r.old.id) in
     let back : c.len-back.result ≡ length (backs c.self.inside c.args.touched.now c.args.now) = omega (arith, c.len-back.ensures, c.args.carried.ids.ok.0, many) in
-    let gone = c.as_slice-8.ensures.value ∙ c.plan_last.ensures.gone ∙ ap (λ (es : List PoolEntry). (given_up (score_at c.self.inside.options c.args.now) (rows_of [] es) (pool_bytes es - c.self.inside.options.budget) 0).0) (c.as_slice-7.ensures.value ∙ mid) in
-    let done = written_is c.self.inside c.args.touched.now c.args.now c.enter_all.new.entries.items c.leave.new.entries.items c.take_touched.new.ledger.each c.leave.new.ledger.each c.as_slice-8.result.now (c.self.inside.next + c.len-back.result) mid paid (ap (λ n. c.self.inside.next + n) back) gone c.leave.ensures.entries c.leave.ensures.each in
+    let gone = c.as_slice-gone.ensures.value ∙ c.plan_last.ensures.gone ∙ ap (λ (es : List PoolEntry). (given_up (score_at c.self.inside.options c.args.now) (rows_of [] es) (pool_bytes es - c.self.inside.options.budget) 0).0) (c.as_slice-entered.ensures.value ∙ mid) in
+    let done = written_is c.self.inside c.args.touched.now c.args.now c.enter_all.new.entries.items c.leave.new.entries.items c.take_touched.new.ledger.each c.leave.new.ledger.each c.as_slice-gone.result.now (c.self.inside.next + c.len-back.result) mid paid (ap (λ n. c.self.inside.next + n) back) gone c.leave.ensures.entries c.leave.ensures.each in
     let few = few_backs c.self.inside c.args.touched.now c.args.now c.self.invariant later c.requires.early fits in
     kept_on c.self.inside _ c.self.invariant (written_keeps c.self.inside c.args.touched.now c.args.now c.self.invariant later c.requires.early fits _ done)
     refl (c.leave.ensures.start ∙ c.take_touched.ensures.start) c.requires.early (omega (arith, back, few, later, c.self.invariant.next)) (omega (arith, later, c.self.invariant.shapes))
@@ -147,12 +158,14 @@ invariant_of-self g c =
       gone = omega (arith, c.self.invariant.lists.gone, c.plan_last.ensures.gone_room);
       rows = omega (arith, c.self.invariant.lists.rows, c.plan_last.ensures.rows_room);
     })
-    (named_left c.renew.new.self c.as_slice-8.result.now c.enter_all.new.entries.items c.leave.new.entries.items c.leave.ensures.entries (subst (IsNamed c.renew.new.self) c.as_slice-5.ensures.value c.renew.ensures.named))
+    (named_left c.renew.new.self c.as_slice-gone.result.now c.enter_all.new.entries.items c.leave.new.entries.items c.leave.ensures.entries (subst (IsNamed c.renew.new.self) c.as_slice-entered.ensures.value c.renew.ensures.named))
     (omega (arith, c.renew.ensures.room))
-    (c.total_bytes-self-inside.ensures ∙ ap pool_bytes c.as_slice-10.ensures.value)
-    (subst (IsIndexed c.take_children.new.children) (ap (λ (ids : List ℕ). left_without ids c.enter_all.new.entries.items) (c.as_slice-9.ensures.value ∙ sym c.as_slice-8.ensures.value) ∙ sym c.leave.ensures.entries)
-    (c.take_children.ensures.indexed c.enter_all.new.entries.items (subst (IsIndexed c.renew_children.new.children) c.as_slice-6.ensures.value c.renew_children.ensures.indexed)))
+    (c.total_bytes-self-inside.ensures ∙ ap pool_bytes c.as_slice-5.ensures.value)
+    (subst (IsIndexed c.take_children.new.children) (sym c.leave.ensures.entries)
+    (c.take_children.ensures.indexed c.enter_all.new.entries.items (subst (IsIndexed c.renew_children.new.children) c.as_slice-entered.ensures.value c.renew_children.ensures.indexed)))
     (omega (arith, c.renew_children.ensures.room, c.take_children.ensures.room))
+    (subst (AreBeside c.take_children.new.parents) (sym c.leave.ensures.entries) (c.take_children.ensures.kin c.enter_all.new.entries.items (subst (AreBeside c.renew_children.new.parents) c.as_slice-entered.ensures.value c.renew_children.ensures.kin)))
+    (omega (arith, c.renew_children.ensures.kin_room, c.take_children.ensures.kin_room))
 
 pub returns-clause-pool : goal.returns-clause-pool
 returns-clause-pool g c =
@@ -162,8 +175,8 @@ returns-clause-pool g c =
     let paid = credit_is c.self.inside c.args.touched.now c.args.now c.as_slice-3.result.now c.as_slice-4.result.now c.take_touched.new.ledger.each shown (c.as_slice-4.ensures.value ∙ carried.ids) c.take_touched.ensures.each in
     let many = ap (λ (ids : List ℕ). length ids) carried.ids ∙ length-map (backs c.self.inside c.args.touched.now c.args.now) (λ (r : Return). r.old.id) in
     let back : c.len-back.result ≡ length (backs c.self.inside c.args.touched.now c.args.now) = omega (arith, c.len-back.ensures, c.args.carried.ids.ok.0, many) in
-    let gone = c.as_slice-8.ensures.value ∙ c.plan_last.ensures.gone ∙ ap (λ (es : List PoolEntry). (given_up (score_at c.self.inside.options c.args.now) (rows_of [] es) (pool_bytes es - c.self.inside.options.budget) 0).0) (c.as_slice-7.ensures.value ∙ mid) in
-    let done = written_is c.self.inside c.args.touched.now c.args.now c.enter_all.new.entries.items c.leave.new.entries.items c.take_touched.new.ledger.each c.leave.new.ledger.each c.as_slice-8.result.now (c.self.inside.next + c.len-back.result) mid paid (ap (λ n. c.self.inside.next + n) back) gone c.leave.ensures.entries c.leave.ensures.each in
+    let gone = c.as_slice-gone.ensures.value ∙ c.plan_last.ensures.gone ∙ ap (λ (es : List PoolEntry). (given_up (score_at c.self.inside.options c.args.now) (rows_of [] es) (pool_bytes es - c.self.inside.options.budget) 0).0) (c.as_slice-entered.ensures.value ∙ mid) in
+    let done = written_is c.self.inside c.args.touched.now c.args.now c.enter_all.new.entries.items c.leave.new.entries.items c.take_touched.new.ledger.each c.leave.new.ledger.each c.as_slice-gone.result.now (c.self.inside.next + c.len-back.result) mid paid (ap (λ n. c.self.inside.next + n) back) gone c.leave.ensures.entries c.leave.ensures.each in
     done ∙ ap (λ (p : PoolState). (write_of c.args.touched.now c.args.now p).pool) c.self.view_is
 
 pub returns-clause-dropped : goal.returns-clause-dropped
@@ -182,6 +195,6 @@ returns-clause-evicted g c =
     let carried : IsCarried c.args.touched.now c.args.now (pool_shown c.self.inside) c.args.carried = subst (λ (p : PoolState). IsCarried c.args.touched.now c.args.now p c.args.carried) (sym c.self.view_is) c.requires.carried in
     let shown : c.as_slice-3.result.now ≡ touched c.self.inside c.args.touched.now c.args.now = c.as_slice-3.ensures.value ∙ c.note_touched.ensures.ids ∙ (λ i. touched_ids c.args.touched.now.table (c.as_slice-2.ensures i) (c.as_slice.ensures.value i)) in
     let mid = entries_are c.self.inside c.args.touched.now c.args.now c.as_slice-3.result.now c.take_touched.new.entries.items c.args.carried.entries.items c.enter_all.new.entries.items shown c.take_touched.ensures.entries carried.entries c.enter_all.ensures.items in
-    let gone = c.plan_last.ensures.gone ∙ ap (λ (es : List PoolEntry). (given_up (score_at c.self.inside.options c.args.now) (rows_of [] es) (pool_bytes es - c.self.inside.options.budget) 0).0) (c.as_slice-7.ensures.value ∙ mid) in
+    let gone = c.plan_last.ensures.gone ∙ ap (λ (es : List PoolEntry). (given_up (score_at c.self.inside.options c.args.now) (rows_of [] es) (pool_bytes es - c.self.inside.options.budget) 0).0) (c.as_slice-entered.ensures.value ∙ mid) in
     let count : c.len-2.result ≡ length c.plan_last.new.lists.gone.items = omega (arith, c.len-2.ensures, c.plan_last.new.lists.gone.ok.0) in
     count ∙ ap (λ (ids : List ℕ). length ids) gone ∙ ap (λ (p : PoolState). (write_of c.args.touched.now c.args.now p).evicted) c.self.view_is

@@ -7,6 +7,7 @@ use Rattle.pool_policy.specs.Keeps.{IsPool, faces}
 use Rattle.pool_policy.proofs.Faces.{map_faces}
 use Rattle.pool_policy.proofs.Kept.{release_keeps}
 use Rattle.recycle_pool.specs.Views.{pool_shown}
+use Rattle.recycle_pool.proofs.Beside.{beside_faces}
 use Rattle.recycle_pool.proofs.Prints.{named_faces}
 use Rattle.recycle_pool.proofs.Totals.{bytes_on}
 use Rattle.recycle_pool.proofs.Stands.{kept_on}
@@ -21,3 +22,4 @@ invariant_of-self c =
     (named_faces c.self.inside.keys c.self.inside.entries.items c.unpin_all.new.entries.items (ap faces c.unpin_all.ensures.entries ∙ map_faces (unpinned c.args.session) (λ e. refl) c.self.inside.entries.items) c.self.invariant.keys) (omega arith)
     (bytes_on c.self.inside.bytes c.self.inside.entries.items c.unpin_all.new.entries.items (ap faces c.unpin_all.ensures.entries ∙ map_faces (unpinned c.args.session) (λ e. refl) c.self.inside.entries.items) c.self.invariant.bytes)
     (indexed_faces c.self.inside.children c.self.inside.entries.items c.unpin_all.new.entries.items (ap faces c.unpin_all.ensures.entries ∙ map_faces (unpinned c.args.session) (λ e. refl) c.self.inside.entries.items) c.self.invariant.children) (omega arith)
+    (beside_faces c.self.inside.parents c.self.inside.entries.items c.unpin_all.new.entries.items (ap faces c.unpin_all.ensures.entries ∙ map_faces (unpinned c.args.session) (λ e. refl) c.self.inside.entries.items) c.self.invariant.kin) (omega arith)
