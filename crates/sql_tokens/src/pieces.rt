@@ -1,4 +1,4 @@
-ghost use Rattle.std.specs.Prelude.{◌≡◌, ◌<◌, ◌≤◌, ◌+◌, ℕ, [], ◌∷◌, ◌++◌, length, take, drop, IfOk, IfSome, IfNone, OnOk, IsErrOf};
+ghost use Rattle.std.specs.Prelude.{◌≡◌, ◌<◌, ◌≤◌, ◌+◌, ℕ, List, [], ◌∷◌, ◌++◌, length, take, drop, false, IfOk, IfSome, IfNone, IsTrue, OnOk, IsErrOf};
 ghost use Rattle.sql_tree.specs.Pieces as told;
 ghost use Rattle.sql_tree.specs.declared.inside.Inside.TheVariants.{Outside};
 ghost use Rattle.sql_tokens.specs.Reader as reader;
@@ -82,14 +82,25 @@ fn run_length(bytes: &[u8]) -> Option<usize>
     let mut length = 0;
     let mut rest = bytes;
     'bytes: while let [byte, after @ ..] = rest {
-        if ends_piece(place, *byte) {
-            return Some(length);
+        if !goes_on(place, *byte) {
+            if ends_piece(place, *byte) {
+                return Some(length);
+            }
+            place = next_inside(place, *byte, after);
         }
-        place = next_inside(place, *byte, after);
         length += 1;
         rest = after;
     }
     None
+}
+
+/// Whether a byte stands outside strings, quoted names and comments, and neither ends a piece nor opens any of these,
+/// whatever comes behind it. Most bytes do, so they are looked at first.
+fn goes_on(place: Inside, byte: u8) -> bool
+    ensures open { IsTrue result → told.ends_piece place byte ≡ false }
+    ensures here { IsTrue result → (after : List ℕ) → told.next_inside place byte after ≡ place }
+{
+    matches!(place, Inside::Outside) && !matches!(byte, b';' | b'\'' | b'"' | b'-' | b'/')
 }
 
 /// Adds a run of bytes to the pieces, unless it is only blanks and comments.
