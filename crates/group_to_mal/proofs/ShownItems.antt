@@ -1,14 +1,12 @@
 -- What a grouped query shows.
-use Rattle.std.proofs.Common.{◌≡◌, ℕ, suc, zero, arith, List, [], ◌∷◌, map, refl, true, false, not, cond, Option, ap, sym, ◌∙◌}
+use Rattle.std.proofs.Common.{◌≡◌, ℕ, suc, zero, arith, List, [], ◌∷◌, true, false, not, cond, Option, ap, sym, ◌∙◌}
 use Rattle.std.specs.Prelude.{length, ◌==◌}
 use Rattle.cell_core.specs.declared.operator.Arg.{Arg}
-use Rattle.sql_tree.specs.Tree.{ExprTree, CondTree, ItemTree, QueryTree, expr_tree, item_tree}
+use Rattle.sql_tree.specs.Tree.{ExprTree, CondTree, QueryTree}
 use Rattle.sql_tree.specs.declared.tree.ColRef.{ColRef}
-use Rattle.sql_tree.specs.declared.tree.Item.{Item}
 use Rattle.sql_semantics.specs.References.{item_exprs, is_grouped}
 use Rattle.rows_to_mal.specs.Conjuncts.{Scope}
 use Rattle.mal_emit.specs.Emitters.{Emitter}
-use Rattle.group_to_mal.specs.ItemValues.{exprs_of}
 use Rattle.group_to_mal.specs.QueryPlan.{Shown, always, row_items, whole_items, group_items, shown_items}
 
 pub groups_shown : (scope : Scope) (query : QueryTree) (rows : List Arg) (refs : List ColRef) (having : Option CondTree) (items : List ExprTree) → is_grouped query ≡ true → (length query.groups == 0) ≡ false
@@ -27,8 +25,3 @@ groups_shown scope query rows refs having items grouped some r h i =
 pub not_none : (n m : ℕ) → n ≡ m → (n ≡ 0 → ⊥) → (m == 0) ≡ false
 not_none n zero e h = absurd (h e)
 not_none n (suc m) e h = grind arith
-
--- the expressions of items, by their trees
-pub exprs_are : (items : List Item) → exprs_of items ≡ map (λ (item : ItemTree). item.expr) (map item_tree items)
-exprs_are [] = refl
-exprs_are (item ∷ items) = ap (λ r. expr_tree item.expr ∷ r) (exprs_are items)

@@ -1,8 +1,6 @@
 -- The code's columns, as the definitions see them.
 use Rattle.std.specs.Prelude.{List, map, Bool}
 use Rattle.cell_core.specs.declared.operator.Arg.{Arg}
-use Rattle.sql_tree.specs.Tree.{ExprTree, expr_tree}
-use Rattle.sql_tree.specs.declared.tree.Item.{Item}
 use Rattle.group_to_mal.specs.declared.columns.ItemValue.{ItemValue}
 
 -- the arguments that hold them
@@ -12,7 +10,3 @@ args_of columns = map (λ (column : ItemValue). column.arg) columns
 -- which of them are BATs
 abbrev pub bats_in : List ItemValue → List Bool
 bats_in columns = map (λ (column : ItemValue). column.is_bat) columns
-
--- the expressions of items
-abbrev pub exprs_of : List Item → List ExprTree
-exprs_of items = map (λ (item : Item). expr_tree item.expr) items

@@ -10,7 +10,8 @@ ghost use Rattle.group_to_mal.specs.QueryPlan.{kept_columns as kept_columns_of, 
 ghost use Rattle.group_to_mal.specs.Columns.{heads as heads_of, values_by, any_bat, with_bat, spread_by, spread_first as spread_first_of};
 ghost use Rattle.group_to_mal.specs.Values.{is_grouped, group_value};
 ghost use Rattle.group_to_mal.specs.Forms.{value_over, is_bat_over};
-ghost use Rattle.group_to_mal.specs.ItemValues.{args_of, bats_in, exprs_of};
+ghost use Rattle.group_to_mal.specs.ItemValues.{args_of, bats_in};
+ghost use Rattle.sql_semantics.specs.Exprs.{exprs_of};
 
 use crate::columns::{ItemValue, groups, heads, keep_bats, spread, undoubled};
 use crate::form::Form;

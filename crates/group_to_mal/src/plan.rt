@@ -37,7 +37,6 @@ fn sort_keys(
 }
 
 /// The plan with these items, behind the instructions of its rows.
-#[tactic(auto, using(crate::proofs::ShownItems::exprs_are))]
 fn plan_with_items(
     alloc: Global,
     mut instrs: Sequence<Instr>,

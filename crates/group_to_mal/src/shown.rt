@@ -7,7 +7,8 @@ ghost use Rattle.mal_emit.specs.Phrases.{variables};
 ghost use Rattle.group_to_mal.specs.Columns.{values_by};
 ghost use Rattle.group_to_mal.specs.Values.{test_by, whole_value, whole_test as whole_test_of};
 ghost use Rattle.group_to_mal.specs.QueryPlan.{always as always_of, group_items as group_items_of, row_items as row_items_of, whole_items as whole_items_of, shown_items as shown_items_of};
-ghost use Rattle.group_to_mal.specs.ItemValues.{args_of, exprs_of};
+ghost use Rattle.group_to_mal.specs.ItemValues.{args_of};
+ghost use Rattle.sql_semantics.specs.Exprs.{exprs_of};
 
 use crate::columns::ItemValue;
 use crate::form::{Form, first_rows};

@@ -3,7 +3,7 @@ use Rattle.std.specs.Option.{option_copied, option_map}
 use Rattle.sql_tree.specs.Tree.{cond_tree, query_tree}
 use Rattle.mal_emit.specs.Emitters.{Emitter}
 use Rattle.mal_emit.specs.Phrases.{variables}
-use Rattle.group_to_mal.specs.ItemValues.{exprs_of}
+use Rattle.sql_semantics.specs.Exprs.{exprs_of}
 use Rattle.group_to_mal.specs.QueryPlan.{Shown}
 use Rattle.group_to_mal.proofs.ShownItems.{groups_shown, not_none}
 use Rattle.group_to_mal.proofs.shown.shown_items.Goals as goal
