@@ -1,6 +1,6 @@
 -- What the functions that read expressions compute, on plain lists of tokens: a definition for each.
 -- The public clauses don't speak of these.
-use Rattle.std.specs.Prelude.{ℕ, zero, suc, ◌+◌, ◌==◌, List, length, slice_index, Bool, true, false, ◌&&◌, nat_le, nat_lt, ◌^◌, neg_ℤ, if◌then◌else◌, Option, Some, None, ℤ, pos}
+use Rattle.std.specs.Prelude.{ℕ, zero, suc, List, length, Bool, true, false, nat_le, nat_lt, ◌^◌, neg_ℤ, if◌then◌else◌, Option, Some, None, pos}
 use Rattle.cell_core.specs.declared.cell.Cell.{Cell}
 use Rattle.cell_core.specs.declared.cell.Cell.TheVariants as cell
 use Rattle.sql_grammar.specs.Grammar.{number_of, negative_of}

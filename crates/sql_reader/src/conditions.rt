@@ -1,15 +1,17 @@
-ghost use Rattle.std.specs.Prelude.{◌≡◌, Some, None, IfOk, IsErrOf};
+ghost use Rattle.std.specs.Prelude.{◌≡◌, nat_lt, if◌then◌else◌, Some, None, IfOk, IsErrOf};
+ghost use Rattle.sql_grammar.specs.Refused.{cond_nodes};
 ghost use Rattle.sql_grammar.specs.Reads.{tokens_in};
 ghost use Rattle.sql_tree.specs.Tree.{expr_tree, cond_tree};
 ghost use Rattle.sql_tree.specs.Tree.CondTree.{Negation, Both, Either};
+ghost use Rattle.sql_reader.specs.Bounded as kept;
 ghost use Rattle.sql_reader.specs.Bounded.{bounded, bounded_join};
 ghost use Rattle.sql_reader.specs.CondReader as reader;
 
-use crate::cursor::{Cursor, and, is_key, is_symbol, or};
+use crate::cursor::{Cursor, and, beside, is_key, is_symbol, or};
 use crate::expressions::expr_behind;
 use crate::predicates::{test, test_behind, whole_expr};
 use crate::reading::TreeError;
-use crate::signs::with_cond_signs;
+use crate::signs::{self, both_boxed, with_cond_signs};
 use cell_core::Memory;
 use sql_refusals::is_large_cond;
 use sql_tree::{Cond, Expr, Keyword, Symbol};
@@ -77,8 +79,8 @@ fn cond_behind(
             return Ok(left);
         };
         tokens.advance();
-        let right = conj(alloc, tokens, aggregates, depth)?;
-        left = either(alloc, left, right)?;
+        let (so_far, right) = beside(left, conj(alloc, tokens, aggregates, depth))?;
+        left = either(alloc, so_far, right)?;
     }
     Ok(left)
 }
@@ -126,8 +128,8 @@ fn conj_behind(
             return Ok(left);
         };
         tokens.advance();
-        let right = unit(alloc, tokens, aggregates, depth)?;
-        left = both(alloc, left, right)?;
+        let (so_far, right) = beside(left, unit(alloc, tokens, aggregates, depth))?;
+        left = both(alloc, so_far, right)?;
     }
     Ok(left)
 }
@@ -259,7 +261,7 @@ fn first_inside(
         Err(TreeError::Syntax) => {
             tokens.rest = start;
             let condition = cond(alloc, tokens, aggregates, depth)?;
-            tokens.close()?;
+            let condition = tokens.closed(condition)?;
             Ok(Inside::Condition(condition))
         }
     }
@@ -315,8 +317,7 @@ fn closed_cond(
         (cond_tree first) (tokens_in tokens.old.rest.now) ≡ None }
 {
     let condition = cond_behind(alloc, tokens, aggregates, depth, first)?;
-    tokens.close()?;
-    Ok(condition)
+    tokens.closed(condition)
 }
 
 /// An expression, and the `)` behind it.
@@ -327,8 +328,7 @@ fn closed_expr(alloc: Global, tokens: &mut Cursor<'_>) -> Result<Expr, TreeError
         reader.operand_inside bounded (tokens_in tokens.old.rest.now) ≡ None }
 {
     let operand = whole_expr(alloc, tokens)?;
-    tokens.close()?;
-    Ok(operand)
+    tokens.closed(operand)
 }
 
 /// A test whose first operand has so many levels, behind the first factor of that.
@@ -363,24 +363,39 @@ pub(crate) fn negation(alloc: Global, of: Cond) -> Result<Cond, Memory>
 pub fn both(alloc: Global, left: Cond, right: Cond) -> Result<Cond, Memory>
     ensures { IfOk result (λ c. cond_tree c ≡ bounded_join Both (cond_tree left) (cond_tree right)) }
 {
-    if is_large_cond(&left) {
-        return with_cond_signs(alloc, &right, left);
+    if is_large_cond(&left) || is_large_cond(&right) {
+        return larger(alloc, left, right);
     }
-    if is_large_cond(&right) {
-        return with_cond_signs(alloc, &left, right);
-    }
-    Ok(Cond::And(Box::new(alloc, left)?, Box::new(alloc, right)?))
+    signs::and(alloc, left, right)
 }
 
 /// Two conditions joined by OR, as `both` joins them by AND.
 pub(crate) fn either(alloc: Global, left: Cond, right: Cond) -> Result<Cond, Memory>
     ensures { IfOk result (λ c. cond_tree c ≡ bounded_join Either (cond_tree left) (cond_tree right)) }
 {
+    if is_large_cond(&left) || is_large_cond(&right) {
+        return larger(alloc, left, right);
+    }
+    disjunction(alloc, left, right)
+}
+
+/// The first of two conditions that has more than 128 nodes, or else the second, with signs of the other.
+fn larger(alloc: Global, left: Cond, right: Cond) -> Result<Cond, Memory>
+    ensures { IfOk result (λ c. cond_tree c ≡ (if nat_lt 128 (cond_nodes (cond_tree left))
+        then kept.with_cond_signs (cond_tree right) (cond_tree left)
+        else kept.with_cond_signs (cond_tree left) (cond_tree right))) }
+{
     if is_large_cond(&left) {
-        return with_cond_signs(alloc, &right, left);
+        with_cond_signs(alloc, right, left)
+    } else {
+        with_cond_signs(alloc, left, right)
     }
-    if is_large_cond(&right) {
-        return with_cond_signs(alloc, &left, right);
-    }
-    Ok(Cond::Or(Box::new(alloc, left)?, Box::new(alloc, right)?))
+}
+
+/// One of the conditions.
+fn disjunction(alloc: Global, left: Cond, right: Cond) -> Result<Cond, Memory>
+    ensures { IfOk result (λ c. cond_tree c ≡ Either (cond_tree left) (cond_tree right)) }
+{
+    let (left, right) = both_boxed(alloc, left, right)?;
+    Ok(Cond::Or(left, right))
 }

@@ -1,4 +1,4 @@
-ghost use Rattle.std.specs.Prelude.{◌≡◌, ◌<◌, [], length, option_copied, Some, None, IfSome, IfNone, OnOk, IsErrOf, true, false};
+ghost use Rattle.std.specs.Prelude.{◌≡◌, ◌<◌, [], length, option_copied, Some, None, Ok, Err, IfSome, IfNone, IfOk, IfErr, OnOk, IsErrOf, true, false};
 ghost use Rattle.sql_grammar.specs.Reads.{tokens_in};
 ghost use Rattle.sql_reader.specs.Chain.{first_token, after_first};
 ghost use Rattle.sql_reader.specs.CondReader as conditions;
@@ -110,6 +110,42 @@ impl<'a> Cursor<'a> {
             Some(Token::Symbol(Symbol::Close)) => Ok(()),
             _ => Err(TreeError::Syntax),
         }
+    }
+
+    /// What was read, with a `)` that has to stand behind it.
+    pub(crate) fn closed<T: Drop>(&mut self, read: T) -> Result<T, TreeError>
+        ensures rest { tokens_in self.new.rest.now ≡ after_first (tokens_in self.old.rest.now) }
+        ensures found { OnOk result (reader.is_close (first_token (tokens_in self.old.rest.now)) ≡ true) }
+        ensures same { IfOk result (λ back. back ≡ read) }
+        ensures none { IsErrOf result TreeError.Syntax →
+            reader.is_close (first_token (tokens_in self.old.rest.now)) ≡ false }
+    {
+        self.close()?;
+        Ok(read)
+    }
+
+    /// What was read, where no token is left behind it.
+    pub(crate) fn ended<T: Drop>(&self, read: T) -> Result<T, TreeError>
+        ensures found { OnOk result (tokens_in self.now.rest.now ≡ []) }
+        ensures same { IfOk result (λ back. back ≡ read) }
+        ensures none { IsErrOf result TreeError.Syntax → 0 < length (tokens_in self.now.rest.now) }
+    {
+        self.end()?;
+        Ok(read)
+    }
+}
+
+/// What is kept, beside what was made; where that failed, what is kept is let go.
+///
+/// A proof goes through all the forms of a tree at each place where one may be let go. Here that is done for things of
+/// any kind, which have none.
+pub(crate) fn beside<T: Drop, U: Drop, E: Drop>(kept: T, made: Result<U, E>) -> Result<(T, U), E>
+    ensures both { IfOk result (λ both. (both.0 ≡ kept) × (made ≡ Ok both.1)) }
+    ensures none { IfErr result (λ error. made ≡ Err error) }
+{
+    match made {
+        Ok(made) => Ok((kept, made)),
+        Err(error) => Err(error),
     }
 }
 

@@ -9,7 +9,7 @@ ghost use Rattle.sql_reader.specs.Bounded.{bounded, bounded_join, cond_has_unrea
 ghost use Rattle.sql_reader.specs.CondReader as reader;
 
 use crate::conditions::{either, negation};
-use crate::cursor::{Cursor, aggregate_word, comma, comparison, is_all, is_key};
+use crate::cursor::{Cursor, aggregate_word, beside, comma, comparison, is_all, is_key};
 use crate::expressions::expr;
 use crate::reading::TreeError;
 use crate::signs::{with_arithmetic, with_unread_test};
@@ -231,7 +231,6 @@ fn within(
 }
 
 /// The list behind IN.
-#[tactic(auto, unfolding(crate::specs::CondReader::listed))]
 fn listed(
     alloc: Global,
     tokens: &mut Cursor<'_>,
@@ -245,10 +244,29 @@ fn listed(
         reader.listed bounded (reader.operand bounded aggregates) (expr_tree of)
         (tokens_in tokens.old.rest.now) ≡ None }
 {
+    let read = list_behind(alloc, tokens, aggregates, &of);
+    drop(of);
+    read
+}
+
+/// The list behind IN, of an operand that is lent.
+#[tactic(auto, unfolding(crate::specs::CondReader::listed))]
+fn list_behind(
+    alloc: Global,
+    tokens: &mut Cursor<'_>,
+    aggregates: bool,
+    of: &Expr,
+) -> Result<Cond, TreeError>
+    ensures found { IfOk result (λ c.
+        reader.listed bounded (reader.operand bounded aggregates) (expr_tree of.now)
+        (tokens_in tokens.old.rest.now) ≡ Some (cond_tree c, tokens_in tokens.new.rest.now)) }
+    ensures none { IsErrOf result TreeError.Syntax →
+        reader.listed bounded (reader.operand bounded aggregates) (expr_tree of.now)
+        (tokens_in tokens.old.rest.now) ≡ None }
+{
     tokens.symbol(Symbol::Open)?;
-    let members = members(alloc, tokens, aggregates, &of)?;
-    tokens.close()?;
-    Ok(members)
+    let members = members(alloc, tokens, aggregates, of)?;
+    tokens.closed(members)
 }
 
 /// The members of a list behind IN: the operand is one of them.
@@ -273,8 +291,8 @@ fn members(
             return Ok(left);
         };
         tokens.advance();
-        let member = operand(alloc, tokens, aggregates)?;
-        left = or_member(alloc, of, left, member)?;
+        let (so_far, member) = beside(left, operand(alloc, tokens, aggregates))?;
+        left = or_member(alloc, of, so_far, member)?;
     }
     Ok(left)
 }
@@ -286,10 +304,13 @@ fn or_member(alloc: Global, of: &Expr, so_far: Cond, member: Expr) -> Result<Con
         (Compare compare.Eq (expr_tree of.now) (expr_tree member))) }
 {
     if is_large_cond(&so_far) {
-        let so_far = with_arithmetic(alloc, has_arithmetic(of, &member), so_far)?;
-        return with_unread_test(alloc, are_unread(of, &member), so_far);
+        let arithmetic = has_arithmetic(of, &member);
+        let unread = are_unread(of, &member);
+        drop(member);
+        let so_far = with_arithmetic(alloc, arithmetic, so_far)?;
+        return with_unread_test(alloc, unread, so_far);
     }
-    let next = equality(alloc, of, member)?;
+    let (so_far, next) = beside(so_far, equality(alloc, of, member))?;
     either(alloc, so_far, next)
 }
 

@@ -93,6 +93,5 @@ fn all_cond(alloc: Global, tokens: &[Placed], aggregates: bool) -> Result<Cond, 
 {
     let mut rest = Cursor::new(tokens);
     let read = whole_cond(alloc, &mut rest, aggregates)?;
-    rest.end()?;
-    Ok(read)
+    rest.ended(read)
 }

@@ -9,6 +9,7 @@ ghost use Rattle.sql_tree.specs.declared.tree.ArithOp.TheVariants as arith;
 ghost use Rattle.sql_tree.specs.declared.tree.CmpOp.TheVariants as compare;
 ghost use Rattle.sql_reader.specs.Bounded as kept;
 
+use crate::cursor::beside;
 use crate::number::unread;
 use cell_core::{Memory, word_of};
 use sql_refusals::{cond_has_unread, has_column, has_column_arithmetic, has_unread};
@@ -43,11 +44,14 @@ fn with_unread(alloc: Global, other: &Expr, expr: Expr) -> Result<Expr, Memory>
 }
 
 /// The condition, with a sign of arithmetic over columns and of a Huge, where only the other has them.
-pub(crate) fn with_cond_signs(alloc: Global, other: &Cond, cond: Cond) -> Result<Cond, Memory>
-    ensures { IfOk result (λ c. cond_tree c ≡ kept.with_cond_signs (cond_tree other.now) (cond_tree cond)) }
+pub(crate) fn with_cond_signs(alloc: Global, other: Cond, cond: Cond) -> Result<Cond, Memory>
+    ensures { IfOk result (λ c. cond_tree c ≡ kept.with_cond_signs (cond_tree other) (cond_tree cond)) }
 {
-    let cond = with_arithmetic(alloc, has_column_arithmetic(other), cond)?;
-    with_unread_test(alloc, cond_has_unread(other), cond)
+    let arithmetic = has_column_arithmetic(&other);
+    let unread = cond_has_unread(&other);
+    drop(other);
+    let cond = with_arithmetic(alloc, arithmetic, cond)?;
+    with_unread_test(alloc, unread, cond)
 }
 
 /// The condition, with arithmetic over columns where that is wanted and it has none.
@@ -57,7 +61,7 @@ pub(crate) fn with_arithmetic(alloc: Global, wanted: bool, cond: Cond) -> Result
         else cond_tree cond)) }
 {
     if wanted && !has_column_arithmetic(&cond) {
-        let test = column_arithmetic(alloc)?;
+        let (cond, test) = beside(cond, column_arithmetic(alloc))?;
         return and(alloc, cond, test);
     }
     Ok(cond)
@@ -101,17 +105,33 @@ fn some_column(alloc: Global) -> Result<Expr, Memory>
 fn plus(alloc: Global, left: Expr, right: Expr) -> Result<Expr, Memory>
     ensures { IfOk result (λ e. expr_tree e ≡ Operator arith.Plus (expr_tree left) (expr_tree right)) }
 {
+    let (left, right) = both_boxed(alloc, left, right)?;
     Ok(Expr::Arith {
         op: ArithOp::Plus,
-        left: Box::new(alloc, left)?,
-        right: Box::new(alloc, right)?,
+        left,
+        right,
     })
 }
 
-fn and(alloc: Global, left: Cond, right: Cond) -> Result<Cond, Memory>
+/// Both conditions.
+pub(crate) fn and(alloc: Global, left: Cond, right: Cond) -> Result<Cond, Memory>
     ensures { IfOk result (λ c. cond_tree c ≡ Both (cond_tree left) (cond_tree right)) }
 {
-    Ok(Cond::And(Box::new(alloc, left)?, Box::new(alloc, right)?))
+    let (left, right) = both_boxed(alloc, left, right)?;
+    Ok(Cond::And(left, right))
+}
+
+/// Two things, each in a box.
+pub(crate) fn both_boxed<T: Drop, U: Drop>(
+    alloc: Global,
+    left: T,
+    right: U,
+) -> Result<(Box<T>, Box<U>), Memory>
+    ensures { IfOk result (λ both. (both.0.value ≡ left) × (both.1.value ≡ right)) }
+{
+    let left = Box::new(alloc, left)?;
+    let right = Box::new(alloc, right)?;
+    Ok((left, right))
 }
 
 fn equal(left: Expr, right: Expr) -> Cond

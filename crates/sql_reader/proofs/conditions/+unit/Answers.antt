@@ -1,15 +1,16 @@
 -- Each turn of the two loops takes a step of its chain.
-use Rattle.std.proofs.Common.{◌≡◌, ◌≢◌, true, false, Some, None, ap, sym, ◌∙◌, arith, rules, ◌-◌}
+use Rattle.std.proofs.Common.{◌≡◌, ◌≢◌, true, false, Some, None, IfOk, subst, ap, sym, ◌∙◌, arith, rules, ◌-◌}
 use Rattle.std.proofs.lemmas.Grind.{common_steps}
 use Rattle.std.proofs.lemmas.Result.{err_from_is_err_and}
 use Rattle.sql_grammar.specs.Reads.{tokens_in}
 use Rattle.sql_tree.specs.Tree.{expr_tree, cond_tree}
+use Rattle.sql_tree.specs.Tree.CondTree.{Both, Either}
 use Rattle.sql_tree.specs.declared.token.Symbol.TheVariants as symbol
 use Rattle.sql_reader.specs.Parts.{is_symbol}
 use Rattle.sql_reader.proofs.InsideLaws.{cond_in_parentheses, cond_from_operand, from_none, from_test, from_closed, from_open, operand_none, operand_goes_on_from, as_operand, as_condition, found_inside}
 use Rattle.sql_reader.specs.Chain.{first_token}
 use Rattle.sql_reader.specs.CondReader as reader
-use Rattle.sql_reader.specs.Bounded.{bounded}
+use Rattle.sql_reader.specs.Bounded.{bounded, bounded_join}
 use Rattle.sql_reader.proofs.ChainLemmas.{chain_ends, turn_goes_on, turn_breaks, last_turn, same_err}
 use Rattle.sql_reader.proofs.conditions.+unit.Goals as goal
 
@@ -18,16 +19,16 @@ cond_behind-returns-in_default-clause-found t c =
     let none : reader.or_in (first_token (tokens_in c.conjs.tokens.rest.now)) ≡ None = first_of (search rules, cc, grind (arith, common_steps)) in
     c.conjs.invariant ∙ chain_ends reader.or_in (reader.either_of bounded) (reader.conjunction bounded (reader.unit bounded (reader.operand bounded c.args.aggregates) c.args.depth)) (c.len-turn-end.result - c.conjs.turn) (cond_tree c.conjs.left) (tokens_in c.conjs.tokens.rest.now) none
 
-pub cond_behind-returns-in_err-right-clause-none : goal.cond_behind-returns-in_err-right-clause-none
-cond_behind-returns-in_err-right-clause-none t c =
-    let p = err_from_is_err_and c.from_residual-in_err-right.result c.from_residual-in_err-right.ensures.1 in
+pub cond_behind-returns-in_err-so_far-clause-none : goal.cond_behind-returns-in_err-so_far-clause-none
+cond_behind-returns-in_err-so_far-clause-none t c =
+    let p = err_from_is_err_and c.from_residual-in_err-so_far.result c.from_residual-in_err-so_far.ensures.1 in
     rw (p.1, p.2) (λ h. c.conjs.invariant ∙ turn_breaks reader.or_in (reader.either_of bounded) (reader.conjunction bounded (reader.unit bounded (reader.operand bounded c.args.aggregates) c.args.depth)) c.len-turn-end.result c.conjs.turn (cond_tree c.conjs.left) (tokens_in c.conjs.tokens.rest.now) c.in-Some.field-0 c.conjs-test.true (sym (c.in-Some.ensures ∙ ap reader.or_in c.peek.ensures))
-    (ap (reader.conjunction bounded (reader.unit bounded (reader.operand bounded c.args.aggregates) c.args.depth)) (sym c.advance.ensures) ∙ c.in_err-right.ensures.none (same_err _ _ h)))
+    (ap (reader.conjunction bounded (reader.unit bounded (reader.operand bounded c.args.aggregates) c.args.depth)) (sym c.advance.ensures) ∙ c.conj.ensures.none (c.in_err-so_far.ensures.none ∙ same_err _ _ h)))
 
 pub cond_behind-conjs-preserved : goal.cond_behind-conjs-preserved
 cond_behind-conjs-preserved t c =
-    c.conjs.invariant ∙ turn_goes_on reader.or_in (reader.either_of bounded) (reader.conjunction bounded (reader.unit bounded (reader.operand bounded c.args.aggregates) c.args.depth)) c.len-turn-end.result c.conjs.turn (cond_tree c.conjs.left) (tokens_in c.conjs.tokens.rest.now) c.in-Some.field-0 (cond_tree c.in_ok-right.right) (tokens_in c.conj.new.tokens.rest.now) (cond_tree c.in_ok-left-2.left) c.conjs-test.true (sym (c.in-Some.ensures ∙ ap reader.or_in c.peek.ensures))
-    (ap (reader.conjunction bounded (reader.unit bounded (reader.operand bounded c.args.aggregates) c.args.depth)) (sym c.advance.ensures) ∙ c.in_ok-right.ensures.found) c.in_ok-left-2.ensures
+    c.conjs.invariant ∙ turn_goes_on reader.or_in (reader.either_of bounded) (reader.conjunction bounded (reader.unit bounded (reader.operand bounded c.args.aggregates) c.args.depth)) c.len-turn-end.result c.conjs.turn (cond_tree c.conjs.left) (tokens_in c.conjs.tokens.rest.now) c.in-Some.field-0 (cond_tree c.in_ok-so_far.right) (tokens_in c.conj.new.tokens.rest.now) (cond_tree c.in_ok-left-2.left) c.conjs-test.true (sym (c.in-Some.ensures ∙ ap reader.or_in c.peek.ensures))
+    (ap (reader.conjunction bounded (reader.unit bounded (reader.operand bounded c.args.aggregates) c.args.depth)) (sym c.advance.ensures) ∙ subst (λ r. IfOk r (λ read. reader.conjunction bounded (reader.unit bounded (reader.operand bounded c.args.aggregates) c.args.depth) (tokens_in c.advance.new.self.rest.now) ≡ Some (cond_tree read, tokens_in c.conj.new.tokens.rest.now))) c.in_ok-so_far.ensures.both.1 c.conj.ensures.found) (c.in_ok-left-2.ensures ∙ ap (λ l. bounded_join Either (cond_tree l) (cond_tree c.in_ok-so_far.right)) c.in_ok-so_far.ensures.both.0)
 
 pub cond_behind-returns-clause-found : goal.cond_behind-returns-clause-found
 cond_behind-returns-clause-found t c =
@@ -38,16 +39,16 @@ conj_behind-returns-in_default-clause-found t c =
     let none : reader.and_in (first_token (tokens_in c.units.tokens.rest.now)) ≡ None = first_of (search rules, cc, grind (arith, common_steps)) in
     c.units.invariant ∙ chain_ends reader.and_in (reader.both_of bounded) (reader.unit bounded (reader.operand bounded c.args.aggregates) c.args.depth) (c.len-turn-end.result - c.units.turn) (cond_tree c.units.left) (tokens_in c.units.tokens.rest.now) none
 
-pub conj_behind-returns-in_err-right-clause-none : goal.conj_behind-returns-in_err-right-clause-none
-conj_behind-returns-in_err-right-clause-none t c =
+pub conj_behind-returns-in_err-so_far-clause-none : goal.conj_behind-returns-in_err-so_far-clause-none
+conj_behind-returns-in_err-so_far-clause-none t c =
     let p = err_from_is_err_and c.from_residual.result c.from_residual.ensures.1 in
     rw (p.1, p.2) (λ h. c.units.invariant ∙ turn_breaks reader.and_in (reader.both_of bounded) (reader.unit bounded (reader.operand bounded c.args.aggregates) c.args.depth) c.len-turn-end.result c.units.turn (cond_tree c.units.left) (tokens_in c.units.tokens.rest.now) c.in-Some.field-0 c.units-test.true (sym (c.in-Some.ensures ∙ ap reader.and_in c.peek.ensures))
-    (ap (reader.unit bounded (reader.operand bounded c.args.aggregates) c.args.depth) (sym c.advance.ensures) ∙ c.in_err-right.ensures.none (same_err _ _ h)))
+    (ap (reader.unit bounded (reader.operand bounded c.args.aggregates) c.args.depth) (sym c.advance.ensures) ∙ c.unit.ensures.none (c.in_err-so_far.ensures.none ∙ same_err _ _ h)))
 
 pub conj_behind-units-preserved : goal.conj_behind-units-preserved
 conj_behind-units-preserved t c =
-    c.units.invariant ∙ turn_goes_on reader.and_in (reader.both_of bounded) (reader.unit bounded (reader.operand bounded c.args.aggregates) c.args.depth) c.len-turn-end.result c.units.turn (cond_tree c.units.left) (tokens_in c.units.tokens.rest.now) c.in-Some.field-0 (cond_tree c.in_ok-right.right) (tokens_in c.unit.new.tokens.rest.now) (cond_tree c.in_ok-left.left) c.units-test.true (sym (c.in-Some.ensures ∙ ap reader.and_in c.peek.ensures))
-    (ap (reader.unit bounded (reader.operand bounded c.args.aggregates) c.args.depth) (sym c.advance.ensures) ∙ c.in_ok-right.ensures.found) c.in_ok-left.ensures
+    c.units.invariant ∙ turn_goes_on reader.and_in (reader.both_of bounded) (reader.unit bounded (reader.operand bounded c.args.aggregates) c.args.depth) c.len-turn-end.result c.units.turn (cond_tree c.units.left) (tokens_in c.units.tokens.rest.now) c.in-Some.field-0 (cond_tree c.in_ok-so_far.right) (tokens_in c.unit.new.tokens.rest.now) (cond_tree c.in_ok-left.left) c.units-test.true (sym (c.in-Some.ensures ∙ ap reader.and_in c.peek.ensures))
+    (ap (reader.unit bounded (reader.operand bounded c.args.aggregates) c.args.depth) (sym c.advance.ensures) ∙ subst (λ r. IfOk r (λ read. reader.unit bounded (reader.operand bounded c.args.aggregates) c.args.depth (tokens_in c.advance.new.self.rest.now) ≡ Some (cond_tree read, tokens_in c.unit.new.tokens.rest.now))) c.in_ok-so_far.ensures.both.1 c.unit.ensures.found) (c.in_ok-left.ensures ∙ ap (λ l. bounded_join Both (cond_tree l) (cond_tree c.in_ok-so_far.right)) c.in_ok-so_far.ensures.both.0)
 
 pub conj_behind-returns-clause-found : goal.conj_behind-returns-clause-found
 conj_behind-returns-clause-found t c =

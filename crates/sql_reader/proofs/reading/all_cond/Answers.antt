@@ -4,21 +4,13 @@ use Rattle.sql_grammar.specs.Reads.{tokens_in}
 use Rattle.sql_tree.specs.Tree.{cond_tree}
 use Rattle.sql_reader.specs.CondReader as reader
 use Rattle.sql_reader.specs.Bounded.{bounded}
-use Rattle.sql_reader.proofs.ChainLemmas.{same_err, all_found, left_over, nothing_found}
+use Rattle.sql_reader.proofs.ChainLemmas.{same_err, left_over, nothing_found}
 use Rattle.sql_reader.proofs.reading.all_cond.Goals as goal
 
-pub returns-in_err-end-clause-none : goal.returns-in_err-end-clause-none
-returns-in_err-end-clause-none c =
-    let p = err_from_is_err_and c.from_residual-in_err-end.result c.from_residual-in_err-end.ensures.1 in
-    rw (p.1, p.2) (λ h. left_over _ (cond_tree c.in_ok-read.read) (tokens_in c.whole_cond.new.tokens.rest.now)
+pub returns-clause-none : goal.returns-clause-none
+returns-clause-none c h = left_over _ (cond_tree c.in_ok-read.read) (tokens_in c.whole_cond.new.tokens.rest.now)
     (ap (λ ts. reader.whole_cond bounded (reader.operand bounded c.args.aggregates) (tokens_in ts)) (sym c.new-rest.ensures) ∙ c.in_ok-read.ensures.found)
-    (c.in_err-end.ensures.none (same_err _ _ h)))
-
-pub returns-clause-found : goal.returns-clause-found
-returns-clause-found c =
-    all_found _ (cond_tree c.in_ok-read.read) (tokens_in c.whole_cond.new.tokens.rest.now)
-    (ap (λ ts. reader.whole_cond bounded (reader.operand bounded c.args.aggregates) (tokens_in ts)) (sym c.new-rest.ensures) ∙ c.in_ok-read.ensures.found)
-    c.in_ok-end.ensures.found
+    (c.ended.ensures.none h)
 
 pub returns-in_err-read-clause-none : goal.returns-in_err-read-clause-none
 returns-in_err-read-clause-none c =
