@@ -16,10 +16,16 @@ use std::marker::Model;
 /// A binary association table, which contracts see as its list of pairs (head, tail). It has fewer
 /// than 2^60 pairs and fewer than 2^62 stated bytes; one that would grow past its limit answers
 /// `Memory`.
-#[derive(Drop)]
 pub struct Bat {
     heads: Cells,
     tails: Cells,
+}
+
+// By a call of its own, so that proofs needn't go through its forms where one is let go.
+impl Drop for Bat {
+    fn drop(self) {
+        let Bat { heads: _, tails: _ } = self;
+    }
 }
 
 impl Model for Bat {

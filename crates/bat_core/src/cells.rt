@@ -19,12 +19,23 @@ use std::sync::Arc;
 
 /// The cells of a column, which contracts see as their list. A column that grows past its limit of
 /// 2^60 stated bytes answers `Memory`.
-#[derive(Drop)]
 pub struct Cells {
     pile: Pile,
     piled: Facts,
     last: Option<Arc<Chunk>>,
     facts: Facts,
+}
+
+// By a call of its own, so that proofs needn't go through its forms where one is let go.
+impl Drop for Cells {
+    fn drop(self) {
+        let Cells {
+            pile: _,
+            piled: _,
+            last: _,
+            facts: _,
+        } = self;
+    }
 }
 
 impl Model for Cells {

@@ -92,16 +92,15 @@ impl Firsts {
         ensures numbered { OnOk result (AreFirsts self.new count.new (with_first same_cell (oids_from 0 count.old) key)) }
         ensures few { OnOk result (count.new ≤ count.old + 1) }
     {
-        match key {
-            Cell::Oid(oid) if oid <= *count => {
-                if oid == *count {
-                    *count += 1;
-                }
-                Ok(oid)
+        match &key {
+            Cell::Oid(oid) if *oid < *count => Ok(*oid),
+            Cell::Oid(oid) if *oid == *count => {
+                *count += 1;
+                Ok(*oid)
             }
-            other => {
+            _ => {
                 let mut numbers = numbered_oids(alloc, *count)?;
-                let number = number_of(&mut numbers, count, other)?;
+                let number = number_of(&mut numbers, count, key)?;
                 *self = Firsts::Cells(numbers);
                 Ok(number)
             }

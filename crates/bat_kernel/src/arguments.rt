@@ -15,7 +15,7 @@ pub(crate) fn one_bat(args: &[Obj]) -> &Bat
 {
     match args {
         [Obj::Bat(b)] => b.bat(),
-        [] | [Obj::One(_)] | [_, _, ..] => unreachable!(),
+        [] | [Obj::One(..)] | [_, _, ..] => unreachable!(),
     }
 }
 

@@ -19,13 +19,25 @@ use std::marker::Model;
 use table_store::Store;
 
 /// What the sessions of a run share, and the log of what they did.
-#[derive(Drop)]
 pub struct Book {
     pub(crate) store: Store,
     pub(crate) pool: Pool,
     pub(crate) log: Vec<Event>,
     pub(crate) totals: Totals,
     pub(crate) begun: [bool; 17],
+}
+
+// By a call of its own, so that proofs needn't go through its forms where one is let go.
+impl Drop for Book {
+    fn drop(self) {
+        let Book {
+            store: _,
+            pool: _,
+            log: _,
+            totals: _,
+            begun: _,
+        } = self;
+    }
 }
 
 impl Model for Book {
@@ -146,6 +158,13 @@ impl Book {
         ensures log { result.0.items ≡ self.log }
         ensures totals { result.1 ≡ (state_of self).totals }
     {
-        (self.log, self.totals)
+        let Book {
+            store: _,
+            pool: _,
+            log,
+            totals,
+            begun: _,
+        } = self;
+        (log, totals)
     }
 }

@@ -38,12 +38,33 @@ fn int_cell(number: i128) -> Option<Cell>
     }
 }
 
+/// The sum of two numbers of 64 bits; None is an overflow.
+fn int_sum(x: i64, y: i64) -> Option<Cell>
+    ensures { result ≡ as_int (x +ℤ y) }
+{
+    Some(Cell::Int(x.checked_add(y)?))
+}
+
+/// The difference of two numbers of 64 bits; None is an overflow.
+fn int_difference(x: i64, y: i64) -> Option<Cell>
+    ensures { result ≡ as_int (x -ℤ y) }
+{
+    Some(Cell::Int(x.checked_sub(y)?))
+}
+
+/// The product of two numbers of 64 bits; None is an overflow.
+fn int_product(x: i64, y: i64) -> Option<Cell>
+    ensures { result ≡ as_int (x *ℤ y) }
+{
+    Some(Cell::Int(x.checked_mul(y)?))
+}
+
 /// The sum of two numbers, or Nil where one is Nil. None is an overflow of 64 bits.
 pub fn sum(x: &Cell, y: &Cell) -> Option<Cell>
     ensures value { result ≡ arithmetic (λ x y. x +ℤ y) x.now y.now }
 {
     if let (Cell::Int(x), Cell::Int(y)) = (x, y) {
-        return int_cell(i128::from(*x) + i128::from(*y));
+        return int_sum(*x, *y);
     }
     if one_is_nil(x, y) {
         return Some(Cell::Nil);
@@ -56,7 +77,7 @@ pub fn difference(x: &Cell, y: &Cell) -> Option<Cell>
     ensures value { result ≡ arithmetic (λ x y. x -ℤ y) x.now y.now }
 {
     if let (Cell::Int(x), Cell::Int(y)) = (x, y) {
-        return int_cell(i128::from(*x).checked_sub(i128::from(*y))?);
+        return int_difference(*x, *y);
     }
     if one_is_nil(x, y) {
         return Some(Cell::Nil);
@@ -69,7 +90,7 @@ pub fn product(x: &Cell, y: &Cell) -> Option<Cell>
     ensures value { result ≡ arithmetic (λ x y. x *ℤ y) x.now y.now }
 {
     if let (Cell::Int(x), Cell::Int(y)) = (x, y) {
-        return int_cell(i128::from(*x) * i128::from(*y));
+        return int_product(*x, *y);
     }
     if one_is_nil(x, y) {
         return Some(Cell::Nil);

@@ -1,9 +1,9 @@
 -- A day is read as it was printed.
-use Rattle.std.proofs.Common.{◌≡◌, inl, inr, ℕ, zero, suc, ◌+◌, ◌-◌, ◌<◌, ◌≤◌, true, false, List, refl, sym, ap, ◌∙◌, subst, arith, rules, ℤ, pos, negsuc, ◌+ℤ◌, ◌-ℤ◌, ◌≤ℤ◌, unsigned_abs, ◌*ℤ◌, int_div, FitsSigned, w64, to_z, of_z, to_z-of_z}
-use Rattle.std.proofs.lemmas.Int.{by_lt_z}
+use Rattle.std.proofs.Common.{◌≡◌, inl, inr, ℕ, zero, suc, ◌+◌, ◌-◌, ◌<◌, ◌≤◌, true, false, List, refl, sym, ap, ◌∙◌, subst, arith, rules, ℤ, pos, negsuc, ◌+ℤ◌, ◌-ℤ◌, ◌≤ℤ◌, unsigned_abs, ◌*ℤ◌, int_div, FitsSigned, w8, w16, w64, to_z, of_z, to_z-of_z}
+use Rattle.std.proofs.lemmas.Int.{by_lt_z, to_z_pos}
 use Rattle.std.proofs.lemmas.Bool.{cases_lt, lt-ltb, le-ltb}
 use Rattle.jiff_core.specs.declared.civil.date.Date.{Date}
-use Rattle.jiff_core.specs.Calendar.{days_in_year, days_in_month, day_count, days_from_civil, IsCivilDate, IsEpochDay}
+use Rattle.jiff_core.specs.Calendar.{days_in_year, days_in_month, day_count, days_from_civil, IsCivilDate, IsDate, IsEpochDay}
 use Rattle.jiff_core.specs.Date.{epoch_day, IsYmd}
 use Rattle.jiff_core.proofs.SignedLemmas.{signed_arith}
 use Rattle.jiff_core.proofs.CalendarLemmas.{day_count-end, day_count-next_year, day_count-later_year, day_count-next_month, day_count-day, day_count-day_of_year, days_of_months_all, days_in_month_bounds, day_count_bounds, day_count-lt_year, days_from_civil-day_count}
@@ -44,6 +44,35 @@ epoch_is_zero date h =
     let month : date.month ≡ 1 = cc in
     let day : date.day ≡ 1 = cc in
     rw (h.0, month, day) days_from_civil-epoch
+
+-- a date of numbers that aren't negative, as jiff takes it
+signed_date : (year month day : ℕ) → IsCivilDate (pos year) month day → IsDate (pos year) (pos month) (pos day)
+signed_date year month day is =
+    let in_year : IsInRange 1 12 month = is.1 in
+    let in_month : IsInRange 1 (days_in_month (pos year) month) day = is.2 in
+    (is.0, (omega (arith, signed_arith), omega (arith, signed_arith)), (omega (arith, signed_arith), omega (arith, signed_arith)))
+
+-- what jiff refuses is no date
+pub refused_date : (year month day : ℕ) → year < 10000 → month < 100 → day < 100 → (IsDate (to_z w16 year) (to_z w8 month) (to_z w8 day) → false ≡ true) → IsCivilDate (pos year) month day → ⊥
+refused_date year month day years months days none is =
+    let never = rw (to_z_pos w16 year (omega (arith, years)), to_z_pos w8 month (omega (arith, months)), to_z_pos w8 day (omega (arith, days))) at none in
+    let both : false ≡ true = never (signed_date year month day is) in
+    cc
+
+-- what it takes is one, and has that day's number
+pub taken_date : (date : Date) (year month day : ℕ) → year < 10000 → month < 100 → day < 100 → IsYmd (to_z w16 year) (to_z w8 month) (to_z w8 day) date
+    → IsCivilDate (pos year) month day × (epoch_day date ≡ days_from_civil (pos year) month day)
+taken_date date year month day years months days is =
+    let same = rw (to_z_pos w16 year (omega (arith, years)), to_z_pos w8 month (omega (arith, months)), to_z_pos w8 day (omega (arith, days))) at is in
+    let in_year : date.year ≡ pos year = same.0 in
+    let in_month : date.month ≡ month = cc in
+    let in_day : date.day ≡ day = cc in
+    let civil : IsCivilDate date.year date.month date.day = (date.year_in, date.month_in, date.day_in) in
+    let civil_year : IsCivilDate (pos year) date.month date.day = subst (λ y. IsCivilDate y date.month date.day) in_year civil in
+    let civil_month : IsCivilDate (pos year) month date.day = subst (λ m. IsCivilDate (pos year) m date.day) in_month civil_year in (
+      subst (λ d. IsCivilDate (pos year) month d) in_day civil_month,
+      ap (λ y. days_from_civil y date.month date.day) in_year ∙ ap (λ m. days_from_civil (pos year) m date.day) in_month ∙ ap (days_from_civil (pos year) month) in_day,
+    )
 
 -- so many whole days have so many times 24 hours
 pub hours_of_days : (n : ℤ) → int_div (n *ℤ pos 86_400_000_000_000) (pos 3_600_000_000_000) ≡ n *ℤ pos 24

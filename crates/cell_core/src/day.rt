@@ -106,14 +106,25 @@ fn date_of(day: i32) -> Date
     }
 }
 
+/// A date of a year that isn't negative as `YYYY-MM-DD`.
 fn date_bytes(date: Date) -> [u8; 10]
     requires { pos 0 ≤ℤ date.year }
     ensures { result ≡ date_text (unsigned_abs date.year) date.month date.day }
 {
-    let century = digits((date.year() / 100) as u8);
-    let year = digits((date.year() % 100) as u8);
-    let month = digits(date.month() as u8);
-    let day = digits(date.day() as u8);
+    written(date.year() as u16, date.month() as u8, date.day() as u8)
+}
+
+/// A year, a month and a day as `YYYY-MM-DD`.
+fn written(year: u16, month: u8, day: u8) -> [u8; 10]
+    requires year { year < 10000 }
+    requires month { month < 100 }
+    requires day { day < 100 }
+    ensures { result ≡ date_text year month day }
+{
+    let century = digits((year / 100) as u8);
+    let year = digits((year % 100) as u8);
+    let month = digits(month);
+    let day = digits(day);
     [
         century[0], century[1], year[0], year[1], b'-', month[0], month[1], b'-', day[0], day[1],
     ]

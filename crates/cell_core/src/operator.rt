@@ -90,7 +90,7 @@ pub fn class_of(op: Op) -> u32
 }
 
 /// An argument of an instruction.
-#[derive(Debug, Drop)]
+#[derive(Debug)]
 pub enum Arg {
     /// A constant.
     Const(Cell),
@@ -98,13 +98,29 @@ pub enum Arg {
     Var(u32),
 }
 
+// By a call of its own, so that proofs needn't go through its forms where one is let go.
+impl Drop for Arg {
+    fn drop(self) {
+        match self {
+            Arg::Const(_) | Arg::Var(_) => {}
+        }
+    }
+}
+
 /// An instruction of a plan.
-#[derive(Debug, Drop)]
+#[derive(Debug)]
 pub struct Instr {
     /// The operator.
     pub op: Op,
     /// Its arguments, in order.
     pub args: Sequence<Arg>,
+}
+
+// By a call of its own, so that proofs needn't go through its forms where one is let go.
+impl Drop for Instr {
+    fn drop(self) {
+        let Instr { op: _, args: _ } = self;
+    }
 }
 
 impl Arg {
@@ -192,10 +208,19 @@ pub fn copy_args(alloc: Global, args: &[Arg]) -> Result<Sequence<Arg>, Memory>
 }
 
 /// What an instruction computes, held plainly.
-#[derive(Debug, Drop)]
+#[derive(Debug)]
 pub enum Value {
     /// A binary association table: pairs of a head and a tail.
     Bat(Sequence<(Cell, Cell)>),
     /// A scalar.
     One(Cell),
+}
+
+// By a call of its own, so that proofs needn't go through its forms where one is let go.
+impl Drop for Value {
+    fn drop(self) {
+        match self {
+            Value::Bat(_) | Value::One(_) => {}
+        }
+    }
 }

@@ -1,4 +1,4 @@
-ghost use Rattle.std.specs.Prelude.{◌≡◌, OnOk, OnErr};
+ghost use Rattle.std.specs.Prelude.{◌≡◌, slice_index_or, OnOk, OnErr};
 ghost use Rattle.std.specs.Ordering.{is_lt};
 ghost use Rattle.cell_core.specs.Order.{cells_cmp, is_row_below};
 ghost use Rattle.cell_core.specs.Keys.{key_cmp, keyed_cmp, is_keyed_below};
@@ -58,14 +58,24 @@ pub fn compare_rows_by(keys: &[(u32, bool)], a: &[Cell], b: &[Cell]) -> Ordering
     compare_rows(a, b)
 }
 
+/// The cell of a row at a place, or else this one.
+fn cell_in<'c>(row: &'c [Cell], place: u32, other: &'c Cell) -> &'c Cell
+    ensures { result.now ≡ slice_index_or row.entry.now place other.entry.now }
+{
+    match row.get(place as usize) {
+        Some(cell) => cell,
+        None => other,
+    }
+}
+
 /// Rows compare by the cell at one place.
 fn compare_at(key: (u32, bool), a: &[Cell], b: &[Cell]) -> Ordering
     ensures { result ≡ key_cmp key a.now b.now }
 {
     let (place, is_ascending) = key;
     let nil = Cell::Nil;
-    let left = a.get(place as usize).unwrap_or(&nil);
-    let right = b.get(place as usize).unwrap_or(&nil);
+    let left = cell_in(a, place, &nil);
+    let right = cell_in(b, place, &nil);
     if is_ascending {
         compare(left, right)
     } else {

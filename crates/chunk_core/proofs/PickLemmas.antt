@@ -1,7 +1,7 @@
 -- The cells at places.
 use Rattle.std.proofs.Common.{take, drop, append_assoc, ◌≡◌, ℕ, suc, zero, ◌+◌, ◌<◌, List, [], ◌∷◌, ◌++◌, length, get_or, map, refl, sym, ap, ◌∙◌, arith}
 use Rattle.std.specs.Prelude.{slice_index_or}
-use Rattle.std.proofs.lemmas.List.{map-append}
+use Rattle.std.proofs.lemmas.List.{map-append, map_more}
 use Rattle.std.proofs.Math.Seq.{take-add}
 use Rattle.cell_core.specs.declared.cell.Cell.{Cell}
 use Rattle.cell_core.specs.declared.cell.Cell.TheVariants.{Nil, Oid}
@@ -27,6 +27,16 @@ pub more_picked : {X : Type 0} (d : X) (from before : List X) (places : List ℕ
 more_picked d from before places i k =
     append_assoc before (picked d from (take i places)) (picked d from (take k (drop i places)))
     ∙ ap (λ l. before ++ l) (sym (map-append (λ j. slice_index_or from j d) (take i places) (take k (drop i places))) ∙ ap (picked d from) (sym (take-add i k places)))
+
+-- that at one place more
+pub map_picked : {X Y : Type 0} (f : X → Y) (g : ℕ → Y) (old : List Y) (new before : List X) (x : X) (places : List ℕ) (i : ℕ) → i < length places → map f new ≡ map f before ++ f x ∷ []
+    → map f before ≡ old ++ map g (take i places) → f x ≡ g (get_or places i 0) → map f new ≡ old ++ map g (take (i + 1) places)
+map_picked f g old new before x places i within pushed so_far is =
+    pushed
+    ∙ ap (λ l. l ++ f x ∷ []) so_far
+    ∙ append_assoc old (map g (take i places)) (f x ∷ [])
+    ∙ ap (λ y. old ++ (map g (take i places) ++ y ∷ [])) is
+    ∙ ap (λ l. old ++ l) (sym (map_more g places i 0 within))
 
 -- a read within takes any default
 pub get_default : {X : Type 0} (xs : List X) (i : ℕ) (d e : X) → i < length xs → get_or xs i d ≡ get_or xs i e

@@ -12,7 +12,6 @@ use cell_core::{Cell, Memory};
 use std::alloc::Global;
 
 /// Cells of one kind as their numbers, oids that rise by one each, or any cells.
-#[derive(Drop)]
 pub enum Chunk {
     /// The cells of kind Int with these numbers.
     Ints(Vec<i64>),
@@ -26,6 +25,20 @@ pub enum Chunk {
     Bits(Vec<bool>),
     /// Cells as they are.
     Cells(Vec<Cell>),
+}
+
+// By a call of its own, so that proofs needn't go through its forms where one is let go.
+impl Drop for Chunk {
+    fn drop(self) {
+        match self {
+            Chunk::Ints(_)
+            | Chunk::Days(_)
+            | Chunk::Oids(_)
+            | Chunk::Rising(_)
+            | Chunk::Bits(_)
+            | Chunk::Cells(_) => {}
+        }
+    }
 }
 
 impl Chunk {
@@ -77,22 +90,10 @@ impl Chunk {
         ensures err { OnErr result (chunk_cells self.new ≡ chunk_cells self.old) }
     {
         match (&mut *self, &cell) {
-            (Chunk::Ints(numbers), Cell::Int(number)) => {
-                numbers.push(*number)?;
-                Ok(())
-            }
-            (Chunk::Days(numbers), Cell::Day(number)) => {
-                numbers.push(*number)?;
-                Ok(())
-            }
-            (Chunk::Oids(numbers), Cell::Oid(oid)) => {
-                numbers.push(*oid)?;
-                Ok(())
-            }
-            (Chunk::Bits(bits), Cell::Bit(bit)) => {
-                bits.push(*bit)?;
-                Ok(())
-            }
+            (Chunk::Ints(numbers), Cell::Int(number)) => push_kept(numbers, *number),
+            (Chunk::Days(numbers), Cell::Day(number)) => push_kept(numbers, *number),
+            (Chunk::Oids(numbers), Cell::Oid(oid)) => push_kept(numbers, *oid),
+            (Chunk::Bits(bits), Cell::Bit(bit)) => push_kept(bits, *bit),
             _ => push_other(self, alloc, cell),
         }
     }
@@ -107,7 +108,7 @@ impl Chunk {
         requires { AreWithin places.now (length (part_cells part)) }
         ensures { OnOk result (chunk_cells self.new ≡ chunk_cells self.old ++ picked Nil (part_cells part.entry) places.now) }
     {
-        make_ready(self, alloc, part, places.len())?;
+        make_ready(self, alloc, part);
         match (&mut *self, part) {
             (Chunk::Ints(numbers), Part::Ints(from)) => pick_kept(numbers, from, places),
             (Chunk::Days(numbers), Part::Days(from)) => pick_kept(numbers, from, places),
@@ -118,26 +119,47 @@ impl Chunk {
     }
 
     /// No cells, in a form that takes those of a part.
-    fn ready_for(alloc: Global, part: Part<'_>, count: usize) -> Result<Chunk, Memory>
-        ensures { IfOk result (λ chunk. chunk_cells chunk ≡ []) }
+    fn ready_for(alloc: Global, part: Part<'_>) -> Chunk
+        ensures { chunk_cells result ≡ [] }
     {
         match part {
-            Part::Ints(_) => Ok(Chunk::Ints(Vec::with_capacity(alloc, count)?)),
-            Part::Days(_) => Ok(Chunk::Days(Vec::with_capacity(alloc, count)?)),
-            Part::Oids(_) | Part::Rising(_) => Ok(Chunk::Oids(Vec::with_capacity(alloc, count)?)),
-            Part::Bits(_) => Ok(Chunk::Bits(Vec::with_capacity(alloc, count)?)),
-            Part::Cells(_) => Ok(Chunk::Cells(Vec::with_capacity(alloc, count)?)),
+            Part::Ints(_) => Chunk::Ints(Vec::new(alloc)),
+            Part::Days(_) => Chunk::Days(Vec::new(alloc)),
+            Part::Oids(_) | Part::Rising(_) => Chunk::Oids(Vec::new(alloc)),
+            Part::Bits(_) => Chunk::Bits(Vec::new(alloc)),
+            Part::Cells(_) => Chunk::Cells(Vec::new(alloc)),
         }
     }
 }
 
 /// A chunk without cells gets the form of a part.
-fn make_ready(chunk: &mut Chunk, alloc: Global, part: Part<'_>, count: usize) -> Result<(), Memory>
+fn make_ready(chunk: &mut Chunk, alloc: Global, part: Part<'_>)
     ensures { chunk_cells chunk.new ≡ chunk_cells chunk.old }
 {
     if chunk.len() == 0 {
-        *chunk = Chunk::ready_for(alloc, part, count)?;
+        *chunk = Chunk::ready_for(alloc, part);
     }
+}
+
+/// Makes room for more of the cells that are added one by one.
+fn make_room(chunk: &mut Chunk, more: usize) -> Result<(), Memory>
+    ensures { chunk_cells chunk.new ≡ chunk_cells chunk.old }
+{
+    match chunk {
+        Chunk::Bits(bits) => bits.reserve(more)?,
+        Chunk::Cells(cells) => cells.reserve(more)?,
+        _ => {}
+    }
+    Ok(())
+}
+
+/// Adds one at the end.
+#[inline(always)]
+fn push_kept<K: Kept>(kept: &mut Vec<K>, one: K) -> Result<(), Memory>
+    ensures ok { OnOk result (map K.cell_of kept.new.items ≡ map K.cell_of kept.old.items ++ K.cell_of one ∷ []) }
+    ensures err { OnErr result (map K.cell_of kept.new.items ≡ map K.cell_of kept.old.items) }
+{
+    kept.push(one)?;
     Ok(())
 }
 
@@ -148,7 +170,7 @@ fn pick_kept<K: Kept>(numbers: &mut Vec<K>, from: &[K], places: &[u32]) -> Resul
 {
     numbers.reserve(places.len())?;
     for place in places {
-        numbers.push(kept_at(from, *place as usize))?;
+        push_kept(numbers, kept_at(from, *place as usize))?;
     }
     Ok(())
 }
@@ -160,7 +182,7 @@ fn pick_rising(numbers: &mut Vec<u64>, from: Count, places: &[u32]) -> Result<()
 {
     numbers.reserve(places.len())?;
     for place in places {
-        numbers.push(from.first + u64::from(*place))?;
+        push_kept(numbers, from.first + u64::from(*place))?;
     }
     Ok(())
 }
@@ -175,8 +197,9 @@ fn pick_cells(
     requires { AreWithin places.now (length (part_cells part)) }
     ensures { OnOk result (chunk_cells chunk.new ≡ chunk_cells chunk.old ++ picked Nil (part_cells part.entry) places.now) }
 {
+    make_room(chunk, places.len())?;
     for place in places {
-        chunk.push(alloc, part.get(*place as usize).cell().share()?)?;
+        chunk.push(alloc, part.copy(*place as usize)?)?;
     }
     Ok(())
 }
@@ -205,33 +228,36 @@ fn push_other(chunk: &mut Chunk, alloc: Global, cell: Cell) -> Result<(), Memory
 fn chunk_of(alloc: Global, cell: Cell) -> Result<Chunk, Memory>
     ensures { IfOk result (λ chunk. chunk_cells chunk ≡ cell ∷ []) }
 {
-    match cell {
-        Cell::Int(number) => {
-            let mut numbers = Vec::new(alloc);
-            numbers.push(number)?;
-            Ok(Chunk::Ints(numbers))
-        }
-        Cell::Day(number) => {
-            let mut numbers = Vec::new(alloc);
-            numbers.push(number)?;
-            Ok(Chunk::Days(numbers))
-        }
-        Cell::Oid(oid) => {
-            let mut oids = Vec::new(alloc);
-            oids.push(oid)?;
-            Ok(Chunk::Oids(oids))
-        }
-        Cell::Bit(bit) => {
-            let mut bits = Vec::new(alloc);
-            bits.push(bit)?;
-            Ok(Chunk::Bits(bits))
-        }
-        cell => {
-            let mut cells = Vec::new(alloc);
-            cells.push(cell)?;
-            Ok(Chunk::Cells(cells))
-        }
+    match &cell {
+        Cell::Int(number) => chunk_of_kept(alloc, *number),
+        Cell::Day(number) => chunk_of_kept(alloc, *number),
+        Cell::Oid(oid) => chunk_of_kept(alloc, *oid),
+        Cell::Bit(bit) => chunk_of_kept(alloc, *bit),
+        _ => chunk_of_cell(alloc, cell),
     }
+}
+
+/// A chunk of one cell of a kind that is kept as numbers or bits.
+fn chunk_of_kept<K: Kept>(alloc: Global, one: K) -> Result<Chunk, Memory>
+    ensures { IfOk result (λ chunk. chunk_cells chunk ≡ K.cell_of one ∷ []) }
+{
+    Ok(K::chunk(alone(alloc, one)?))
+}
+
+/// A chunk of one cell as it is.
+fn chunk_of_cell(alloc: Global, cell: Cell) -> Result<Chunk, Memory>
+    ensures { IfOk result (λ chunk. chunk_cells chunk ≡ cell ∷ []) }
+{
+    Ok(Chunk::Cells(alone(alloc, cell)?))
+}
+
+/// One item by itself.
+fn alone<T: Drop>(alloc: Global, item: T) -> Result<Vec<T>, Memory>
+    ensures { IfOk result (λ all. all.items ≡ item ∷ []) }
+{
+    let mut all = Vec::new(alloc);
+    all.push(item)?;
+    Ok(all)
 }
 
 /// The cells of a part, each by itself.
@@ -241,7 +267,7 @@ pub fn copied(alloc: Global, part: Part<'_>) -> Result<Vec<Cell>, Memory>
     let count = part.len();
     let mut cells = Vec::with_capacity(alloc, count)?;
     for at in 0..count {
-        cells.push(part.get(at).cell().share()?)?;
+        cells.push(part.copy(at)?)?;
     }
     Ok(cells)
 }

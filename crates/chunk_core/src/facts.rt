@@ -1,11 +1,11 @@
 //! What is kept of the cells of a column, so that no pass over them is needed.
-ghost use Rattle.std.specs.Prelude.{◌≡◌, ◌+◌, ◌*◌, ◌∷◌, ◌++◌, ◌^◌, ◌<◌, List, [], IfSome, length, map};
+ghost use Rattle.std.specs.Prelude.{◌≡◌, ◌+◌, ◌*◌, ◌∷◌, ◌++◌, ◌^◌, ◌<◌, ◌&&◌, List, [], IfSome, length, map};
 ghost use Rattle.std.specs.Option.{option_copied};
 ghost use Rattle.cell_core.specs.Order.{cell_bytes};
 ghost use Rattle.cell_core.specs.declared.cell.Cell.{Cell};
 ghost use Rattle.chunk_core.specs.Filled.{oids_from};
 ghost use Rattle.chunk_core.specs.Parts.{part_cells};
-ghost use Rattle.chunk_core.specs.Facts.{AreToldOf, is_dense, is_below, is_next_oid, neighbours_from, last_cell, rises_with_all, dense_with_all, cells_bytes};
+ghost use Rattle.chunk_core.specs.Facts.{AreToldOf, is_dense, is_below, is_next_oid, neighbours_from, last_cell, rises_with, rises_with_all, dense_with, dense_with_all, cells_bytes};
 
 use crate::count::Count;
 use crate::kept::Kept;
@@ -125,13 +125,37 @@ fn dense_after(so_far: bool, last: Option<&Cell>, more: Part<'_>) -> bool
 fn kept_rise<K: Kept>(so_far: bool, last: Option<&Cell>, kept: &[K]) -> bool
     ensures { result ≡ rises_with_all so_far (option_copied last.entry) (map K.cell_of kept.now) }
 {
-    match (last, kept) {
-        (None, []) => true,
-        (None, [first, rest @ ..]) => kept_rise_from(*first, rest),
-        (Some(_), []) => so_far,
-        (Some(last), [first, rest @ ..]) => {
-            so_far && stands_before(last, &first.cell()) && kept_rise_from(*first, rest)
-        }
+    match kept {
+        [] => none_follows(so_far, last),
+        [first, rest @ ..] => rises_from(so_far, last, *first, rest),
+    }
+}
+
+/// What held of cells still holds where none follows; of no cells it holds.
+fn none_follows(so_far: bool, last: Option<&Cell>) -> bool
+    ensures rises { result ≡ rises_with_all so_far (option_copied last.entry) [] }
+    ensures dense { result ≡ dense_with_all so_far (option_copied last.entry) [] }
+{
+    match last {
+        None => true,
+        Some(_) => so_far,
+    }
+}
+
+/// Whether cells rise once one and then others of its kind follow the last.
+fn rises_from<K: Kept>(so_far: bool, last: Option<&Cell>, first: K, others: &[K]) -> bool
+    ensures { result ≡ (rises_with so_far (option_copied last.entry) (K.cell_of first) && neighbours_from is_below (K.cell_of first) (map K.cell_of others.now)) }
+{
+    rises_on(so_far, last, &first.cell()) && kept_rise_from(first, others)
+}
+
+/// Whether cells rise once one more follows the last.
+fn rises_on(so_far: bool, last: Option<&Cell>, cell: &Cell) -> bool
+    ensures { result ≡ rises_with so_far (option_copied last.entry) cell.now }
+{
+    match last {
+        None => true,
+        Some(last) => so_far && stands_before(last, cell),
     }
 }
 
@@ -155,13 +179,26 @@ fn kept_rise_from<K: Kept>(first: K, others: &[K]) -> bool
 fn kept_dense<K: Kept>(so_far: bool, last: Option<&Cell>, kept: &[K]) -> bool
     ensures { result ≡ dense_with_all so_far (option_copied last.entry) (map K.cell_of kept.now) }
 {
-    match (last, kept) {
-        (None, []) => true,
-        (None, [first, rest @ ..]) => first.counts() && kept_count_from(*first, rest),
-        (Some(_), []) => so_far,
-        (Some(last), [first, rest @ ..]) => {
-            so_far && is_next(last, &first.cell()) && kept_count_from(*first, rest)
-        }
+    match kept {
+        [] => none_follows(so_far, last),
+        [first, rest @ ..] => counts_from(so_far, last, *first, rest),
+    }
+}
+
+/// Whether cells are dense once one and then others of its kind follow the last.
+fn counts_from<K: Kept>(so_far: bool, last: Option<&Cell>, first: K, others: &[K]) -> bool
+    ensures { result ≡ (dense_with so_far (option_copied last.entry) (K.cell_of first) && neighbours_from is_next_oid (K.cell_of first) (map K.cell_of others.now)) }
+{
+    counts_on(so_far, last, &first.cell()) && kept_count_from(first, others)
+}
+
+/// Whether cells are dense once one more follows the last.
+fn counts_on(so_far: bool, last: Option<&Cell>, cell: &Cell) -> bool
+    ensures { result ≡ dense_with so_far (option_copied last.entry) cell.now }
+{
+    match last {
+        None => matches!(cell, Cell::Oid(_)),
+        Some(last) => so_far && is_next(last, cell),
     }
 }
 

@@ -2,8 +2,10 @@
 ghost use Rattle.std.specs.Prelude.{◌≡◌, ◌<◌, length, map, slice_index_or};
 ghost use Rattle.cell_core.specs.declared.cell.Cell.{Cell as CellSeen};
 ghost use Rattle.cell_core.specs.declared.cell.Cell.TheVariants.{Int, Oid, Bit, Day, Nil};
-ghost use Rattle.chunk_core.specs.Facts.{is_below, is_oid, is_next_oid};
+ghost use Rattle.chunk_core.specs.Facts.{is_below, is_next_oid};
+ghost use Rattle.chunk_core.specs.Chunks.{chunk_cells};
 
+use crate::chunk::Chunk;
 use cell_core::Cell;
 
 /// What cells of one kind are kept as.
@@ -15,13 +17,13 @@ pub(crate) trait Kept: Copy {
     fn cell(self) -> Cell
         ensures { result ≡ cell_of self };
 
+    /// The chunk of cells that are kept so.
+    fn chunk(kept: Vec<Self>) -> Chunk
+        ensures { chunk_cells result ≡ map cell_of kept.items };
+
     /// Whether its cell stands before that of another.
     fn is_before(self, other: Self) -> bool
         ensures { result ≡ is_below (cell_of self) (cell_of other) };
-
-    /// Whether its cell is an oid.
-    fn counts(self) -> bool
-        ensures { result ≡ is_oid (cell_of self) };
 
     /// Whether both cells are oids, that of the other one more.
     fn is_followed_by(self, other: Self) -> bool
@@ -37,13 +39,15 @@ impl Kept for i64 {
     }
 
     #[inline]
-    fn is_before(self, other: i64) -> bool {
-        self < other
+    fn chunk(kept: Vec<i64>) -> Chunk
+        ensures { chunk_cells result ≡ map Int kept.items }
+    {
+        Chunk::Ints(kept)
     }
 
     #[inline]
-    fn counts(self) -> bool {
-        false
+    fn is_before(self, other: i64) -> bool {
+        self < other
     }
 
     #[inline]
@@ -61,13 +65,15 @@ impl Kept for u64 {
     }
 
     #[inline]
-    fn is_before(self, other: u64) -> bool {
-        self < other
+    fn chunk(kept: Vec<u64>) -> Chunk
+        ensures { chunk_cells result ≡ map Oid kept.items }
+    {
+        Chunk::Oids(kept)
     }
 
     #[inline]
-    fn counts(self) -> bool {
-        true
+    fn is_before(self, other: u64) -> bool {
+        self < other
     }
 
     #[inline]
@@ -85,13 +91,15 @@ impl Kept for bool {
     }
 
     #[inline]
-    fn is_before(self, other: bool) -> bool {
-        !self && other
+    fn chunk(kept: Vec<bool>) -> Chunk
+        ensures { chunk_cells result ≡ map Bit kept.items }
+    {
+        Chunk::Bits(kept)
     }
 
     #[inline]
-    fn counts(self) -> bool {
-        false
+    fn is_before(self, other: bool) -> bool {
+        !self && other
     }
 
     #[inline]
@@ -109,13 +117,15 @@ impl Kept for i32 {
     }
 
     #[inline]
-    fn is_before(self, other: i32) -> bool {
-        self < other
+    fn chunk(kept: Vec<i32>) -> Chunk
+        ensures { chunk_cells result ≡ map Day kept.items }
+    {
+        Chunk::Days(kept)
     }
 
     #[inline]
-    fn counts(self) -> bool {
-        false
+    fn is_before(self, other: i32) -> bool {
+        self < other
     }
 
     #[inline]

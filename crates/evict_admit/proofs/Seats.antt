@@ -1,8 +1,11 @@
 -- What is kept of the rows once one of them stands otherwise.
-use Rattle.std.proofs.Common.{◌≡◌, ◌≢◌, ℕ, ◌+◌, ◌<◌, List, Bool, Option, inl, inr, length, ap, sym, ◌∙◌, length-set, get_or-set_same, get_or-set_other, arith, slice_set}
+use Rattle.std.proofs.Common.{◌≡◌, ◌≢◌, ℕ, ◌+◌, ◌<◌, List, [], ◌∷◌, Bool, true, false, Option, inl, inr, length, refl, ap, sym, ◌∙◌, length-set, get_or, get_or-set_same, get_or-set_other, arith, slice_set}
+use Rattle.std.specs.Prelude.{◌==◌, ◌||◌}
+use Rattle.std.specs.List.{list_any}
+use Rattle.std.proofs.lemmas.Bool.Decides.{Decides-eqb}
 use Rattle.evict_admit.specs.declared.names.Known.{Known}
 use Rattle.evict_admit.specs.declared.board.Left.{Left}
-use Rattle.evict_admit.specs.Boards.{IsKnown, IsSeated, IsWhole, left_at, row_at, winner_at, may_go, seat_of}
+use Rattle.evict_admit.specs.Boards.{IsKnown, IsSeated, IsWhole, left_at, less_if, row_at, winner_at, may_go, seat_of}
 use Rattle.evict_admit.proofs.Contests.{is_or_not}
 
 pub reseated : (known : Known) (lefts : List Left) (winners winners' : List (Option ℕ)) (place : ℕ) (left : Left) (b : Bool) → IsKnown known → IsSeated known lefts winners → place < length known.rows.now
@@ -24,3 +27,30 @@ reseated known lefts winners winners' place left b is_known before low ready who
   where
     place_is : (p : ℕ) → winner_at winners' (length known.rows.now + p) ≡ winner_at winners' (length known.contenders.now + p)
     place_is p = ap (λ n. winner_at winners' (n + p)) (sym is_known.same)
+
+-- one less of two that aren't both, and then of the other
+less_or : (a b : Bool) (left : Left) → (a ≡ true → b ≢ true) → less_if b (less_if a left) ≡ less_if (a || (b || false)) left
+less_or true true left h = absurd (h refl refl)
+less_or true false left h = ap (λ n. record left { children = n }) (omega arith)
+less_or false true left h = ap (λ n. record left { children = n }) (omega arith)
+less_or false false left h = ap (λ n. record left { children = n }) (omega arith)
+
+-- the parents of a row that differ have a child less, one after the other
+pub less_both : (parents : List ℕ) (id : ℕ) (left : Left) → length parents ≡ 2 → get_or parents 1 0 ≢ get_or parents 0 0
+    → less_if (get_or parents 1 0 == id) (less_if (get_or parents 0 0 == id) left) ≡ less_if (list_any (λ parent. parent == id) parents) left
+less_both [] id left two differ = absurd (omega arith)
+less_both (a ∷ []) id left two differ = absurd (omega arith)
+less_both (a ∷ b ∷ []) id left two differ = less_or (a == id) (b == id) left (λ e f. differ ((Decides-eqb b id).0 f ∙ sym ((Decides-eqb a id).0 e)))
+less_both (a ∷ b ∷ c ∷ more) id left two differ = absurd (omega arith)
+
+-- where both are the same, it has one child less
+pub less_once : (parents : List ℕ) (id : ℕ) (left : Left) → length parents ≡ 2 → get_or parents 1 0 ≡ get_or parents 0 0
+    → less_if (get_or parents 0 0 == id) left ≡ less_if (list_any (λ parent. parent == id) parents) left
+less_once [] id left two same = absurd (omega arith)
+less_once (a ∷ []) id left two same = absurd (omega arith)
+less_once (a ∷ b ∷ []) id left two same = ap (λ t. less_if t left) (once (a == id) ∙ ap (λ x. (a == id) || ((x == id) || false)) (sym same))
+  where
+    once : (t : Bool) → t ≡ (t || (t || false))
+    once true = refl
+    once false = refl
+less_once (a ∷ b ∷ c ∷ more) id left two same = absurd (omega arith)

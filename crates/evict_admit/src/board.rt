@@ -9,7 +9,7 @@ use crate::names::Known;
 use crate::plan::Row;
 
 /// How a row stands: how many rows that are left have it as parent, and whether it is given up.
-#[derive(Clone, Copy, Debug)]
+#[derive(Clone, Copy)]
 pub(crate) struct Left {
     pub(crate) children: u32,
     pub(crate) gone: bool,

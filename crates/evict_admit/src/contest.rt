@@ -7,7 +7,7 @@ ghost use Rattle.evict_admit.specs.Boards.{AreSmall, IsContest, IsWhole, comes_b
 use score_hook::{Score, less};
 
 /// A row as it is compared.
-#[derive(Clone, Copy, Debug)]
+#[derive(Clone, Copy)]
 pub(crate) struct Contender {
     pub(crate) score: Score,
     pub(crate) id: u64,

@@ -20,7 +20,7 @@ const MARKS: usize = 4096;
 const MOST_SCANS: u32 = 8;
 
 /// The row that goes first of those that were looked at.
-#[derive(Clone, Copy, Debug)]
+#[derive(Clone, Copy)]
 pub(crate) struct Leader {
     pub(crate) place: usize,
     pub(crate) contender: Contender,

@@ -8,7 +8,7 @@ use crate::contest::Contender;
 use crate::plan::Row;
 
 /// The id of the row at a place.
-#[derive(Clone, Copy, Debug)]
+#[derive(Clone, Copy)]
 pub(crate) struct Name {
     pub(crate) id: u64,
     pub(crate) place: u16,
@@ -19,7 +19,7 @@ pub(crate) const HINTS: usize = 4096;
 
 /// What is known of the rows from the beginning: themselves, their places by their ids, and how they
 /// are compared. By the hint of an id its place is mostly found at once, without a search.
-#[derive(Clone, Copy, Debug)]
+#[derive(Clone, Copy)]
 pub(crate) struct Known<'a> {
     pub(crate) rows: &'a [Row],
     pub(crate) names: &'a [Name],

@@ -70,7 +70,7 @@ pub fn plan_evictions(
 }
 
 /// What is still wanted.
-#[derive(Clone, Copy, Debug)]
+#[derive(Clone, Copy)]
 struct Wanted {
     bytes: u128,
     places: u64,
@@ -125,13 +125,25 @@ fn plan_by_contest(
         hints: &hints,
         contenders: &*contenders,
     };
+    plan_among(&known, wanted, out)
+}
+
+/// Gives up rows by a contest of those that are known.
+fn plan_among(known: &Known, wanted: Wanted, out: &mut Vec<u64>) -> bool
+    requires known { IsKnown known.now }
+    requires empty { out.old.items ≡ [] }
+    requires room { length known.now.rows.now ≤ vec_capacity out.old }
+    ensures plan { (score : StatsValue → ScoreValue) → known.now.contenders.now ≡ map (contender_for score) known.now.rows.now → GivesUp score known.now.rows.now wanted.bytes wanted.places out.new.items result }
+    ensures room { vec_capacity out.old ≤ vec_capacity out.new }
+{
+    let count = known.rows.len();
     let mut left_store = [CHILDLESS; MOST_ROWS];
     let lefts = &mut left_store[..count];
-    count_children(lefts, &known);
+    count_children(lefts, known);
     let mut winner_store = [None; 2 * MOST_ROWS];
     let winners = &mut winner_store[..2 * count];
-    seat_all(winners, &known, lefts);
-    plan_in(lefts, winners, &known, wanted, out)
+    seat_all(winners, known, lefts);
+    plan_in(lefts, winners, known, wanted, out)
 }
 
 /// What stands where no row is.

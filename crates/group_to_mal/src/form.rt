@@ -1,21 +1,23 @@
 //! The values of items and of tests, over rows, over all of them, or over their groups.
-ghost use Rattle.std.specs.Prelude.{◌≡◌, IfOk};
+ghost use Rattle.std.specs.Prelude.{◌≡◌, [], ◌∷◌, IfOk};
 ghost use Rattle.cell_core.specs.declared.operator.Arg.TheVariants.{Var};
 ghost use Rattle.sql_tree.specs.Tree.{expr_tree, cond_tree};
+ghost use Rattle.sql_tree.specs.Tree.CondTree.{Within, IsNull};
+ghost use Rattle.mal_emit.specs.Emitters.{emits, followed};
 ghost use Rattle.mal_emit.specs.Phrases.{variables};
 ghost use Rattle.rows_to_mal.specs.Conjuncts.{comparison_of};
-ghost use Rattle.group_to_mal.specs.Values.{total_of, sub_of, first_of, argument as argument_of, whole_value as whole_value_of, group_value as group_value_of, is_grouped as is_grouped_tree, both_by, test_by, test_bat};
+ghost use Rattle.group_to_mal.specs.Values.{total_of, sub_of, first_of, argument as argument_of, whole_value as whole_value_of, group_value as group_value_of, of_first, is_grouped as is_grouped_tree, both_by, test_by, test_bat};
 ghost use Rattle.group_to_mal.specs.Forms.{value_over, is_bat_over};
 
 use crate::columns::{ItemValue, spread};
+use crate::operators::{one, two};
 use cell_core::{Arg, Cell, Instr, Memory, Op, Sequence};
-use mal_emit::emit;
 use rows_to_mal::{Tables, is_alone};
 use sql_tree::{AggOp, CmpOp, Cond, Expr};
 use std::alloc::Global;
 
 /// What values are over.
-#[derive(Debug, Drop)]
+#[derive(Debug)]
 pub enum Form {
     /// Each row so far.
     Rows,
@@ -28,6 +30,20 @@ pub enum Form {
         /// Their first rows.
         heads: u32,
     },
+}
+
+// By a call of its own, so that proofs needn't go through its forms where one is let go.
+impl Drop for Form {
+    fn drop(self) {
+        match self {
+            Form::Rows
+            | Form::Whole
+            | Form::Groups {
+                groups: _,
+                heads: _,
+            } => {}
+        }
+    }
 }
 
 /// The aggregate of all values of a BAT.
@@ -107,18 +123,45 @@ fn whole_value(
     ensures { IfOk result (λ arg. (instrs.new, arg) ≡ (whole_value_of tables.now (variables rows.now) (expr_tree expr.now)).run instrs.old) }
 {
     match expr {
-        Expr::Agg { of: None, .. } => {
-            let number = emit(instrs, Op::Count, vec![in alloc; first_rows(rows)]?)?;
-            Ok(Arg::Var(number))
-        }
+        Expr::Agg { of: None, .. } => one(alloc, instrs, Op::Count, first_rows(rows)),
         Expr::Agg { f, of: Some(of) } => {
             let arg = argument(alloc, instrs, tables, rows, of)?;
-            let number = emit(instrs, total(*f), vec![in alloc; arg]?)?;
-            Ok(Arg::Var(number))
+            one(alloc, instrs, total(*f), arg)
         }
         Expr::Lit(_) | Expr::Col(_) | Expr::Arith { .. } => {
             tables.expr_value(alloc, instrs, rows, expr)
         }
+    }
+}
+
+/// Adds an aggregate over each group.
+fn grouped(
+    alloc: Global,
+    instrs: &mut Sequence<Instr>,
+    op: Op,
+    of: Arg,
+    groups: &Arg,
+) -> Result<Arg, Memory>
+    ensures { IfOk result (λ arg. (instrs.new, arg) ≡ (emits op (of ∷ groups.now ∷ [])).run instrs.old) }
+{
+    let groups = groups.share()?;
+    two(alloc, instrs, op, of, groups)
+}
+
+/// Adds the cells of each group's first row; a scalar stays.
+fn of_firsts(
+    alloc: Global,
+    instrs: &mut Sequence<Instr>,
+    heads: u32,
+    alone: bool,
+    value: Arg,
+) -> Result<Arg, Memory>
+    ensures { IfOk result (λ arg. (instrs.new, arg) ≡ (of_first (Var heads) alone value).run instrs.old) }
+{
+    if alone {
+        Ok(value)
+    } else {
+        two(alloc, instrs, Op::Join, Arg::Var(heads), value)
     }
 }
 
@@ -136,22 +179,15 @@ fn group_value(
 {
     match expr {
         Expr::Agg { of: None, .. } => {
-            let args = vec![in alloc; first_rows(rows), groups.share()?]?;
-            let number = emit(instrs, Op::Subcount, args)?;
-            Ok(Arg::Var(number))
+            grouped(alloc, instrs, Op::Subcount, first_rows(rows), groups)
         }
         Expr::Agg { f, of: Some(of) } => {
             let arg = argument(alloc, instrs, tables, rows, of)?;
-            let number = emit(instrs, sub(*f), vec![in alloc; arg, groups.share()?]?)?;
-            Ok(Arg::Var(number))
+            grouped(alloc, instrs, sub(*f), arg, groups)
         }
         Expr::Lit(_) | Expr::Col(_) | Expr::Arith { .. } => {
             let arg = tables.expr_value(alloc, instrs, rows, expr)?;
-            if is_alone(expr) {
-                return Ok(arg);
-            }
-            let number = emit(instrs, Op::Join, vec![in alloc; Arg::Var(heads), arg]?)?;
-            Ok(Arg::Var(number))
+            of_firsts(alloc, instrs, heads, is_alone(expr), arg)
         }
     }
 }
@@ -214,11 +250,62 @@ impl Form {
     {
         let x = self.value(alloc, instrs, tables, rows, left)?;
         let y = self.value(alloc, instrs, tables, rows, right)?;
-        let number = emit(instrs, operator, vec![in alloc; x, y]?)?;
-        Ok(Arg::Var(number))
+        two(alloc, instrs, operator, x, y)
+    }
+
+    /// Adds whether a value lies between two others, both included.
+    fn between(
+        &self,
+        alloc: Global,
+        instrs: &mut Sequence<Instr>,
+        tables: &Tables<'_>,
+        rows: &[u32],
+        of: &Expr,
+        low: &Expr,
+        high: &Expr,
+    ) -> Result<Arg, Memory>
+        ensures { IfOk result (λ arg. (instrs.new, arg) ≡ (test_by (value_over tables.now (variables rows.now) self.now) (Within (expr_tree of.now) (expr_tree low.now) (expr_tree high.now))).run instrs.old) }
+    {
+        let above = self.both(alloc, instrs, tables, rows, Op::Ge, of, low)?;
+        let below = self.both(alloc, instrs, tables, rows, Op::Le, of, high)?;
+        two(alloc, instrs, Op::And, above, below)
+    }
+
+    /// Adds whether a value is NULL.
+    fn is_null(
+        &self,
+        alloc: Global,
+        instrs: &mut Sequence<Instr>,
+        tables: &Tables<'_>,
+        rows: &[u32],
+        of: &Expr,
+    ) -> Result<Arg, Memory>
+        ensures { IfOk result (λ arg. (instrs.new, arg) ≡ (test_by (value_over tables.now (variables rows.now) self.now) (IsNull (expr_tree of.now))).run instrs.old) }
+    {
+        let value = self.value(alloc, instrs, tables, rows, of)?;
+        one(alloc, instrs, Op::IsNil, value)
+    }
+
+    /// Adds an operator of a truth and the truth of a condition.
+    #[cycle(truths)]
+    fn with_test(
+        &self,
+        alloc: Global,
+        instrs: &mut Sequence<Instr>,
+        tables: &Tables<'_>,
+        rows: &[u32],
+        operator: Op,
+        left: Arg,
+        right: &Cond,
+    ) -> Result<Arg, Memory>
+        ensures { IfOk result (λ arg. (instrs.new, arg) ≡ (followed (test_by (value_over tables.now (variables rows.now) self.now) (cond_tree right.now)) (λ y. emits operator (left ∷ y ∷ []))).run instrs.old) }
+    {
+        let right = self.test(alloc, instrs, tables, rows, right)?;
+        two(alloc, instrs, operator, left, right)
     }
 
     /// Adds the truth of a condition.
+    #[cycle(truths)]
     pub(crate) fn test(
         &self,
         alloc: Global,
@@ -234,32 +321,20 @@ impl Form {
                 self.both(alloc, instrs, tables, rows, comparison(*op), left, right)
             }
             Cond::Between { of, low, high } => {
-                let a = self.both(alloc, instrs, tables, rows, Op::Ge, of, low)?;
-                let b = self.both(alloc, instrs, tables, rows, Op::Le, of, high)?;
-                let number = emit(instrs, Op::And, vec![in alloc; a, b]?)?;
-                Ok(Arg::Var(number))
+                self.between(alloc, instrs, tables, rows, of, low, high)
             }
-            Cond::IsNull(of) => {
-                let x = self.value(alloc, instrs, tables, rows, of)?;
-                let number = emit(instrs, Op::IsNil, vec![in alloc; x]?)?;
-                Ok(Arg::Var(number))
-            }
+            Cond::IsNull(of) => self.is_null(alloc, instrs, tables, rows, of),
             Cond::Not(of) => {
                 let x = self.test(alloc, instrs, tables, rows, of)?;
-                let number = emit(instrs, Op::Not, vec![in alloc; x]?)?;
-                Ok(Arg::Var(number))
+                one(alloc, instrs, Op::Not, x)
             }
             Cond::And(left, right) => {
                 let x = self.test(alloc, instrs, tables, rows, left)?;
-                let y = self.test(alloc, instrs, tables, rows, right)?;
-                let number = emit(instrs, Op::And, vec![in alloc; x, y]?)?;
-                Ok(Arg::Var(number))
+                self.with_test(alloc, instrs, tables, rows, Op::And, x, right)
             }
             Cond::Or(left, right) => {
                 let x = self.test(alloc, instrs, tables, rows, left)?;
-                let y = self.test(alloc, instrs, tables, rows, right)?;
-                let number = emit(instrs, Op::Or, vec![in alloc; x, y]?)?;
-                Ok(Arg::Var(number))
+                self.with_test(alloc, instrs, tables, rows, Op::Or, x, right)
             }
         }
     }

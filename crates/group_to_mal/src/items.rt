@@ -172,9 +172,6 @@ fn keys(
     Ok(args)
 }
 
-/// Lets a form go.
-pub(crate) fn let_go(_form: Form) {}
-
 /// Adds the groups of the rows so far, and the items for each of them.
 pub(crate) fn group_items(
     alloc: Global,
@@ -214,9 +211,7 @@ fn items_of_groups(
         heads: firsts,
     };
     let beside = Arg::Var(firsts);
-    let shown = items_by(
+    items_by(
         alloc, instrs, tables, rows, &form, beside, having, distinct, items,
-    );
-    let_go(form);
-    shown
+    )
 }

@@ -13,6 +13,7 @@ mod compile;
 mod form;
 mod items;
 mod laws;
+mod operators;
 mod plan;
 mod shown;
 

@@ -12,7 +12,7 @@ ghost use Rattle.sql_semantics.specs.Exprs.{exprs_of};
 
 use crate::columns::ItemValue;
 use crate::form::{Form, first_rows};
-use crate::items::{group_items, items_by, let_go, values};
+use crate::items::{group_items, items_by, values};
 use cell_core::{Arg, Instr, Memory, Sequence};
 use rows_to_mal::Tables;
 use sql_semantics::is_grouped;
@@ -64,11 +64,9 @@ fn row_items(
 {
     let form = Form::Rows;
     let beside = first_rows(rows);
-    let shown = items_by(
+    items_by(
         alloc, instrs, tables, rows, &form, beside, None, distinct, items,
-    );
-    let_go(form);
-    shown
+    )
 }
 
 /// Adds the values of items over all rows so far.
@@ -81,10 +79,7 @@ fn whole_values(
 ) -> Result<Vec<ItemValue>, Memory>
     ensures { IfOk result (λ found. (instrs.new, args_of found.items) ≡ (values_by (whole_value tables.now (variables rows.now)) (exprs_of items.now)).run instrs.old) }
 {
-    let form = Form::Whole;
-    let found = values(alloc, instrs, tables, rows, &form, items);
-    let_go(form);
-    found
+    values(alloc, instrs, tables, rows, &Form::Whole, items)
 }
 
 /// Adds the truth of a condition over all rows so far.
@@ -97,10 +92,7 @@ fn test_of_all(
 ) -> Result<Arg, Memory>
     ensures { IfOk result (λ arg. (instrs.new, arg) ≡ (test_by (whole_value tables.now (variables rows.now)) (cond_tree cond.now)).run instrs.old) }
 {
-    let form = Form::Whole;
-    let found = form.test(alloc, instrs, tables, rows, cond);
-    let_go(form);
-    found
+    Form::Whole.test(alloc, instrs, tables, rows, cond)
 }
 
 /// Adds the truth of HAVING over all rows so far.

@@ -159,3 +159,7 @@ module _ (bests : List (Option Best)) (queue : List ℕ) (h : IsQueue bests queu
           ∙ ap (λ (b : Best). is_lt (best_cmp (key_at bests (at_ i)) (at_ i) b (at_ j))) (same_key (at_ j) (differs j low))
           ∙ h.falls i j less low;
     }
+
+-- the last of the first places, where it stood among all
+pub last_stands : (all queue : List ℕ) (at place : ℕ) → queue ≡ take (length queue) all → at + 1 ≡ length queue → place ≡ slice_index queue at → place ≡ slice_index all at
+last_stands all queue at place left last is = is ∙ ap (λ xs. slice_index xs at) left ∙ get_or-take (length queue) all at 0 (omega arith)

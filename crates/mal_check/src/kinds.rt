@@ -281,8 +281,8 @@ pub(crate) fn bind_kind(args: &[Arg]) -> Option<ValueKind>
     ensures { option_map type_of result ≡ bind_type args.now }
 {
     let [
-        Arg::Const(Cell::Text(_)),
-        Arg::Const(Cell::Text(_)),
+        Arg::Const(Cell::Text(_table)),
+        Arg::Const(Cell::Text(_column)),
         Arg::Const(Cell::Text(word)),
     ] = args
     else {

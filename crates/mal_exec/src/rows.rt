@@ -43,8 +43,8 @@ fn shows_rows(values: &[Obj], keep: &Option<Arg>) -> Result<bool, Memory>
     let Some(arg) = keep else {
         return Ok(true);
     };
-    Ok(match arg_value(values, arg)? {
-        Obj::One(Cell::Bit(bit)) => bit,
+    Ok(match &arg_value(values, arg)? {
+        Obj::One(Cell::Bit(bit)) => *bit,
         _ => false,
     })
 }

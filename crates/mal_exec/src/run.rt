@@ -15,12 +15,18 @@ use std::alloc::Global;
 use std::sync::ledger::Ledger;
 
 /// What a run of a plan gives.
-#[derive(Drop)]
 pub struct Ran {
     /// The rows of the plan's output.
     pub rows: Sequence<Sequence<Cell>>,
     /// The work of its instructions, in pairs read and made.
     pub load: u128,
+}
+
+// By a call of its own, so that proofs needn't go through its forms where one is let go.
+impl Drop for Ran {
+    fn drop(self) {
+        let Ran { rows: _, load: _ } = self;
+    }
 }
 
 /// An instruction's result and its work.
@@ -97,7 +103,7 @@ fn bind<C: Columns>(alloc: Global, columns: &C, args: &[Obj]) -> Result<Option<O
     let [
         Obj::One(Cell::Text(table)),
         Obj::One(Cell::Text(column)),
-        Obj::One(Cell::Text(_)),
+        Obj::One(Cell::Text(_kind)),
     ] = args
     else {
         return Ok(None);
@@ -230,10 +236,16 @@ pub fn run_plan<C: Columns, E: Operate, L: Ledger>(
 }
 
 /// The results of instructions and their work.
-#[derive(Drop)]
 struct Finished {
     values: Sequence<Obj>,
     load: u128,
+}
+
+// By a call of its own, so that proofs needn't go through its forms where one is let go.
+impl Drop for Finished {
+    fn drop(self) {
+        let Finished { values: _, load: _ } = self;
+    }
 }
 
 /// Runs instructions, each once and in order.

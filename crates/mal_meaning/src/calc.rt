@@ -1,10 +1,11 @@
 //! The functions of cells, as plain loops over lists.
-ghost use Rattle.std.specs.Prelude.{◌≡◌, ◌∷◌, [], map, IfOk};
+ghost use Rattle.std.specs.Prelude.{◌≡◌, ◌++◌, ◌∷◌, [], map, zip, Some, None, IfOk, OnOk};
+ghost use Rattle.cell_core.specs.declared.operator.Value.TheVariants.{Bat};
 ghost use Rattle.cell_core.specs.Pairs.{bats_in, shortest, cell_at, row_at, rows_of};
-ghost use Rattle.cell_core.specs.Calc.{all_or_none, first_heads, calculated};
+ghost use Rattle.cell_core.specs.Calc.{all_or_none, first_heads, calculated_at, calculated};
 ghost use Rattle.mal_meaning.specs.Slow.{row_function, shorter_of};
 
-use crate::columns::{heads, pair_up};
+use crate::columns::{heads, pair_up, push_cell};
 use cell_calc::{
     both, difference, either, has_no_value, is_above, is_at_least, is_at_most, is_below, is_equal,
     is_unequal, opposite, product, sum,
@@ -54,18 +55,18 @@ fn apply_function(op: Op, row: &[Cell]) -> Option<Cell>
     }
 }
 
-/// The cell of a value at a place: the tail there, or the scalar.
+/// Adds the cell of a value at a place: the tail there, or the scalar.
 #[tactic(auto, using(crate::proofs::SlowLemmas::tail_past))]
-fn cell_of(value: &Value, place: usize) -> Result<Cell, Memory>
-    ensures { IfOk result (λ cell. cell ≡ cell_at place value.now) }
+fn push_cell_at(row: &mut Sequence<Cell>, value: &Value, place: usize) -> Result<(), Memory>
+    ensures { OnOk result (row.new ≡ row.old ++ cell_at place value.now ∷ []) }
 {
     match value {
-        Value::One(cell) => cell.share(),
+        Value::One(cell) => push_cell(row, cell),
         Value::Bat(b) => {
             if place < b.len() {
-                b.as_slice()[place].1.share()
+                push_cell(row, &b.as_slice()[place].1)
             } else {
-                Ok(Cell::Nil)
+                row.push(Cell::Nil)
             }
         }
     }
@@ -78,7 +79,7 @@ fn row_of(alloc: Global, values: &[Value], place: usize) -> Result<Sequence<Cell
     let mut row = Sequence::new(alloc);
     let mut rest = values;
     'values: while let [value, more @ ..] = rest {
-        row.push(cell_of(value, place)?)?;
+        push_cell_at(&mut row, value, place)?;
         rest = more;
     }
     Ok(row)
@@ -90,10 +91,10 @@ pub(crate) fn first_rows(
     alloc: Global,
     values: &[Value],
     count: usize,
-) -> Result<Vec<Sequence<Cell>>, Memory>
-    ensures { IfOk result (λ rows. rows.items ≡ rows_of values.now count) }
+) -> Result<Sequence<Sequence<Cell>>, Memory>
+    ensures { IfOk result (λ rows. rows ≡ rows_of values.now count) }
 {
-    let mut rows = Vec::new(alloc);
+    let mut rows = Sequence::new(alloc);
     for place in 0..count {
         rows.push(row_of(alloc, values, place)?)?;
     }
@@ -159,22 +160,48 @@ fn heads_of_first(alloc: Global, values: &[Value]) -> Result<Sequence<Cell>, Mem
     Ok(Sequence::new(alloc))
 }
 
-/// A function over scalars, or by position up to the shortest BAT.
-pub(crate) fn calculate(alloc: Global, op: Op, args: &[Value]) -> Result<Option<Value>, Memory>
-    ensures { IfOk result (λ value. value ≡ calculated (row_function op) args.now) }
+/// A function over scalars.
+fn calculate_one(alloc: Global, op: Op, args: &[Value]) -> Result<Option<Value>, Memory>
+    ensures { IfOk result (λ value. value ≡ calculated_at None (row_function op) args.now) }
 {
-    let Some(count) = shortest_bat(args) else {
-        let row = row_of(alloc, args, 0)?;
-        return Ok(match apply_function(op, row.as_slice()) {
-            Some(cell) => Some(Value::One(cell)),
-            None => None,
-        });
-    };
+    let row = row_of(alloc, args, 0)?;
+    Ok(match apply_function(op, row.as_slice()) {
+        Some(cell) => Some(Value::One(cell)),
+        None => None,
+    })
+}
+
+/// These cells beside the heads of the first BAT.
+fn with_heads(alloc: Global, cells: &[Cell], args: &[Value]) -> Result<Value, Memory>
+    ensures { IfOk result (λ value. value ≡ Bat (zip (first_heads (bats_in args.now)) cells.now)) }
+{
+    let heads = heads_of_first(alloc, args)?;
+    let pairs = pair_up(alloc, heads.as_slice(), cells)?;
+    Ok(Value::Bat(pairs))
+}
+
+/// A function by position, over as many rows.
+fn calculate_rows(
+    alloc: Global,
+    op: Op,
+    args: &[Value],
+    count: usize,
+) -> Result<Option<Value>, Memory>
+    ensures { IfOk result (λ value. value ≡ calculated_at (Some count) (row_function op) args.now) }
+{
     let rows = first_rows(alloc, args, count)?;
     let Some(cells) = apply_to_rows(alloc, op, rows.as_slice())? else {
         return Ok(None);
     };
-    let heads = heads_of_first(alloc, args)?;
-    let pairs = pair_up(alloc, heads.as_slice(), cells.as_slice())?;
-    Ok(Some(Value::Bat(pairs)))
+    Ok(Some(with_heads(alloc, cells.as_slice(), args)?))
+}
+
+/// A function over scalars, or by position up to the shortest BAT.
+pub(crate) fn calculate(alloc: Global, op: Op, args: &[Value]) -> Result<Option<Value>, Memory>
+    ensures { IfOk result (λ value. value ≡ calculated (row_function op) args.now) }
+{
+    match shortest_bat(args) {
+        None => calculate_one(alloc, op, args),
+        Some(count) => calculate_rows(alloc, op, args, count),
+    }
 }

@@ -1,9 +1,29 @@
 //! Columns of pairs, as plain lists of cells.
-ghost use Rattle.std.specs.Prelude.{◌≡◌, zip, IfOk};
+ghost use Rattle.std.specs.Prelude.{◌≡◌, ◌++◌, ◌∷◌, [], zip, IfOk, OnOk};
 ghost use Rattle.cell_core.specs.Pairs.{heads_of, tails_of, numbered};
 
 use cell_core::{Cell, Memory, Sequence};
 use std::alloc::Global;
+
+/// Adds an equal cell at the end.
+pub(crate) fn push_cell(cells: &mut Sequence<Cell>, cell: &Cell) -> Result<(), Memory>
+    ensures { OnOk result (cells.new ≡ cells.old ++ cell.now ∷ []) }
+{
+    cells.push(cell.share()?)
+}
+
+/// Adds two equal cells at the end, side by side.
+pub(crate) fn push_pair(
+    pairs: &mut Sequence<(Cell, Cell)>,
+    head: &Cell,
+    tail: &Cell,
+) -> Result<(), Memory>
+    ensures { OnOk result (pairs.new ≡ pairs.old ++ (head.now, tail.now) ∷ []) }
+{
+    let head = head.share()?;
+    let tail = tail.share()?;
+    pairs.push((head, tail))
+}
 
 /// The heads.
 pub(crate) fn heads(alloc: Global, b: &[(Cell, Cell)]) -> Result<Sequence<Cell>, Memory>
@@ -12,7 +32,7 @@ pub(crate) fn heads(alloc: Global, b: &[(Cell, Cell)]) -> Result<Sequence<Cell>,
     let mut cells = Sequence::new(alloc);
     let mut rest = b;
     'pairs: while let [pair, more @ ..] = rest {
-        cells.push(pair.0.share()?)?;
+        push_cell(&mut cells, &pair.0)?;
         rest = more;
     }
     Ok(cells)
@@ -25,7 +45,7 @@ pub(crate) fn tails(alloc: Global, b: &[(Cell, Cell)]) -> Result<Sequence<Cell>,
     let mut cells = Sequence::new(alloc);
     let mut rest = b;
     'pairs: while let [pair, more @ ..] = rest {
-        cells.push(pair.1.share()?)?;
+        push_cell(&mut cells, &pair.1)?;
         rest = more;
     }
     Ok(cells)
@@ -45,7 +65,7 @@ pub(crate) fn pair_up(
         let [tail, tails @ ..] = right else {
             return Ok(out);
         };
-        out.push((head.share()?, tail.share()?))?;
+        push_pair(&mut out, head, tail)?;
         left = heads;
         right = tails;
     }
@@ -60,7 +80,7 @@ pub(crate) fn number(alloc: Global, cells: &[Cell]) -> Result<Sequence<(Cell, Ce
     let mut place = 0;
     let mut rest = cells;
     'cells: while let [cell, more @ ..] = rest {
-        out.push((Cell::Oid(place), cell.share()?))?;
+        push_pair(&mut out, &Cell::Oid(place), cell)?;
         place += 1;
         rest = more;
     }

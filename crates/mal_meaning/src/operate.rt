@@ -3,7 +3,7 @@ ghost use Rattle.std.specs.Prelude.{◌≡◌, ◌∷◌, [], Some, IfOk, IsTrue
 ghost use Rattle.cell_core.specs.declared.operator.Value.TheVariants as value;
 ghost use Rattle.cell_core.specs.Operators.{operate};
 ghost use Rattle.cell_core.specs.declared.operator.Op.TheVariants as operator;
-ghost use Rattle.cell_core.specs.Pairs.{tails_of};
+ghost use Rattle.cell_core.specs.Pairs.{tails_of, is_true};
 ghost use Rattle.cell_calc.specs.Aggregates.{aggregate_of};
 ghost use Rattle.mal_meaning.specs.Slow.{takes_bat, takes_bats, takes_cell, is_function};
 
@@ -14,7 +14,7 @@ use crate::relations::{
     cross, join, kdifference, kunion, mark_t, mirror, project, reverse, select, semijoin,
 };
 use cell_calc::{Aggregate, aggregate_cells};
-use cell_core::{Cell, Memory, Op, Value};
+use cell_core::{Cell, Memory, Op, Sequence, Value};
 use std::alloc::Global;
 
 /// An operator of one BAT.
@@ -22,25 +22,25 @@ fn run_on_bat(alloc: Global, op: Op, b: &[(Cell, Cell)]) -> Result<Value, Memory
     requires { IsTrue (takes_bat op) }
     ensures { IfOk result (λ out. Some out ≡ operate op (value.Bat b.now ∷ [])) }
 {
-    Ok(match op {
-        Op::Reverse => Value::Bat(reverse(alloc, b)?),
-        Op::Mirror => Value::Bat(mirror(alloc, b)?),
-        Op::GroupNew => Value::Bat(group_new(alloc, b)?),
-        Op::GroupHeads => Value::Bat(group_heads(alloc, b)?),
-        Op::Count => Value::One(fold_tails(alloc, Aggregate::Count, b)?),
-        Op::Sum => Value::One(fold_tails(alloc, Aggregate::Sum, b)?),
-        Op::Min => Value::One(fold_tails(alloc, Aggregate::Min, b)?),
-        Op::Max => Value::One(fold_tails(alloc, Aggregate::Max, b)?),
+    match op {
+        Op::Reverse => reverse(alloc, b).map(Value::Bat),
+        Op::Mirror => mirror(alloc, b).map(Value::Bat),
+        Op::GroupNew => group_new(alloc, b).map(Value::Bat),
+        Op::GroupHeads => group_heads(alloc, b).map(Value::Bat),
+        Op::Count => fold_tails(alloc, Aggregate::Count, b),
+        Op::Sum => fold_tails(alloc, Aggregate::Sum, b),
+        Op::Min => fold_tails(alloc, Aggregate::Min, b),
+        Op::Max => fold_tails(alloc, Aggregate::Max, b),
         _ => unreachable!(),
-    })
+    }
 }
 
 /// An aggregate over the tails of a BAT.
-fn fold_tails(alloc: Global, which: Aggregate, b: &[(Cell, Cell)]) -> Result<Cell, Memory>
-    ensures { IfOk result (λ cell. cell ≡ aggregate_of which (tails_of b.now)) }
+fn fold_tails(alloc: Global, which: Aggregate, b: &[(Cell, Cell)]) -> Result<Value, Memory>
+    ensures { IfOk result (λ out. out ≡ value.One (aggregate_of which (tails_of b.now))) }
 {
     let cells = tails(alloc, b)?;
-    aggregate_cells(which, cells.as_slice())
+    Ok(Value::One(aggregate_cells(which, cells.as_slice())?))
 }
 
 /// An operator of two BATs.
@@ -49,35 +49,47 @@ fn run_on_bats(
     op: Op,
     l: &[(Cell, Cell)],
     r: &[(Cell, Cell)],
-) -> Result<Value, Memory>
+) -> Result<Sequence<(Cell, Cell)>, Memory>
     requires { IsTrue (takes_bats op) }
-    ensures { IfOk result (λ out. Some out ≡ operate op (value.Bat l.now ∷ value.Bat r.now ∷ [])) }
+    ensures { IfOk result (λ out. Some (value.Bat out) ≡ operate op (value.Bat l.now ∷ value.Bat r.now ∷ [])) }
 {
-    Ok(Value::Bat(match op {
-        Op::Semijoin => semijoin(alloc, l, r)?,
-        Op::Kdifference => kdifference(alloc, l, r)?,
-        Op::Kunion => kunion(alloc, l, r)?,
-        Op::Cross => cross(alloc, l, r)?,
-        Op::Join => join(alloc, l, r)?,
-        Op::GroupDerive => group_derive(alloc, l, r)?,
-        Op::Subcount => subaggregate(alloc, Aggregate::Count, l, r)?,
-        Op::Subsum => subaggregate(alloc, Aggregate::Sum, l, r)?,
-        Op::Submin => subaggregate(alloc, Aggregate::Min, l, r)?,
-        Op::Submax => subaggregate(alloc, Aggregate::Max, l, r)?,
+    match op {
+        Op::Semijoin => semijoin(alloc, l, r),
+        Op::Kdifference => kdifference(alloc, l, r),
+        Op::Kunion => kunion(alloc, l, r),
+        Op::Cross => cross(alloc, l, r),
+        Op::Join => join(alloc, l, r),
+        Op::GroupDerive => group_derive(alloc, l, r),
+        Op::Subcount => subaggregate(alloc, Aggregate::Count, l, r),
+        Op::Subsum => subaggregate(alloc, Aggregate::Sum, l, r),
+        Op::Submin => subaggregate(alloc, Aggregate::Min, l, r),
+        Op::Submax => subaggregate(alloc, Aggregate::Max, l, r),
         _ => unreachable!(),
-    }))
+    }
 }
 
 /// An operator of a BAT and a cell.
-fn run_on_cell(alloc: Global, op: Op, b: &[(Cell, Cell)], cell: &Cell) -> Result<Value, Memory>
+fn run_on_cell(
+    alloc: Global,
+    op: Op,
+    b: &[(Cell, Cell)],
+    cell: &Cell,
+) -> Result<Sequence<(Cell, Cell)>, Memory>
     requires { IsTrue (takes_cell op) }
-    ensures { IfOk result (λ out. Some out ≡ operate op (value.Bat b.now ∷ value.One cell.now ∷ [])) }
+    ensures { IfOk result (λ out. Some (value.Bat out) ≡ operate op (value.Bat b.now ∷ value.One cell.now ∷ [])) }
 {
-    Ok(Value::Bat(match op {
-        Op::MarkT => mark_t(alloc, b, cell)?,
-        Op::Project => project(alloc, b, cell)?,
+    match op {
+        Op::MarkT => mark_t(alloc, b, cell),
+        Op::Project => project(alloc, b, cell),
         _ => unreachable!(),
-    }))
+    }
+}
+
+/// Whether a cell is the bit true.
+fn is_set(cell: &Cell) -> bool
+    ensures { result ≡ is_true cell.now }
+{
+    matches!(cell, Cell::Bit(true))
 }
 
 /// The pairs in a range.
@@ -94,8 +106,7 @@ fn run_select(alloc: Global, args: &[Value]) -> Result<Option<Value>, Memory>
     else {
         return Ok(None);
     };
-    let (li, hi) = (*li == Cell::Bit(true), *hi == Cell::Bit(true));
-    let pairs = select(alloc, b.as_slice(), low, high, li, hi)?;
+    let pairs = select(alloc, b.as_slice(), low, high, is_set(li), is_set(hi))?;
     Ok(Some(Value::Bat(pairs)))
 }
 
@@ -126,7 +137,8 @@ fn on_bats(alloc: Global, op: Op, args: &[Value]) -> Result<Option<Value>, Memor
     let [Value::Bat(l), Value::Bat(r)] = args else {
         return Ok(None);
     };
-    Ok(Some(run_on_bats(alloc, op, l.as_slice(), r.as_slice())?))
+    let pairs = run_on_bats(alloc, op, l.as_slice(), r.as_slice())?;
+    Ok(Some(Value::Bat(pairs)))
 }
 
 /// An operator of a BAT and a cell, over arguments that may be others.
@@ -137,7 +149,8 @@ fn on_cell(alloc: Global, op: Op, args: &[Value]) -> Result<Option<Value>, Memor
     let [Value::Bat(b), Value::One(cell)] = args else {
         return Ok(None);
     };
-    Ok(Some(run_on_cell(alloc, op, b.as_slice(), cell)?))
+    let pairs = run_on_cell(alloc, op, b.as_slice(), cell)?;
+    Ok(Some(Value::Bat(pairs)))
 }
 
 /// The value of an operator other than bind, or nothing where it overflows or its arguments don't

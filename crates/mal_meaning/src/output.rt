@@ -31,7 +31,7 @@ fn cut(rows: &mut Vec<Sequence<Cell>>, limit: u64)
 }
 
 /// An equal value, which shares the texts.
-pub(crate) fn copy_value(alloc: Global, value: &Value) -> Result<Value, Memory>
+fn copy_value(alloc: Global, value: &Value) -> Result<Value, Memory>
     ensures { IfOk result (λ copy. copy ≡ value.now) }
 {
     Ok(match value {
@@ -41,7 +41,7 @@ pub(crate) fn copy_value(alloc: Global, value: &Value) -> Result<Value, Memory>
 }
 
 /// The value of an argument, where all instructions have values.
-fn value_of(alloc: Global, values: &[Value], arg: &Arg) -> Result<Value, Memory>
+pub(crate) fn value_of(alloc: Global, values: &[Value], arg: &Arg) -> Result<Value, Memory>
     ensures { IfOk result (λ value. value ≡ value_in values.now arg.now) }
 {
     match arg {
@@ -54,10 +54,10 @@ fn value_of(alloc: Global, values: &[Value], arg: &Arg) -> Result<Value, Memory>
 }
 
 /// The values of arguments.
-fn values_of(alloc: Global, values: &[Value], args: &[Arg]) -> Result<Vec<Value>, Memory>
-    ensures { IfOk result (λ columns. columns.items ≡ map (value_in values.now) args.now) }
+fn values_of(alloc: Global, values: &[Value], args: &[Arg]) -> Result<Sequence<Value>, Memory>
+    ensures { IfOk result (λ columns. columns ≡ map (value_in values.now) args.now) }
 {
-    let mut columns = Vec::new(alloc);
+    let mut columns = Sequence::new(alloc);
     let mut rest = args;
     'args: while let [arg, more @ ..] = rest {
         columns.push(value_of(alloc, values, arg)?)?;
@@ -73,8 +73,8 @@ fn shows_rows(alloc: Global, values: &[Value], keep: &Option<Arg>) -> Result<boo
     let Some(arg) = keep else {
         return Ok(true);
     };
-    Ok(match value_of(alloc, values, arg)? {
-        Value::One(Cell::Bit(bit)) => bit,
+    Ok(match &value_of(alloc, values, arg)? {
+        Value::One(Cell::Bit(bit)) => *bit,
         _ => false,
     })
 }
@@ -93,5 +93,5 @@ pub(crate) fn rows_of_output(
     let columns = values_of(alloc, values, out.cols.as_slice())?;
     let count = shortest_bat(columns.as_slice()).unwrap_or(1);
     let rows = first_rows(alloc, columns.as_slice(), count)?;
-    arrange(out, rows)
+    arrange(out, rows.into_vec())
 }

@@ -5,7 +5,7 @@ use cell_core::{Arg, Instr, Memory, Sequence, copy_args};
 use std::alloc::Global;
 
 /// What a plan answers, made of the values of its instructions.
-#[derive(Debug, Drop)]
+#[derive(Debug)]
 pub struct Out {
     /// The columns: a BAT gives its tails, a scalar stands in every row.
     pub cols: Sequence<Arg>,
@@ -18,13 +18,32 @@ pub struct Out {
     pub limit: Option<u64>,
 }
 
+// By a call of its own, so that proofs needn't go through its forms where one is let go.
+impl Drop for Out {
+    fn drop(self) {
+        let Out {
+            cols: _,
+            keep: _,
+            order: _,
+            limit: _,
+        } = self;
+    }
+}
+
 /// A plan: instructions in order, each of which may use the results of earlier ones, and an output.
-#[derive(Debug, Drop)]
+#[derive(Debug)]
 pub struct Plan {
     /// The instructions; `Arg::Var(n)` is the result of instruction n, counted from 0.
     pub instrs: Sequence<Instr>,
     /// What the plan answers.
     pub out: Out,
+}
+
+// By a call of its own, so that proofs needn't go through its forms where one is let go.
+impl Drop for Plan {
+    fn drop(self) {
+        let Plan { instrs: _, out: _ } = self;
+    }
 }
 
 impl Out {
@@ -33,8 +52,8 @@ impl Out {
         ensures { IfOk result (λ out. out ≡ self.now) }
     {
         let cols = copy_args(alloc, self.cols.as_slice())?;
-        let keep = share_keep(&self.keep)?;
         let order = copy_order(alloc, self.order.as_slice())?;
+        let keep = share_keep(&self.keep)?;
         Ok(Out {
             cols,
             keep,
@@ -118,10 +137,8 @@ fn share_keep(keep: &Option<Arg>) -> Result<Option<Arg>, Memory>
 fn copy_order(alloc: Global, order: &[(u32, bool)]) -> Result<Sequence<(u32, bool)>, Memory>
     ensures { IfOk result (λ copy. copy ≡ order.now) }
 {
-    let mut copy = Vec::with_capacity(alloc, order.len())?;
-    'keys: for key in order {
-        copy.push(*key)?;
-    }
+    let mut copy = Vec::new(alloc);
+    copy.extend_from_slice(order)?;
     Ok(Sequence::from_vec(copy))
 }
 

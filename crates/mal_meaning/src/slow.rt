@@ -1,6 +1,5 @@
 //! The plain program whose contract is the meaning of a plan.
-ghost use Rattle.std.specs.Prelude.{◌≡◌, map, Some, None, Err, slice_index_or, IfOk};
-ghost use Rattle.std.specs.Option.{option_map};
+ghost use Rattle.std.specs.Prelude.{◌≡◌, ◌++◌, ◌∷◌, [], map, Some, None, Err, slice_index_or, IfOk, OnOk};
 ghost use Rattle.cell_core.specs.declared.memory.RunError.TheVariants as RunError;
 ghost use Rattle.cell_core.specs.declared.cell.Cell.TheVariants.{Nil};
 ghost use Rattle.cell_core.specs.Pairs.{numbered};
@@ -8,20 +7,20 @@ ghost use Rattle.cell_core.specs.Relations.{column_cells};
 ghost use Rattle.mal_meaning.specs.Meaning.{arg_value, arg_values, column_pairs, bind_value, instr_value, plan_rows};
 ghost use Rattle.mal_meaning.specs.Runs.{run_values};
 
-use crate::columns::number;
+use crate::columns::{number, push_cell};
 use crate::operate::run;
-use crate::output::{copy_value, rows_of_output};
+use crate::output::{rows_of_output, value_of as value_in};
 use crate::plan::Plan;
 use cell_core::{Arg, Cell, Db, Instr, Memory, Op, RunError, Sequence, Value, Word, find_column};
 use std::alloc::Global;
 
-/// The cell at a place of a row, or Nil.
-fn cell_in(row: &[Cell], place: usize) -> Result<Cell, Memory>
-    ensures { IfOk result (λ cell. cell ≡ slice_index_or row.now place Nil) }
+/// Adds the cell at a place of a row, or Nil.
+fn push_cell_in(cells: &mut Sequence<Cell>, row: &[Cell], place: usize) -> Result<(), Memory>
+    ensures { OnOk result (cells.new ≡ cells.old ++ slice_index_or row.now place Nil ∷ []) }
 {
     match row.get(place) {
-        Some(cell) => cell.share(),
-        None => Ok(Cell::Nil),
+        Some(cell) => push_cell(cells, cell),
+        None => cells.push(Cell::Nil),
     }
 }
 
@@ -32,7 +31,7 @@ fn cells_at(alloc: Global, rows: &[Sequence<Cell>], place: usize) -> Result<Sequ
     let mut cells = Sequence::new(alloc);
     let mut rest = rows;
     'rows: while let [row, more @ ..] = rest {
-        cells.push(cell_in(row.as_slice(), place)?)?;
+        push_cell_in(&mut cells, row.as_slice(), place)?;
         rest = more;
     }
     Ok(cells)
@@ -65,7 +64,7 @@ fn bind(alloc: Global, db: &Db, args: &[Value]) -> Result<Option<Value>, Memory>
     let [
         Value::One(Cell::Text(table)),
         Value::One(Cell::Text(name)),
-        Value::One(Cell::Text(_)),
+        Value::One(Cell::Text(_kind)),
     ] = args
     else {
         return Ok(None);
@@ -77,20 +76,21 @@ fn bind(alloc: Global, db: &Db, args: &[Value]) -> Result<Option<Value>, Memory>
 fn value_of(alloc: Global, values: &[Value], arg: &Arg) -> Result<Option<Value>, Memory>
     ensures { IfOk result (λ value. value ≡ arg_value (map Some values.now) arg.now) }
 {
-    Ok(match arg {
-        Arg::Const(cell) => Some(Value::One(cell.share()?)),
-        Arg::Var(n) => match values.get(*n as usize) {
-            Some(value) => Some(copy_value(alloc, value)?),
-            None => None,
-        },
-    })
+    match arg {
+        Arg::Var(n) if *n as usize >= values.len() => Ok(None),
+        _ => Ok(Some(value_in(alloc, values, arg)?)),
+    }
 }
 
 /// The values of the arguments, if all have one.
-fn values_of(alloc: Global, values: &[Value], args: &[Arg]) -> Result<Option<Vec<Value>>, Memory>
-    ensures { IfOk result (λ found. option_map (λ v. v.items) found ≡ arg_values (map Some values.now) args.now) }
+fn values_of(
+    alloc: Global,
+    values: &[Value],
+    args: &[Arg],
+) -> Result<Option<Sequence<Value>>, Memory>
+    ensures { IfOk result (λ found. found ≡ arg_values (map Some values.now) args.now) }
 {
-    let mut found = Vec::new(alloc);
+    let mut found = Sequence::new(alloc);
     let mut rest = args;
     'args: while let [arg, more @ ..] = rest {
         let Some(value) = value_of(alloc, values, arg)? else {

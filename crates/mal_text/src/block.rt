@@ -1,7 +1,7 @@
 use cell_core::{Sequence, Word};
 
 /// An argument as it is written.
-#[derive(Debug, Drop)]
+#[derive(Debug)]
 pub enum Term {
     /// A word: `true`, `false`, `nil`, or the name of a variable.
     Name(Word),
@@ -17,8 +17,22 @@ pub enum Term {
     Oid(Word),
 }
 
+// By a call of its own, so that proofs needn't go through its forms where one is let go.
+impl Drop for Term {
+    fn drop(self) {
+        match self {
+            Term::Name(_)
+            | Term::Text(_)
+            | Term::Date(_)
+            | Term::Int(_, _)
+            | Term::Huge(_, _)
+            | Term::Oid(_) => {}
+        }
+    }
+}
+
 /// An instruction as it is written.
-#[derive(Debug, Drop)]
+#[derive(Debug)]
 pub struct Line {
     /// The variable that it assigns.
     pub name: Word,
@@ -30,8 +44,20 @@ pub struct Line {
     pub args: Sequence<Term>,
 }
 
+// By a call of its own, so that proofs needn't go through its forms where one is let go.
+impl Drop for Line {
+    fn drop(self) {
+        let Line {
+            name: _,
+            of_module: _,
+            function: _,
+            args: _,
+        } = self;
+    }
+}
+
 /// A key of the order as it is written.
-#[derive(Debug, Drop)]
+#[derive(Debug)]
 pub struct Key {
     /// The digits of a place among the columns, counted from 1.
     pub place: Word,
@@ -39,8 +65,18 @@ pub struct Key {
     pub ascending: bool,
 }
 
+// By a call of its own, so that proofs needn't go through its forms where one is let go.
+impl Drop for Key {
+    fn drop(self) {
+        let Key {
+            place: _,
+            ascending: _,
+        } = self;
+    }
+}
+
 /// A block as it is written.
-#[derive(Debug, Drop)]
+#[derive(Debug)]
 pub struct Block {
     /// Its name.
     pub name: Word,
@@ -54,4 +90,18 @@ pub struct Block {
     pub limit: Option<Word>,
     /// The arguments of `sql.output`.
     pub output: Option<Sequence<Term>>,
+}
+
+// By a call of its own, so that proofs needn't go through its forms where one is let go.
+impl Drop for Block {
+    fn drop(self) {
+        let Block {
+            name: _,
+            lines: _,
+            keep: _,
+            order: _,
+            limit: _,
+            output: _,
+        } = self;
+    }
 }

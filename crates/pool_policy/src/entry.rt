@@ -17,7 +17,6 @@ pub struct Who {
 }
 
 /// An entry of a pool.
-#[derive(Drop)]
 pub struct PoolEntry {
     /// Its id, from 1.
     pub id: u64,
@@ -39,6 +38,24 @@ pub struct PoolEntry {
     pub is_foreign: bool,
     /// Whether each session holds it, by the numbers of the sessions.
     pub pins: [bool; 17],
+}
+
+// By a call of its own, so that proofs needn't go through its forms where one is let go.
+impl Drop for PoolEntry {
+    fn drop(self) {
+        let PoolEntry {
+            id: _,
+            key: _,
+            value: _,
+            bytes: _,
+            stats: _,
+            by: _,
+            shape: _,
+            is_paid: _,
+            is_foreign: _,
+            pins: _,
+        } = self;
+    }
 }
 
 impl PoolEntry {

@@ -11,7 +11,7 @@ pub enum Admit {
 }
 
 /// The options of a pool.
-#[derive(Debug, Drop)]
+#[derive(Debug)]
 pub struct PoolOptions {
     /// How many entries there can be, at most 1,024.
     pub places: u64,
@@ -25,6 +25,20 @@ pub struct PoolOptions {
     pub admit: Admit,
     /// The credit that a shape starts with, where there are credits.
     pub credits: u64,
+}
+
+// By a call of its own, so that proofs needn't go through its forms where one is let go.
+impl Drop for PoolOptions {
+    fn drop(self) {
+        let PoolOptions {
+            places: _,
+            budget: _,
+            evict: _,
+            weights: _,
+            admit: _,
+            credits: _,
+        } = self;
+    }
 }
 
 /// What an admission answers.

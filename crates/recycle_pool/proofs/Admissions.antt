@@ -1,7 +1,8 @@
 -- What an admission is known by, from what its parts answer.
-use Rattle.std.proofs.Common.{◌≡◌, ℕ, ◌+◌, ◌-◌, ◌^◌, ◌≤◌, ◌<◌, List, [], ◌∷◌, ◌++◌, Bool, true, false, Option, Some, None, length-append, ap, sym, ◌∙◌, subst, arith, length}
+use Rattle.std.proofs.Common.{◌≡◌, ℕ, ◌+◌, ◌*◌, ◌-◌, ◌^◌, ◌≤◌, ◌<◌, List, [], ◌∷◌, ◌++◌, Bool, true, false, Option, Some, None, length-append, ap, sym, ◌∙◌, subst, arith, length}
 use Rattle.std.specs.Prelude.{if◌then◌else◌}
 use Rattle.std.specs.Option.{option_map_or}
+use Rattle.std.specs.Vec.{vec_capacity}
 use Rattle.lineage_key.specs.declared.shape.Shape.{Shape}
 use Rattle.lineage_key.specs.Parents.{parents_of}
 use Rattle.evict_admit.specs.Runs.{Run, given_up}
@@ -12,8 +13,10 @@ use Rattle.pool_policy.specs.Keyed.{shape_in}
 use Rattle.pool_policy.specs.Admits.{Offer, evictions_for, number_from, offer_bytes, rows_of}
 use Rattle.pool_policy.proofs.Fitting.{pools_fit_all}
 use Rattle.recycle_pool.specs.declared.pool.Pool.TheInside.{Inside}
+use Rattle.recycle_pool.specs.declared.lists.Lists.{Lists}
+use Rattle.recycle_pool.specs.Placed.{HasPlace}
 use Rattle.recycle_pool.specs.Usable.{IsNew, IsWeighable, credit_with, shapes_with}
-use Rattle.recycle_pool.specs.Views.{pool_shown, IsKept}
+use Rattle.recycle_pool.specs.Views.{pool_shown, HaveRoom, IsKept}
 use Rattle.recycle_pool.proofs.Answered.{IsShaped}
 
 -- a plan can be made
@@ -57,3 +60,25 @@ few_shapes p now shape on shapes known later is =
     go : (b : Bool) → length (if b then shapes_with shape p.shapes.items else p.shapes.items) ≤ length p.shapes.items + 1
     go true = by_number (number_from 1 shape p.shapes.items)
     go false = omega arith
+
+-- ## What is kept, by numbers alone
+
+pub no_less : (n : ℕ) → n ≤ n
+no_less n = omega arith
+
+pub ids_on : (next moment now : ℕ) → next ≤ 1024 * moment + 1 → moment < now → next ≤ 1024 * now + 1
+ids_on next moment now few later = omega (arith, few, later)
+
+pub one_id_more : (next moment now : ℕ) → next ≤ 1024 * moment + 1 → moment < now → next + 1 ≤ 1024 * now + 1
+one_id_more next moment now few later = omega (arith, few, later)
+
+-- the lists that a plan fills
+pub lists_on : (places : ℕ) (old new : Lists) → HaveRoom places old → new.touched ≡ old.touched → vec_capacity old.gone ≤ vec_capacity new.gone → vec_capacity old.rows ≤ vec_capacity new.rows → HaveRoom places new
+lists_on places old new known touched gone rows =
+    let same = ap (λ v. vec_capacity v) touched in
+    record { touched = omega (arith, same, known.touched); gone = omega (arith, known.gone, gone); rows = omega (arith, known.rows, rows) }
+
+-- a place for one entry more
+pub has_place : (places count entries prints children parents : ℕ) → count < places → places ≤ entries → 2 * places ≤ prints → places ≤ children → places ≤ parents → HasPlace count entries prints children parents
+has_place places count entries prints children parents low entry print child kin =
+    record { entry = omega (arith, low, entry); print = omega (arith, low, print); child = omega (arith, low, child); kin = omega (arith, low, kin) }

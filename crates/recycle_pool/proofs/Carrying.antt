@@ -1,5 +1,5 @@
 -- What a write leaves of a pool, step by step.
-use Rattle.std.proofs.Common.{◌≡◌, ℕ, ◌+◌, ◌^◌, ◌≤◌, ◌<◌, List, ◌++◌, not, ◌&&◌, ap, sym, ◌∙◌, subst, arith, length, map, length-append}
+use Rattle.std.proofs.Common.{◌≡◌, ℕ, ◌+◌, ◌*◌, ◌^◌, ◌≤◌, ◌<◌, List, ◌++◌, not, ◌&&◌, ap, sym, ◌∙◌, subst, arith, length, map, length-append}
 use Rattle.std.specs.Prelude.{filter}
 use Rattle.std.proofs.lemmas.List.{length-map}
 use Rattle.evict_admit.specs.Credits.{Credits}
@@ -68,6 +68,14 @@ module _ (p : Inside) (write : Touched) (now : ℕ) where
     pub places_left : length (left_without touched p.entries.items) + length news ≤ p.options.places
     places_left = let both = length-append (left_without touched p.entries.items) news in omega (arith, both, kept.places)
 
+    -- the same, by what the code reads
+    pub places_shown : (shown : List ℕ) (more : List PoolEntry) (count : ℕ) → shown ≡ touched → more ≡ news → count ≡ length more → length (left_without shown p.entries.items) + count ≤ p.options.places
+    places_shown shown more count t m is =
+        let left = ap (λ ids. length (left_without ids p.entries.items)) t in
+        let same = ap (λ (es : List PoolEntry). length es) m in
+        let places = places_left in
+        omega (arith, left, same, is, places)
+
     pub few_after : length after.entries ≤ p.options.places
     few_after = kept.places
 
@@ -99,3 +107,8 @@ forgotten p table columns gone left credit gone_is left_is credit_is =
 
 pub forgotten_keeps : (p : Inside) (table : List ℕ) (columns : List (List ℕ)) (new : PoolState) → IsKept p → new ≡ forget_of table columns (pool_shown p) → IsPool new
 forgotten_keeps p table columns new known is = subst IsPool (sym is) (forget_keeps table columns (pool_shown p) known.pool)
+
+-- ## What is kept, by numbers alone
+
+pub ids_back : (next back many moment now : ℕ) → next ≤ 1024 * moment + 1 → moment < now → back ≡ many → many ≤ 1024 → next + back ≤ 1024 * now + 1
+ids_back next back many moment now low later is few = omega (arith, low, later, is, few)

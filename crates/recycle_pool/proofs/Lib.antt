@@ -16,3 +16,8 @@ pub mod Carrying
 pub mod Contained
 pub mod Walks
 pub mod Beside
+pub mod Paying
+pub mod Rows
+pub mod Sums
+pub mod Started
+pub mod Pieces

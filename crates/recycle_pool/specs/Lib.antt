@@ -4,3 +4,4 @@ pub mod Usable
 pub mod Carries
 pub mod Named
 pub mod Indexed
+pub mod Placed

@@ -6,10 +6,10 @@ ghost use Rattle.pool_policy.specs.Keeps.{IsOffer};
 ghost use Rattle.recycle_pool.specs.Answers.{offer_in};
 ghost use Rattle.recycle_pool.specs.Usable.{IsNew};
 
-use crate::children::{add_child, take_children};
+use crate::exchange::exchange;
 use crate::offer::{Offered, bytes_of, first_missing, is_stale, new_entry};
 use crate::pool::Pool;
-use crate::room::{enter, is_spent, leave, left_bytes, pay, plan_room, wanted};
+use crate::room::{is_spent, make_room};
 use crate::shapes::give_number;
 use crate::uses::pin_id;
 use cell_core::Memory;
@@ -118,7 +118,6 @@ impl Pool {
         ensures moment { OnOk result (self.new.moment ≡ now) }
         ensures err { OnErr result (self.new ≡ self.old) }
     {
-        let bytes = bytes_of(&offered.key, &offered.value);
         let shape = give_number(
             &mut self.shapes,
             &mut self.ledger,
@@ -130,8 +129,8 @@ impl Pool {
         if is_spent(&self.ledger, shape) {
             return Ok(Admitted::NoCredit(shape));
         }
-        let want = wanted(self.entries.as_slice(), self.bytes, &self.options, bytes);
-        let enough = plan_room(
+        let bytes = bytes_of(&offered.key, &offered.value);
+        let (enough, left) = make_room(
             &mut self.lists,
             self.entries.as_slice(),
             self.parents.all(),
@@ -139,22 +138,24 @@ impl Pool {
             scorer,
             now,
             &offered.key,
-            want,
+            self.bytes,
+            bytes,
         );
-        let gone = self.lists.gone.as_slice();
-        let left = left_bytes(self.entries.as_slice(), self.bytes, gone);
         if !enough {
             return Ok(Admitted::NoRoom(left));
         }
         let id = self.next;
         let entry = new_entry(id, shape, offered, bytes, who, now);
-        leave(&mut self.entries, &mut self.ledger, gone);
-        take_children(&mut self.children, &mut self.parents, gone);
+        exchange(
+            &mut self.entries,
+            &mut self.ledger,
+            &mut self.keys,
+            &mut self.children,
+            &mut self.parents,
+            self.lists.gone.as_slice(),
+            entry,
+        );
         self.bytes = left + bytes;
-        pay(&mut self.ledger, shape);
-        self.keys.add(self.entries.as_slice(), &entry);
-        add_child(&mut self.children, &mut self.parents, &entry);
-        enter(&mut self.entries, entry);
         self.next = id + 1;
         let gone = self.lists.gone.len() as u64;
         Ok(Admitted::Taken { id, bytes, gone })

@@ -15,7 +15,6 @@ pub enum Found {
 }
 
 /// A piece of a range, and the selection that has it.
-#[derive(Drop)]
 pub struct Part {
     /// The id of the selection.
     pub id: u64,
@@ -23,4 +22,15 @@ pub struct Part {
     pub span: Span,
     /// The value of the selection.
     pub value: Shared,
+}
+
+// By a call of its own, so that proofs needn't go through its forms where one is let go.
+impl Drop for Part {
+    fn drop(self) {
+        let Part {
+            id: _,
+            span: _,
+            value: _,
+        } = self;
+    }
 }

@@ -16,11 +16,20 @@ use pool_policy::{PoolEntry, place_of_id, place_of_key};
 use std::alloc::Global;
 
 /// The ids of entries under the prints of their keys. Ids of entries that left may stand there too.
-#[derive(Drop)]
 pub(crate) struct Keys {
     pub(crate) prints: Prints,
     /// Whether no two entries had one print; where they had, each entry is looked at.
     pub(crate) is_sure: bool,
+}
+
+// By a call of its own, so that proofs needn't go through its forms where one is let go.
+impl Drop for Keys {
+    fn drop(self) {
+        let Keys {
+            prints: _,
+            is_sure: _,
+        } = self;
+    }
 }
 
 impl Keys {
@@ -60,10 +69,21 @@ impl Keys {
         ensures named { IsNamed self.new (entries.now ++ entry.now ∷ []) }
         ensures room { self.old.prints.room ≤ self.new.prints.room }
     {
+        self.make_place(entries);
+        self.put(entries, entry);
+    }
+
+    /// Afterwards there is a place for one name more.
+    fn make_place(&mut self, entries: &[PoolEntry])
+        requires named { IsNamed self.old entries.now }
+        requires room { length entries.now < self.old.prints.room }
+        ensures named { IsNamed self.new entries.now }
+        ensures place { length self.new.prints.names < self.new.prints.room }
+        ensures room { self.old.prints.room ≤ self.new.prints.room }
+    {
         if self.prints.is_full() {
             self.renew(entries);
         }
-        self.put(entries, entry);
     }
 
     /// Names these entries alone.

@@ -16,6 +16,7 @@ mod by_id;
 mod carried;
 mod children;
 mod covers;
+mod exchange;
 mod finding;
 mod found;
 mod keys;

@@ -6,7 +6,6 @@ use evict_admit::Row;
 use std::alloc::Global;
 
 /// Lists that a step fills, whose room is taken at the start: so that a write takes no memory.
-#[derive(Drop)]
 pub(crate) struct Lists {
     /// The ids of what is touched.
     pub(crate) touched: Vec<u64>,
@@ -14,6 +13,17 @@ pub(crate) struct Lists {
     pub(crate) gone: Vec<u64>,
     /// The entries as they are weighed.
     pub(crate) rows: Vec<Row>,
+}
+
+// By a call of its own, so that proofs needn't go through its forms where one is let go.
+impl Drop for Lists {
+    fn drop(self) {
+        let Lists {
+            touched: _,
+            gone: _,
+            rows: _,
+        } = self;
+    }
 }
 
 impl Lists {

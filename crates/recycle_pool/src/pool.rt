@@ -16,7 +16,6 @@ use std::alloc::Global;
 use std::marker::Model;
 
 /// Results that are kept, which contracts see as the state of the policy.
-#[derive(Drop)]
 pub struct Pool {
     pub(crate) options: PoolOptions,
     pub(crate) entries: Vec<PoolEntry>,
@@ -32,6 +31,25 @@ pub struct Pool {
     pub(crate) parents: Parents,
     /// The stated bytes of all entries.
     pub(crate) bytes: u64,
+}
+
+// By a call of its own, so that proofs needn't go through its forms where one is let go.
+impl Drop for Pool {
+    fn drop(self) {
+        let Pool {
+            options: _,
+            entries: _,
+            next: _,
+            moment: _,
+            shapes: _,
+            ledger: _,
+            lists: _,
+            keys: _,
+            children: _,
+            parents: _,
+            bytes: _,
+        } = self;
+    }
 }
 
 impl Model for Pool {

@@ -43,20 +43,24 @@ fn fill_rows(rows: &mut Vec<Row>, entries: &[PoolEntry], kin: &[Kin], key: &Key)
 {
     rows.clear();
     'rows: for i in 0..entries.len() {
-        let row = row_with(&entries[i], kin[i].parents, key);
-        if rows.push(row).is_err() {
-            unreachable!();
-        }
+        push_row(rows, row_with(&entries[i], kin[i].parents, key));
+    }
+}
+
+/// A row comes last, for which there is room.
+pub(crate) fn push_row(rows: &mut Vec<Row>, row: Row)
+    requires { vec_len rows.old < vec_capacity rows.old }
+    ensures items { rows.new.items ≡ rows.old.items ++ row ∷ [] }
+    ensures count { vec_len rows.new ≡ vec_len rows.old + 1 }
+    ensures room { vec_capacity rows.old ≤ vec_capacity rows.new }
+{
+    if rows.push(row).is_err() {
+        unreachable!();
     }
 }
 
 /// How many bytes and places are wanted for a new entry of so many bytes, beside the total of these.
-pub(crate) fn wanted(
-    entries: &[PoolEntry],
-    total: u64,
-    options: &PoolOptions,
-    bytes: u64,
-) -> (u128, u64)
+fn wanted(entries: &[PoolEntry], total: u64, options: &PoolOptions, bytes: u64) -> (u128, u64)
     requires few { length entries.now ≤ 1024 }
     ensures bytes { result.0 ≡ total + bytes - options.now.budget }
     ensures places { result.1 ≡ length entries.now + 1 - options.now.places }
@@ -76,7 +80,7 @@ fn is_nothing(need: u128, slots: u64) -> bool
 
 /// Lists which entries are given up for a new one, where so many bytes and places are wanted. Their
 /// parents stand beside them. Whether that is enough.
-pub(crate) fn plan_room(
+fn plan_room(
     lists: &mut Lists,
     entries: &[PoolEntry],
     kin: &[Kin],
@@ -108,7 +112,7 @@ pub(crate) fn plan_room(
 }
 
 /// The stated bytes of the entries whose ids aren't among these, where all have so many.
-pub(crate) fn left_bytes(entries: &[PoolEntry], all: u64, gone: &[u64]) -> u64
+fn left_bytes(entries: &[PoolEntry], all: u64, gone: &[u64]) -> u64
     requires all { all ≡ pool_bytes entries.now }
     requires small { all < 2 ^ 62 }
     ensures { result ≡ pool_bytes (left_without gone.now entries.now) }
@@ -123,6 +127,39 @@ pub(crate) fn left_bytes(entries: &[PoolEntry], all: u64, gone: &[u64]) -> u64
         }
     }
     total
+}
+
+/// Lists which entries go for a new one of so many bytes, beside the total of these, whose parents stand
+/// beside them. Whether that is enough, and how many bytes the others have.
+pub(crate) fn make_room(
+    lists: &mut Lists,
+    entries: &[PoolEntry],
+    kin: &[Kin],
+    options: &PoolOptions,
+    scorer: &Scorer,
+    now: u64,
+    key: &Key,
+    total: u64,
+    bytes: u64,
+) -> (bool, u64)
+    requires kind { scorer.now.kind ≡ options.now.evict }
+    requires weights { scorer.now.weights.items ≡ options.now.weights }
+    requires plan { IsWeighable now entries.now }
+    requires rows { length entries.now ≤ vec_capacity lists.old.rows }
+    requires gone { length entries.now ≤ vec_capacity lists.old.gone }
+    requires kin { kin.now ≡ map kin_of entries.now }
+    requires all { total ≡ pool_bytes entries.now }
+    requires small { total < 2 ^ 62 }
+    ensures plan { (lists.new.gone.items, result.0) ≡ given_up (score_at options.now now) (rows_of (parents_of key.now) entries.now) (total + bytes - options.now.budget) (length entries.now + 1 - options.now.places) }
+    ensures left { result.1 ≡ pool_bytes (left_without lists.new.gone.items entries.now) }
+    ensures gone_room { vec_capacity lists.old.gone ≤ vec_capacity lists.new.gone }
+    ensures rows_room { vec_capacity lists.old.rows ≤ vec_capacity lists.new.rows }
+    ensures touched { lists.new.touched ≡ lists.old.touched }
+{
+    let want = wanted(entries, total, options, bytes);
+    let enough = plan_room(lists, entries, kin, options, scorer, now, key, want);
+    let left = left_bytes(entries, total, lists.gone.as_slice());
+    (enough, left)
 }
 
 /// Whether the entry leaves, and pays its credit back then.

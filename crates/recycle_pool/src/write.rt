@@ -4,11 +4,10 @@ ghost use Rattle.pool_policy.specs.WriteLaws.{IsWrite};
 ghost use Rattle.recycle_pool.specs.Carries.{IsCarried};
 
 use crate::carried::Carried;
-use crate::children::{renew_children, take_children};
+use crate::exchange::{bring_back, give_up};
 use crate::pool::Pool;
-use crate::room::leave;
 use crate::uses::total_bytes;
-use crate::written::{enter_all, plan_last, take_touched};
+use crate::written::plan_last;
 use cell_core::Word;
 use pool_policy::{Touched, note_touched};
 use score_hook::Scorer;
@@ -24,12 +23,9 @@ impl Pool {
             table,
             columns,
         );
-        leave(
+        give_up(
             &mut self.entries,
             &mut self.ledger,
-            self.lists.touched.as_slice(),
-        );
-        take_children(
             &mut self.children,
             &mut self.parents,
             self.lists.touched.as_slice(),
@@ -59,35 +55,39 @@ impl Pool {
         ensures options { self.new.options ≡ self.old.options }
         ensures moment { self.new.moment ≡ now }
     {
-        let Carried {
-            ids,
-            entries,
-            work: _,
-        } = carried;
         note_touched(
             &mut self.lists.touched,
             self.entries.as_slice(),
             &touched.table,
             touched.columns.as_slice(),
         );
-        take_touched(
+        let back = carried.ids.len() as u64;
+        let dropped = (self.lists.touched.len() as u64).saturating_sub(back);
+        bring_back(
             &mut self.entries,
             &mut self.ledger,
+            &mut self.keys,
+            &mut self.children,
+            &mut self.parents,
             self.lists.touched.as_slice(),
-            ids.as_slice(),
+            carried,
         );
-        enter_all(&mut self.entries, entries);
-        let entered = self.entries.as_slice();
-        self.keys.renew(entered);
-        renew_children(&mut self.children, &mut self.parents, entered);
-        let back = ids.len() as u64;
-        let dropped = (self.lists.touched.len() as u64).saturating_sub(back);
         self.next += back;
         self.moment = now;
-        plan_last(&mut self.lists, entered, &self.options, scorer, now);
-        let gone = self.lists.gone.as_slice();
-        leave(&mut self.entries, &mut self.ledger, gone);
-        take_children(&mut self.children, &mut self.parents, gone);
+        plan_last(
+            &mut self.lists,
+            self.entries.as_slice(),
+            &self.options,
+            scorer,
+            now,
+        );
+        give_up(
+            &mut self.entries,
+            &mut self.ledger,
+            &mut self.children,
+            &mut self.parents,
+            self.lists.gone.as_slice(),
+        );
         self.bytes = total_bytes(self.entries.as_slice());
         (dropped, self.lists.gone.len() as u64)
     }

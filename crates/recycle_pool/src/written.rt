@@ -8,7 +8,7 @@ ghost use Rattle.pool_policy.specs.Admits.{left_without, pays_at_end, rows_of};
 ghost use Rattle.recycle_pool.specs.Usable.{IsOwed, IsWeighable};
 
 use crate::lists::Lists;
-use crate::room::take_out;
+use crate::room::{push_row, take_out};
 use crate::uses::pay_if;
 use evict_admit::{Ledger, Row, plan_evictions};
 use pool_policy::{PoolEntry, PoolOptions, is_among};
@@ -84,9 +84,7 @@ fn fill_rows_alone(rows: &mut Vec<Row>, entries: &[PoolEntry])
 {
     rows.clear();
     'rows: for i in 0..entries.len() {
-        if rows.push(entries[i].row_alone()).is_err() {
-            unreachable!();
-        }
+        push_row(rows, entries[i].row_alone());
     }
 }
 

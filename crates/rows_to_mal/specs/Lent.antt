@@ -3,7 +3,9 @@ use Rattle.std.specs.Prelude.{ℕ, ◌==◌, List, Bool, true, false, Option, So
 use Rattle.std.specs.List.{list_any}
 use Rattle.cell_core.specs.declared.operator.Arg.{Arg}
 use Rattle.cell_core.specs.declared.operator.Arg.TheVariants.{Var}
-use Rattle.sql_tree.specs.Tree.{expr_tree}
+use Rattle.sql_tree.specs.Tree.{CondTree, expr_tree}
+use Rattle.sql_tree.specs.Tree.{CondTree as tree}
+use Rattle.sql_tree.specs.declared.tree.CmpOp.TheVariants as cmp
 use Rattle.sql_semantics.specs.declared.source.Source.{Source}
 use Rattle.mal_emit.specs.Emitters.{Emitter}
 use Rattle.rows_to_mal.specs.declared.reading.Range.{Range}
@@ -25,6 +27,13 @@ abbrev pub is_within : ColumnCond → Bool
 is_within (Within leaf) = true
 is_within (Outside leaf) = false
 is_within (Either left right) = false
+
+-- a condition that is a range itself where it is of one column
+abbrev pub is_ranged : CondTree → Bool
+is_ranged (tree.Compare cmp.Ne left right) = false
+is_ranged (tree.Compare operator left right) = true
+is_ranged (tree.Within of low high) = true
+is_ranged _ = false
 
 -- the candidates by these column conditions, behind those that were met so far: the number of their candidates, or none where none was met
 abbrev pub candidates_from : Source → Option ℕ → List (ℕ × ColumnCond) → Emitter Arg

@@ -3,14 +3,13 @@ ghost use Rattle.std.specs.Prelude.{◌≡◌, ℕ, List, [], ◌∷◌, map, So
 ghost use Rattle.cell_core.specs.declared.operator.Arg.TheVariants.{Var};
 ghost use Rattle.std.specs.Option.{option_map, option_and_then};
 ghost use Rattle.cell_core.specs.declared.operator.Op.TheVariants as op;
-ghost use Rattle.sql_tree.specs.Tree.{CondTree, cond_tree};
+ghost use Rattle.sql_tree.specs.Tree.{CondTree, expr_tree, cond_tree};
 ghost use Rattle.mal_emit.specs.Emitters.{emits, followed};
 ghost use Rattle.rows_to_mal.specs.Candidates.{ColumnCond, select_leaf as select_leaf_of, leaf_rows as leaf_rows_of, cond_rows as cond_rows_of, narrowed as narrowed_of, candidates as candidates_of};
 ghost use Rattle.rows_to_mal.specs.Candidates.ColumnCond.{Within, Outside};
-ghost use Rattle.sql_semantics.specs.Sources.{NamedSource};
 ghost use Rattle.rows_to_mal.specs.Parts.{conds_of};
-ghost use Rattle.rows_to_mal.specs.Lent.{leaf_of, placed_leaf, is_within, candidates_from};
-ghost use Rattle.rows_to_mal.specs.Reading.{placed, read_cond};
+ghost use Rattle.rows_to_mal.specs.Lent.{leaf_of, placed_leaf, is_ranged, candidates_from};
+ghost use Rattle.rows_to_mal.specs.Reading.{placed, read_test, read_cond};
 
 use crate::joins::{all_rows, constant};
 use crate::reading::Range;
@@ -18,7 +17,7 @@ use crate::tables::{Tables, bind};
 use cell_core::{Arg, Cell, Instr, Memory, Op, Sequence};
 use mal_emit::{emit, selects};
 use sql_semantics::Source;
-use sql_tree::{CmpOp, Cond};
+use sql_tree::{CmpOp, Cond, Expr};
 use std::alloc::Global;
 
 /// Adds the pairs of a bind that lie in a range.
@@ -130,7 +129,56 @@ fn outside(
 }
 
 impl<'a> Tables<'a> {
+    /// Adds the pairs of a column for which a comparison with a constant is true.
+    fn compared_rows(
+        &self,
+        alloc: Global,
+        instrs: &mut Sequence<Instr>,
+        source: &Source,
+        place: usize,
+        op: CmpOp,
+        left: &Expr,
+        right: &Expr,
+    ) -> Result<u32, Memory>
+        requires { IsSome (read_test self.now.called op (expr_tree left.now) (expr_tree right.now)) }
+        ensures { IfOk result (λ number. (at : (ℕ × ℕ) × ColumnCond) → read_test self.now.called op (expr_tree left.now) (expr_tree right.now) ≡ Some at → (instrs.new, Var number) ≡ (cond_rows_of source.now place at.1).run instrs.old) }
+    {
+        match op {
+            CmpOp::Ne => {
+                let found = self.compared(CmpOp::Eq, left, right);
+                outside(alloc, instrs, source, place, found)
+            }
+            CmpOp::Eq | CmpOp::Lt | CmpOp::Le | CmpOp::Gt | CmpOp::Ge => {
+                let found = self.compared(op, left, right);
+                inside(alloc, instrs, source, place, found)
+            }
+        }
+    }
+
+    /// Adds pairs of a column, and those for which a condition of it is true.
+    #[cycle(cond_rows)]
+    fn and_rows(
+        &self,
+        alloc: Global,
+        instrs: &mut Sequence<Instr>,
+        source: &Source,
+        place: usize,
+        pairs: u32,
+        cond: &Cond,
+    ) -> Result<u32, Memory>
+        requires { IsSome (read_cond self.now.called (cond_tree cond.now)) }
+        ensures { IfOk result (λ number. (at : (ℕ × ℕ) × ColumnCond) → read_cond self.now.called (cond_tree cond.now) ≡ Some at → (instrs.new, Var number) ≡ (followed (cond_rows_of source.now place at.1) (λ b. emits op.Kunion (Var pairs ∷ b ∷ []))).run instrs.old) }
+    {
+        let more = self.cond_rows(alloc, instrs, source, place, cond)?;
+        emit(
+            instrs,
+            Op::Kunion,
+            vec![in alloc; Arg::Var(pairs), Arg::Var(more)]?,
+        )
+    }
+
     /// Adds the pairs of a column for which a condition of one column is true.
+    #[cycle(cond_rows)]
     pub(crate) fn cond_rows(
         &self,
         alloc: Global,
@@ -143,35 +191,19 @@ impl<'a> Tables<'a> {
         ensures { IfOk result (λ number. (at : (ℕ × ℕ) × ColumnCond) → read_cond self.now.called (cond_tree cond.now) ≡ Some at → (instrs.new, Var number) ≡ (cond_rows_of source.now place at.1).run instrs.old) }
     {
         match cond {
-            Cond::Cmp { op, left, right } => match op {
-                CmpOp::Ne => {
-                    let found = self.compared(CmpOp::Eq, left, right);
-                    outside(alloc, instrs, source, place, found)
-                }
-                CmpOp::Eq | CmpOp::Lt | CmpOp::Le | CmpOp::Gt | CmpOp::Ge => {
-                    inside(
-                        alloc,
-                        instrs,
-                        source,
-                        place,
-                        self.compared(*op, left, right),
-                    )
-                }
-            },
+            Cond::Cmp { op, left, right } => {
+                self.compared_rows(alloc, instrs, source, place, *op, left, right)
+            }
             Cond::Between { .. } => inside(alloc, instrs, source, place, self.range(cond)),
             Cond::Not(of) => outside(alloc, instrs, source, place, self.range(of)),
             Cond::Or(left, right) => {
-                let x = self.cond_rows(alloc, instrs, source, place, left)?;
-                let y = self.cond_rows(alloc, instrs, source, place, right)?;
-                emit(
-                    instrs,
-                    Op::Kunion,
-                    vec![in alloc; Arg::Var(x), Arg::Var(y)]?,
-                )
+                let pairs = self.cond_rows(alloc, instrs, source, place, left)?;
+                self.and_rows(alloc, instrs, source, place, pairs, right)
             }
             Cond::IsNull(_) | Cond::And(_, _) => unreachable!(),
         }
     }
+
     /// The place of the column that a conjunct is a condition of, where that is one of this table.
     pub(crate) fn place_in(&self, table: usize, cond: &Cond) -> Option<usize>
         ensures { result ≡ option_and_then (λ at. if at.0.0 == table then Some at.0.1 else None) (read_cond self.now.called (cond_tree cond.now)) }
@@ -203,6 +235,22 @@ impl<'a> Tables<'a> {
         )
     }
 
+    /// Adds the rows for which a condition of one column is true.
+    fn mirrored(
+        &self,
+        alloc: Global,
+        instrs: &mut Sequence<Instr>,
+        source: &Source,
+        place: usize,
+        cond: &Cond,
+    ) -> Result<u32, Memory>
+        requires { IsSome (read_cond self.now.called (cond_tree cond.now)) }
+        ensures { IfOk result (λ number. (at : (ℕ × ℕ) × ColumnCond) → read_cond self.now.called (cond_tree cond.now) ≡ Some at → (instrs.new, Var number) ≡ (followed (cond_rows_of source.now place at.1) (λ s. emits op.Mirror (s ∷ []))).run instrs.old) }
+    {
+        let rows = self.cond_rows(alloc, instrs, source, place, cond)?;
+        emit(instrs, Op::Mirror, vec![in alloc; Arg::Var(rows)]?)
+    }
+
     /// Adds the candidates of a table whose first column condition is this one.
     fn first_candidates(
         &self,
@@ -216,8 +264,7 @@ impl<'a> Tables<'a> {
         ensures { IfOk result (λ number. (at : (ℕ × ℕ) × ColumnCond) (more : List (ℕ × ColumnCond)) → read_cond self.now.called (cond_tree cond.now) ≡ Some at → (narrowed_of source.now (Var number) more).run instrs.new ≡ (candidates_of source.now ((place, at.1) ∷ more)).run instrs.old) }
     {
         if is_range(cond) {
-            let rows = self.cond_rows(alloc, instrs, source, place, cond)?;
-            emit(instrs, Op::Mirror, vec![in alloc; Arg::Var(rows)]?)
+            self.mirrored(alloc, instrs, source, place, cond)
         } else {
             let all = all_rows(alloc, instrs, source)?;
             self.semijoin(alloc, instrs, source, place, all, cond)
@@ -273,7 +320,7 @@ impl<'a> Tables<'a> {
 
 /// Whether a column condition is a range itself, and no NOT or OR.
 fn is_range(cond: &Cond) -> bool
-    ensures { (sources : List NamedSource) (at : (ℕ × ℕ) × ColumnCond) → read_cond sources (cond_tree cond.now) ≡ Some at → result ≡ is_within at.1 }
+    ensures { result ≡ is_ranged (cond_tree cond.now) }
 {
     match cond {
         Cond::Cmp { op, .. } => match op {

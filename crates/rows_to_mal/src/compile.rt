@@ -22,12 +22,19 @@ use sql_tree::{Cond, Expr, FromItem, Stmt};
 use std::alloc::Global;
 
 /// The rows that a statement keeps.
-#[derive(Debug, Drop)]
+#[derive(Debug)]
 pub struct Rows {
     /// The instructions.
     pub instrs: Sequence<Instr>,
     /// For each table of the statement, the number of the instruction that gives the oids of its rows.
     pub rows: Vec<u32>,
+}
+
+// By a call of its own, so that proofs needn't go through its forms where one is let go.
+impl Drop for Rows {
+    fn drop(self) {
+        let Rows { instrs: _, rows: _ } = self;
+    }
 }
 
 /// The tables of FROM, under the names that the query calls them.

@@ -1,12 +1,15 @@
 //! The truth of conditions over the rows so far, and the rows that they keep.
-ghost use Rattle.std.specs.Prelude.{◌≡◌, [], ◌∷◌, IfOk};
-ghost use Rattle.cell_core.specs.declared.operator.Arg.TheVariants.{Var};
+ghost use Rattle.std.specs.Prelude.{◌≡◌, [], ◌∷◌, true, IfOk};
+ghost use Rattle.cell_core.specs.declared.cell.Cell.TheVariants.{Bit};
+ghost use Rattle.cell_core.specs.declared.operator.Arg.TheVariants.{Const, Var};
 ghost use Rattle.sql_tree.specs.Tree.{expr_tree, cond_tree};
+ghost use Rattle.sql_tree.specs.Tree.CondTree.{Within};
 ghost use Rattle.mal_emit.specs.Emitters.{emits, followed};
-ghost use Rattle.mal_emit.specs.Phrases.{variables, keep as keep_of};
+ghost use Rattle.mal_emit.specs.Phrases.{variables, selects, keep as keep_of};
 ghost use Rattle.rows_to_mal.specs.Conjuncts.{expr_value, comparison_of, cond_value as cond_value_of, is_cond_alone as is_cond_alone_tree, spread_value as spread_value_of, keep_true as keep_true_of};
 
-use crate::tables::{Tables, is_alone};
+use crate::operators::{one, two};
+use crate::tables::{Tables, is_alone, row_at};
 use cell_core::{Arg, Cell, Instr, Memory, Op, Sequence};
 use mal_emit::{counted, emit, gather};
 use sql_tree::{CmpOp, Cond, Expr};
@@ -41,28 +44,6 @@ pub fn is_cond_alone(cond: &Cond) -> bool
     }
 }
 
-/// Adds an operator of one value.
-fn one(alloc: Global, instrs: &mut Sequence<Instr>, op: Op, of: Arg) -> Result<Arg, Memory>
-    ensures { IfOk result (λ arg. (instrs.new, arg) ≡ (emits op (of ∷ [])).run instrs.old) }
-{
-    let number = emit(instrs, op, vec![in alloc; of]?)?;
-    Ok(Arg::Var(number))
-}
-
-/// Adds an operator of two values.
-fn two(
-    alloc: Global,
-    instrs: &mut Sequence<Instr>,
-    op: Op,
-    left: Arg,
-    right: Arg,
-) -> Result<Arg, Memory>
-    ensures { IfOk result (λ arg. (instrs.new, arg) ≡ (emits op (left ∷ right ∷ [])).run instrs.old) }
-{
-    let number = emit(instrs, op, vec![in alloc; left, right]?)?;
-    Ok(Arg::Var(number))
-}
-
 /// Adds a truth for each row so far, where there is one for all of them.
 fn spread_value(
     alloc: Global,
@@ -74,14 +55,25 @@ fn spread_value(
     ensures { IfOk result (λ arg. (instrs.new, arg) ≡ (spread_value_of (variables rows.now) alone value).run instrs.old) }
 {
     if alone {
-        let row = match rows.get(0) {
-            Some(row) => Arg::Var(*row),
-            None => Arg::Const(Cell::Nil),
-        };
-        two(alloc, instrs, Op::Project, row, value)
+        two(alloc, instrs, Op::Project, row_at(rows, 0), value)
     } else {
         Ok(value)
     }
+}
+
+/// Adds the pairs of a BAT whose tail is true.
+fn selected(alloc: Global, instrs: &mut Sequence<Instr>, value: Arg) -> Result<u32, Memory>
+    ensures { IfOk result (λ number. (instrs.new, Var number) ≡ (selects value (Const (Bit true)) (Const (Bit true)) true true).run instrs.old) }
+{
+    let low = Arg::Const(Cell::Bit(true));
+    let high = Arg::Const(Cell::Bit(true));
+    let li = Arg::Const(Cell::Bit(true));
+    let hi = Arg::Const(Cell::Bit(true));
+    emit(
+        instrs,
+        Op::Select,
+        vec![in alloc; value, low, high, li, hi]?,
+    )
 }
 
 /// Adds the rows so far whose value is true.
@@ -93,16 +85,8 @@ fn keep(
 ) -> Result<Vec<u32>, Memory>
     ensures { IfOk result (λ kept. (instrs.new, variables kept.items) ≡ (keep_of value (variables rows.now)).run instrs.old) }
 {
-    let low = Arg::Const(Cell::Bit(true));
-    let high = Arg::Const(Cell::Bit(true));
-    let li = Arg::Const(Cell::Bit(true));
-    let hi = Arg::Const(Cell::Bit(true));
-    let selected = emit(
-        instrs,
-        Op::Select,
-        vec![in alloc; value, low, high, li, hi]?,
-    )?;
-    let by = counted(alloc, instrs, selected)?;
+    let kept = selected(alloc, instrs, value)?;
+    let by = counted(alloc, instrs, kept)?;
     gather(alloc, instrs, by, rows)
 }
 
@@ -120,11 +104,45 @@ impl<'a> Tables<'a> {
         ensures { IfOk result (λ arg. (instrs.new, arg) ≡ (followed (expr_value self.now (variables rows.now) (expr_tree left.now)) (λ x. followed (expr_value self.now (variables rows.now) (expr_tree right.now)) (λ y. emits op (x ∷ y ∷ [])))).run instrs.old) }
     {
         let x = self.expr_value(alloc, instrs, rows, left)?;
-        let y = self.expr_value(alloc, instrs, rows, right)?;
-        two(alloc, instrs, op, x, y)
+        self.with_value(alloc, instrs, rows, op, x, right)
+    }
+
+    /// Adds whether a value lies between two others, both included.
+    fn between(
+        &self,
+        alloc: Global,
+        instrs: &mut Sequence<Instr>,
+        rows: &[u32],
+        of: &Expr,
+        low: &Expr,
+        high: &Expr,
+    ) -> Result<Arg, Memory>
+        ensures { IfOk result (λ arg. (instrs.new, arg) ≡ (cond_value_of self.now (variables rows.now) (Within (expr_tree of.now) (expr_tree low.now) (expr_tree high.now))).run instrs.old) }
+    {
+        let above = self.both(alloc, instrs, rows, Op::Ge, of, low)?;
+        let below = self.both(alloc, instrs, rows, Op::Le, of, high)?;
+        two(alloc, instrs, Op::And, above, below)
+    }
+
+    /// Adds an operator of a truth and the truth of a condition.
+    #[cycle(cond_value)]
+    fn with_truth(
+        &self,
+        alloc: Global,
+        instrs: &mut Sequence<Instr>,
+        rows: &[u32],
+        op: Op,
+        left: Arg,
+        right: &Cond,
+    ) -> Result<Arg, Memory>
+        ensures { IfOk result (λ arg. (instrs.new, arg) ≡ (followed (cond_value_of self.now (variables rows.now) (cond_tree right.now)) (λ y. emits op (left ∷ y ∷ []))).run instrs.old) }
+    {
+        let right = self.cond_value(alloc, instrs, rows, right)?;
+        two(alloc, instrs, op, left, right)
     }
 
     /// Adds the truth of a condition for each row so far, or one for all of them.
+    #[cycle(cond_value)]
     pub fn cond_value(
         &self,
         alloc: Global,
@@ -138,11 +156,7 @@ impl<'a> Tables<'a> {
             Cond::Cmp { op, left, right } => {
                 self.both(alloc, instrs, rows, comparison(*op), left, right)
             }
-            Cond::Between { of, low, high } => {
-                let above = self.both(alloc, instrs, rows, Op::Ge, of, low)?;
-                let below = self.both(alloc, instrs, rows, Op::Le, of, high)?;
-                two(alloc, instrs, Op::And, above, below)
-            }
+            Cond::Between { of, low, high } => self.between(alloc, instrs, rows, of, low, high),
             Cond::IsNull(of) => {
                 let x = self.expr_value(alloc, instrs, rows, of)?;
                 one(alloc, instrs, Op::IsNil, x)
@@ -153,13 +167,11 @@ impl<'a> Tables<'a> {
             }
             Cond::And(left, right) => {
                 let x = self.cond_value(alloc, instrs, rows, left)?;
-                let y = self.cond_value(alloc, instrs, rows, right)?;
-                two(alloc, instrs, Op::And, x, y)
+                self.with_truth(alloc, instrs, rows, Op::And, x, right)
             }
             Cond::Or(left, right) => {
                 let x = self.cond_value(alloc, instrs, rows, left)?;
-                let y = self.cond_value(alloc, instrs, rows, right)?;
-                two(alloc, instrs, Op::Or, x, y)
+                self.with_truth(alloc, instrs, rows, Op::Or, x, right)
             }
         }
     }

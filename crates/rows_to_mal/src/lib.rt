@@ -14,6 +14,7 @@ mod compile;
 mod conditions;
 mod joins;
 mod laws;
+mod operators;
 mod parts;
 mod reading;
 mod rows;

@@ -3,7 +3,7 @@ ghost use Rattle.std.specs.Prelude.{◌≡◌, ◌&&◌, ◌==◌, if◌then◌e
 ghost use Rattle.std.specs.Option.{option_map};
 ghost use Rattle.sql_tree.specs.Tree.{expr_tree, cond_tree};
 ghost use Rattle.rows_to_mal.specs.Lent.{leaf_of, placed_leaf};
-ghost use Rattle.rows_to_mal.specs.Reading.{column_of, is_known as is_known_tree, left_leaf, right_leaf, read_compare, read_leaf, read_test, read_cond};
+ghost use Rattle.rows_to_mal.specs.Reading.{both, column_of, is_known as is_known_tree, left_leaf, right_leaf, read_compare, read_leaf, read_test, read_cond};
 
 use crate::tables::Tables;
 use cell_core::Cell;
@@ -87,13 +87,9 @@ impl<'a> Tables<'a> {
         ensures { option_map placed_leaf result ≡ read_compare self.now.called op (expr_tree left.now) (expr_tree right.now) }
     {
         if is_known(right) {
-            let place = self.column_at(left)?;
-            let range = left_range(op, right)?;
-            Some((place, range))
+            beside(self.column_at(left), left_range(op, right))
         } else if is_known(left) {
-            let place = self.column_at(right)?;
-            let range = right_range(op, left)?;
-            Some((place, range))
+            beside(self.column_at(right), right_range(op, left))
         } else {
             None
         }
@@ -107,8 +103,7 @@ impl<'a> Tables<'a> {
             Cond::Cmp { op, left, right } => self.compared(*op, left, right),
             Cond::Between { of, low, high } => {
                 if is_known(low) && is_known(high) {
-                    let place = self.column_at(of)?;
-                    Some((place, Range::Between(low, high)))
+                    beside(self.column_at(of), Some(Range::Between(low, high)))
                 } else {
                     None
                 }
@@ -148,6 +143,16 @@ impl<'a> Tables<'a> {
             Cond::IsNull(_) | Cond::And(_, _) => None,
         }
     }
+}
+
+/// A column and its range, where both are there.
+fn beside<'e>(
+    place: Option<(usize, usize)>,
+    range: Option<Range<'e>>,
+) -> Option<((usize, usize), Range<'e>)>
+    ensures { option_map placed_leaf result ≡ both place (option_map leaf_of range.entry) }
+{
+    Some((place?, range?))
 }
 
 /// The column, of a column and a range.

@@ -1,18 +1,19 @@
 //! The tables of a statement, and the values of expressions over their rows so far.
-ghost use Rattle.std.specs.Prelude.{◌≡◌, [], ◌∷◌, IfOk};
-ghost use Rattle.cell_core.specs.declared.cell.Cell.TheVariants.{Text};
+ghost use Rattle.std.specs.Prelude.{◌≡◌, [], ◌∷◌, get_or, IfOk};
+ghost use Rattle.cell_core.specs.declared.cell.Cell.TheVariants.{Nil, Text};
 ghost use Rattle.cell_core.specs.declared.operator.Op.TheVariants as op;
 ghost use Rattle.cell_core.specs.declared.operator.Arg.TheVariants.{Const, Var};
 ghost use Rattle.sql_tree.specs.Tree.{expr_tree};
 ghost use Rattle.sql_tree.specs.Tree.ExprTree.{ColumnOf};
 ghost use Rattle.sql_semantics.specs.Found.{place_found};
 ghost use Rattle.sql_semantics.specs.Sources.{place_of};
-ghost use Rattle.mal_emit.specs.Emitters.{emits};
+ghost use Rattle.mal_emit.specs.Emitters.{emits, followed};
 ghost use Rattle.mal_emit.specs.Phrases.{variables};
 ghost use Rattle.rows_to_mal.specs.Candidates.{kind_word, bind as bind_of, calc_of};
 ghost use Rattle.rows_to_mal.specs.Joins.{column_value as column_value_of};
 ghost use Rattle.rows_to_mal.specs.Conjuncts.{no_source, place_value as place_value_of, expr_value as expr_value_of, is_alone as is_alone_tree};
 
+use crate::operators::two;
 use cell_core::{Arg, Cell, Column, Instr, Kind, Memory, Op, Sequence, Word, word_of};
 use mal_emit::emit;
 use sql_semantics::{Called, Found, Source, find_column};
@@ -96,7 +97,25 @@ impl<'a> Tables<'a> {
         self.place_value(alloc, instrs, rows, self.place(column))
     }
 
+    /// Adds an operator of a value and the value of an expression.
+    #[cycle(expr_value)]
+    pub(crate) fn with_value(
+        &self,
+        alloc: Global,
+        instrs: &mut Sequence<Instr>,
+        rows: &[u32],
+        op: Op,
+        left: Arg,
+        right: &Expr,
+    ) -> Result<Arg, Memory>
+        ensures { IfOk result (λ arg. (instrs.new, arg) ≡ (followed (expr_value_of self.now (variables rows.now) (expr_tree right.now)) (λ y. emits op (left ∷ y ∷ []))).run instrs.old) }
+    {
+        let right = self.expr_value(alloc, instrs, rows, right)?;
+        two(alloc, instrs, op, left, right)
+    }
+
     /// Adds an expression's value for each row so far, or one for all of them.
+    #[cycle(expr_value)]
     pub fn expr_value(
         &self,
         alloc: Global,
@@ -108,12 +127,10 @@ impl<'a> Tables<'a> {
     {
         match expr {
             Expr::Lit(cell) => Ok(Arg::Const(cell.share()?)),
-            Expr::Col(column) => self.place_value(alloc, instrs, rows, self.place(column)),
+            Expr::Col(column) => self.column(alloc, instrs, rows, column),
             Expr::Arith { op, left, right } => {
                 let x = self.expr_value(alloc, instrs, rows, left)?;
-                let y = self.expr_value(alloc, instrs, rows, right)?;
-                let number = emit(instrs, calc(*op), vec![in alloc; x, y]?)?;
-                Ok(Arg::Var(number))
+                self.with_value(alloc, instrs, rows, calc(*op), x, right)
             }
             Expr::Agg { of: None, .. } => Ok(Arg::Const(Cell::Nil)),
             Expr::Agg { of: Some(_), .. } => Ok(Arg::Const(Cell::Nil)),
@@ -186,6 +203,16 @@ pub(crate) fn bind(
     }
 }
 
+/// The BAT of the rows so far of the table with this number.
+pub(crate) fn row_at(rows: &[u32], number: usize) -> Arg
+    ensures { result ≡ get_or (variables rows.now) number (Const Nil) }
+{
+    match rows.get(number) {
+        Some(row) => Arg::Var(*row),
+        None => Arg::Const(Cell::Nil),
+    }
+}
+
 /// Adds a column of the table with this number, by the rows so far.
 fn column_value(
     alloc: Global,
@@ -198,10 +225,7 @@ fn column_value(
     ensures { IfOk result (λ found. (instrs.new, Var found) ≡ (column_value_of (variables rows.now) number source.now place).run instrs.old) }
 {
     let column = bind(alloc, instrs, source, place)?;
-    let row = match rows.get(number) {
-        Some(row) => Arg::Var(*row),
-        None => Arg::Const(Cell::Nil),
-    };
+    let row = row_at(rows, number);
     emit(instrs, Op::Join, vec![in alloc; row, Arg::Var(column)]?)
 }
 

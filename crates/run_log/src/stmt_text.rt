@@ -9,12 +9,18 @@ use std::marker::Model;
 use std::snapshot::Snapshot;
 
 /// A statement as the log keeps it: its canonical text. Contracts see the statement that it is the text of.
-#[derive(Drop)]
 #[derive_where(Debug)]
 pub struct StmtText {
     text: Vec<u8>,
     #[derive_where(skip)]
     stmt: Snapshot<Stmt>,
+}
+
+// By a call of its own, so that proofs needn't go through its forms where one is let go.
+impl Drop for StmtText {
+    fn drop(self) {
+        let StmtText { text: _, stmt: _ } = self;
+    }
 }
 
 impl Model for StmtText {

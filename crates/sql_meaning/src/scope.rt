@@ -113,7 +113,7 @@ fn truth(
         }
         Cond::IsNull(of) => {
             let x = cell_in(alloc, sources, scope, of)?;
-            Ok(Cell::Bit(matches!(x, Cell::Nil)))
+            Ok(Cell::Bit(x.is_nil()))
         }
         Cond::Not(cond) => {
             let x = truth(alloc, sources, scope, cond)?;
@@ -145,5 +145,5 @@ pub(crate) fn holds(
         return Ok(true);
     };
     let outcome = truth(alloc, sources, scope, cond)?;
-    Ok(matches!(outcome, Cell::Bit(true)))
+    Ok(matches!(&outcome, Cell::Bit(true)))
 }

@@ -18,10 +18,11 @@ fn literals_are_read(rt: HostRuntime) -> Result<(), Fail> {
         ("null", Cell::Nil),
     ];
     for (text, cell) in &rows {
-        let Expr::Lit(literal) = read_expr(alloc, tokens(alloc, text)?.as_slice())? else {
+        let read = read_expr(alloc, tokens(alloc, text)?.as_slice())?;
+        let Expr::Lit(literal) = &read else {
             return Err(Fail::from("no literal"));
         };
-        assert!(rt; literal == *cell);
+        assert!(rt; literal == cell);
     }
     Ok(())
 }

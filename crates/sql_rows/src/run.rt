@@ -115,11 +115,11 @@ fn steps_to_rows(alloc: Global, typed: &Typed) -> Result<usize, Memory>
 /// overflow refuses it, that is not looked for.
 fn is_planned(alloc: Global, typed: &Typed, db: &Db, shown: &Shown) -> Result<bool, Memory> {
     match &typed.stmt {
-        Stmt::Delete { .. } | Stmt::Update { .. } => match (shown, written(alloc, typed, db)?) {
+        Stmt::Delete { .. } | Stmt::Update { .. } => match (shown, &written(alloc, typed, db)?) {
             (Shown::Count(done), Shown::Count(kept)) => {
-                Ok(*done == kept && steps_to_rows(alloc, typed)? > 0)
+                Ok(done == kept && steps_to_rows(alloc, typed)? > 0)
             }
-            (Shown::Refused(Refusal::Overflow), Shown::Refused(_)) => Ok(true),
+            (Shown::Refused(Refusal::Overflow), Shown::Refused(..)) => Ok(true),
             (Shown::Refused(Refusal::Overflow), _) => Ok(false),
             (shown, _) => Ok(matches!(shown, Shown::Refused(_))),
         },

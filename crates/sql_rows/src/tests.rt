@@ -88,10 +88,7 @@ fn overflows_alone(alloc: Global, number: i64) -> Result<(bool, bool), Memory> {
     let large = times_largest(alloc, Expr::Lit(Cell::Int(number)))?;
     let cell = cell_over(&[], &[], &large)?;
     let has_value = value_over(&[], &[], &large)?.is_some();
-    Ok((
-        constant_overflows(&large)?,
-        matches!(cell, Cell::Nil) && !has_value,
-    ))
+    Ok((constant_overflows(&large)?, cell.is_nil() && !has_value))
 }
 
 #[test]

@@ -10,11 +10,11 @@ ghost use Rattle.sql_semantics.specs.Check.{check_refusal};
 use crate::called::{Called, Found, find_column};
 use crate::source::Source;
 use cell_core::{Memory, Sequence, Word};
-use sql_tree::{FromItem, Query, Stmt};
+use sql_tree::{FromItem, Stmt};
 
 /// A statement that reading may give and the check accepts, with the tables that it speaks of. Contracts
 /// see the statement's tree as a formed one, which the check has no refusal of over these tables.
-#[derive(Debug, Drop)]
+#[derive(Debug)]
 pub struct Typed {
     /// The statement.
     pub stmt: Stmt,
@@ -23,6 +23,16 @@ pub struct Typed {
     ghost small: { IsTrue (are_small sources) },
     ghost formed: { ∥ IsFormed (stmt_tree stmt) ∥₁ },
     ghost accepted: { check_refusal (stmt_tree stmt) (record { tables = sources }) ≡ None },
+}
+
+// By a call of its own, so that proofs needn't go through its forms where one is let go.
+impl Drop for Typed {
+    fn drop(self) {
+        let Typed {
+            stmt: _,
+            sources: _,
+        } = self;
+    }
 }
 
 /// Fewer than 2^32 tables, and so many columns of each.
@@ -37,23 +47,6 @@ fn is_small(sources: &[Source]) -> bool
         rest = more;
     }
     sources.len() < 1 << 32
-}
-
-/// Lets a query go.
-fn let_go_query(_query: Query) {}
-
-/// Lets a statement go.
-fn let_go(stmt: Stmt) {
-    match stmt {
-        Stmt::Query(query) => let_go_query(query),
-        Stmt::Explain(query) => let_go_query(query),
-        Stmt::Create { .. }
-        | Stmt::Drop { .. }
-        | Stmt::Alter { .. }
-        | Stmt::Insert { .. }
-        | Stmt::Delete { .. }
-        | Stmt::Update { .. } => {}
-    }
 }
 
 /// The name by which a query calls a table of FROM.
@@ -112,7 +105,6 @@ impl Typed {
         if is_small(sources.as_slice()) {
             Ok(Typed { stmt, sources })
         } else {
-            let_go(stmt);
             Err(Memory)
         }
     }

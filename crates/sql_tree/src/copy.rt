@@ -1,9 +1,10 @@
-ghost use Rattle.std.specs.Prelude.{◌≡◌, map, IfOk};
+ghost use Rattle.std.specs.Prelude.{◌≡◌, map, IfOk, Ok};
 ghost use Rattle.std.specs.Option.{option_copied, option_map};
 ghost use Rattle.sql_tree.specs.Tree.{cond_tree, expr_tree, item_tree, query_tree, set_tree, stmt_tree};
+ghost use Rattle.sql_tree.specs.Tree.StmtTree.{InsertInto, UpdateTable};
 
 use crate::tree::{ColRef, Cond, Expr, FromItem, Item, Place, Query, SortKey, Stmt};
-use cell_core::{Memory, Sequence, Word, copy_columns, copy_rows};
+use cell_core::{Cell, Memory, Sequence, Word, copy_columns, copy_rows};
 use std::alloc::Global;
 
 impl Stmt {
@@ -11,40 +12,71 @@ impl Stmt {
     pub fn copy(&self, alloc: Global) -> Result<Stmt, Memory>
         ensures { IfOk result (λ copy. stmt_tree copy ≡ stmt_tree self.now) }
     {
-        Ok(match self {
-            Stmt::Create { table, columns } => Stmt::Create {
+        match self {
+            Stmt::Create { table, columns } => {
+                let (table, columns) = both(
+                    table.share(),
+                    copy_columns(alloc, columns.as_slice()),
+                )?;
+                Ok(Stmt::Create { table, columns })
+            }
+            Stmt::Drop { table } => Ok(Stmt::Drop {
                 table: table.share()?,
-                columns: copy_columns(alloc, columns.as_slice())?,
-            },
-            Stmt::Drop { table } => Stmt::Drop {
-                table: table.share()?,
-            },
-            Stmt::Alter { table, column } => Stmt::Alter {
-                table: table.share()?,
-                column: column.share()?,
-            },
+            }),
+            Stmt::Alter { table, column } => {
+                let (table, column) = both(table.share(), column.share())?;
+                Ok(Stmt::Alter { table, column })
+            }
             Stmt::Insert {
                 table,
                 columns,
                 rows,
-            } => Stmt::Insert {
-                table: table.share()?,
-                columns: share_all(alloc, columns.as_slice())?,
-                rows: copy_rows(alloc, rows.as_slice())?,
-            },
-            Stmt::Delete { table, cond } => Stmt::Delete {
-                table: table.share()?,
-                cond: copy_cond(alloc, cond.as_ref())?,
-            },
-            Stmt::Update { table, sets, cond } => Stmt::Update {
-                table: table.share()?,
-                sets: copy_sets(alloc, sets.as_slice())?,
-                cond: copy_cond(alloc, cond.as_ref())?,
-            },
-            Stmt::Query(query) => Stmt::Query(query.copy(alloc)?),
-            Stmt::Explain(query) => Stmt::Explain(query.copy(alloc)?),
-        })
+            } => copy_insert(alloc, table, columns.as_slice(), rows.as_slice()),
+            Stmt::Delete { table, cond } => {
+                let (table, cond) = both(table.share(), copy_cond(alloc, cond.as_ref()))?;
+                Ok(Stmt::Delete { table, cond })
+            }
+            Stmt::Update { table, sets, cond } => {
+                copy_update(alloc, table, sets.as_slice(), cond.as_ref())
+            }
+            Stmt::Query(query) => Ok(Stmt::Query(query.copy(alloc)?)),
+            Stmt::Explain(query) => Ok(Stmt::Explain(query.copy(alloc)?)),
+        }
     }
+}
+
+/// An equal INSERT.
+fn copy_insert(
+    alloc: Global,
+    table: &Word,
+    columns: &[Word],
+    rows: &[Sequence<Cell>],
+) -> Result<Stmt, Memory>
+    ensures { IfOk result (λ copy. stmt_tree copy ≡ InsertInto table.now columns.now rows.now) }
+{
+    let columns = share_all(alloc, columns);
+    let (columns, rows) = both(columns, copy_rows(alloc, rows))?;
+    let table = table.share()?;
+    Ok(Stmt::Insert {
+        table,
+        columns,
+        rows,
+    })
+}
+
+/// An equal UPDATE.
+fn copy_update(
+    alloc: Global,
+    table: &Word,
+    sets: &[(Word, Expr)],
+    cond: Option<&Cond>,
+) -> Result<Stmt, Memory>
+    ensures { IfOk result (λ copy. stmt_tree copy ≡ UpdateTable table.now (map set_tree sets.now) (option_map cond_tree (option_copied cond.entry))) }
+{
+    let table = table.share();
+    let (table, sets) = both(table, copy_sets(alloc, sets))?;
+    let cond = copy_cond(alloc, cond)?;
+    Ok(Stmt::Update { table, sets, cond })
 }
 
 impl Query {
@@ -52,12 +84,12 @@ impl Query {
     pub fn copy(&self, alloc: Global) -> Result<Query, Memory>
         ensures { IfOk result (λ copy. query_tree copy ≡ query_tree self.now) }
     {
-        let items = copy_items(alloc, self.items.as_slice())?;
-        let froms = share_all(alloc, self.froms.as_slice())?;
-        let cond = copy_cond(alloc, self.cond.as_ref())?;
-        let groups = share_all(alloc, self.groups.as_slice())?;
-        let having = copy_cond(alloc, self.having.as_ref())?;
-        let keys = share_all(alloc, self.keys.as_slice())?;
+        let items = copy_items(alloc, self.items.as_slice());
+        let (items, froms) = both(items, share_all(alloc, self.froms.as_slice()))?;
+        let cond = copy_cond(alloc, self.cond.as_ref());
+        let (cond, having) = both(cond, copy_cond(alloc, self.having.as_ref()))?;
+        let groups = share_all(alloc, self.groups.as_slice());
+        let (groups, keys) = both(groups, share_all(alloc, self.keys.as_slice()))?;
         Ok(Query {
             distinct: self.distinct,
             items,
@@ -76,28 +108,31 @@ impl Cond {
     pub fn copy(&self, alloc: Global) -> Result<Cond, Memory>
         ensures { IfOk result (λ copy. cond_tree copy ≡ cond_tree self.now) }
     {
-        Ok(match self {
-            Cond::Cmp { op, left, right } => Cond::Cmp {
-                op: *op,
-                left: left.copy(alloc)?,
-                right: right.copy(alloc)?,
-            },
-            Cond::Between { of, low, high } => Cond::Between {
-                of: of.copy(alloc)?,
-                low: low.copy(alloc)?,
-                high: high.copy(alloc)?,
-            },
-            Cond::IsNull(of) => Cond::IsNull(of.copy(alloc)?),
-            Cond::Not(cond) => Cond::Not(Box::new(alloc, cond.copy(alloc)?)?),
-            Cond::And(left, right) => Cond::And(
-                Box::new(alloc, left.copy(alloc)?)?,
-                Box::new(alloc, right.copy(alloc)?)?,
-            ),
-            Cond::Or(left, right) => Cond::Or(
-                Box::new(alloc, left.copy(alloc)?)?,
-                Box::new(alloc, right.copy(alloc)?)?,
-            ),
-        })
+        match self {
+            Cond::Cmp { op, left, right } => {
+                let (left, right) = both(left.copy(alloc), right.copy(alloc))?;
+                Ok(Cond::Cmp {
+                    op: *op,
+                    left,
+                    right,
+                })
+            }
+            Cond::Between { of, low, high } => {
+                let bounds = both(low.copy(alloc), high.copy(alloc));
+                let (of, (low, high)) = both(of.copy(alloc), bounds)?;
+                Ok(Cond::Between { of, low, high })
+            }
+            Cond::IsNull(of) => Ok(Cond::IsNull(of.copy(alloc)?)),
+            Cond::Not(cond) => Ok(Cond::Not(boxed(alloc, cond.copy(alloc))?)),
+            Cond::And(left, right) => {
+                let (first, second) = both_boxed(alloc, left.copy(alloc), right.copy(alloc))?;
+                Ok(Cond::And(first, second))
+            }
+            Cond::Or(left, right) => {
+                let (first, second) = both_boxed(alloc, left.copy(alloc), right.copy(alloc))?;
+                Ok(Cond::Or(first, second))
+            }
+        }
     }
 }
 
@@ -106,21 +141,61 @@ impl Expr {
     pub fn copy(&self, alloc: Global) -> Result<Expr, Memory>
         ensures { IfOk result (λ copy. expr_tree copy ≡ expr_tree self.now) }
     {
-        Ok(match self {
-            Expr::Lit(literal) => Expr::Lit(literal.share()?),
-            Expr::Col(column) => Expr::Col(column.share()?),
-            Expr::Arith { op, left, right } => Expr::Arith {
-                op: *op,
-                left: Box::new(alloc, left.copy(alloc)?)?,
-                right: Box::new(alloc, right.copy(alloc)?)?,
-            },
-            Expr::Agg { f, of: None } => Expr::Agg { f: *f, of: None },
-            Expr::Agg { f, of: Some(of) } => Expr::Agg {
-                f: *f,
-                of: Some(Box::new(alloc, of.copy(alloc)?)?),
-            },
-        })
+        match self {
+            Expr::Lit(literal) => Ok(Expr::Lit(literal.share()?)),
+            Expr::Col(column) => Ok(Expr::Col(column.share()?)),
+            Expr::Arith { op, left, right } => {
+                let (left, right) = both_boxed(alloc, left.copy(alloc), right.copy(alloc))?;
+                Ok(Expr::Arith {
+                    op: *op,
+                    left,
+                    right,
+                })
+            }
+            Expr::Agg { f, of: None } => Ok(Expr::Agg { f: *f, of: None }),
+            Expr::Agg { f, of: Some(of) } => {
+                let of = boxed(alloc, of.copy(alloc))?;
+                Ok(Expr::Agg {
+                    f: *f,
+                    of: Some(of),
+                })
+            }
+        }
     }
+}
+
+/// Both things, where both were made.
+///
+/// A proof goes through all the forms of a tree at each place where one may be let go. Here and in
+/// what follows that is done for things of any kind, which have none.
+fn both<T: Drop, U: Drop>(
+    left: Result<T, Memory>,
+    right: Result<U, Memory>,
+) -> Result<(T, U), Memory>
+    ensures { IfOk result (λ both. (left ≡ Ok both.0) × (right ≡ Ok both.1)) }
+{
+    let left = left?;
+    let right = right?;
+    Ok((left, right))
+}
+
+/// A thing that was made, in a box.
+fn boxed<T: Drop>(alloc: Global, thing: Result<T, Memory>) -> Result<Box<T>, Memory>
+    ensures { IfOk result (λ boxed. thing ≡ Ok boxed.value) }
+{
+    let boxed = Box::new(alloc, thing?)?;
+    Ok(boxed)
+}
+
+/// Both things, where both were made, each in a box.
+fn both_boxed<T: Drop, U: Drop>(
+    alloc: Global,
+    left: Result<T, Memory>,
+    right: Result<U, Memory>,
+) -> Result<(Box<T>, Box<U>), Memory>
+    ensures { IfOk result (λ both. (left ≡ Ok both.0.value) × (right ≡ Ok both.1.value)) }
+{
+    both(boxed(alloc, left), boxed(alloc, right))
 }
 
 fn copy_cond(alloc: Global, cond: Option<&Cond>) -> Result<Option<Cond>, Memory>

@@ -41,12 +41,20 @@ pub(crate) fn write_quoted(mark: u8, text: &str, out: &mut Vec<u8>) -> Result<()
 {
     out.push(mark)?;
     for byte in text.as_bytes() {
-        if *byte == mark {
-            out.push(mark)?;
-        }
-        out.push(*byte)?;
+        write_doubled(mark, *byte, out)?;
     }
     out.push(mark)?;
+    Ok(())
+}
+
+/// Appends a byte, and twice where it is the mark.
+fn write_doubled(mark: u8, byte: u8, out: &mut Vec<u8>) -> Result<(), Memory>
+    ensures { OnOk result (out.new.items ≡ out.old.items ++ doubled mark byte) }
+{
+    if byte == mark {
+        out.push(mark)?;
+    }
+    out.push(byte)?;
     Ok(())
 }
 

@@ -26,11 +26,9 @@ pub(crate) fn write_cond(cond: &Cond, out: &mut Vec<u8>) -> Result<(), Memory>
             write_part(right, out)
         }
         Cond::Or(left, right) => {
-            write_bytes(b"(", out)?;
-            write_cond(left, out)?;
-            write_bytes(b") OR (", out)?;
-            write_cond(right, out)?;
-            write_bytes(b")", out)
+            write_cond_enclosed(left, out)?;
+            write_bytes(b" OR ", out)?;
+            write_cond_enclosed(right, out)
         }
     }
 }
@@ -44,12 +42,18 @@ fn write_part(cond: &Cond, out: &mut Vec<u8>) -> Result<(), Memory>
         Cond::Cmp { op, left, right } => write_compared(*op, left, right, out),
         Cond::Between { of, low, high } => write_within(of, low, high, out),
         Cond::IsNull(of) => write_null_test(of, out),
-        _ => {
-            write_bytes(b"(", out)?;
-            write_cond(cond, out)?;
-            write_bytes(b")", out)
-        }
+        _ => write_cond_enclosed(cond, out),
     }
+}
+
+/// Appends a condition in parentheses.
+#[cycle(conditions)]
+fn write_cond_enclosed(cond: &Cond, out: &mut Vec<u8>) -> Result<(), Memory>
+    ensures { OnOk result (out.new.items ≡ out.old.items ++ canon.enclosed (canon.cond_text (cond_tree cond.now))) }
+{
+    write_bytes(b"(", out)?;
+    write_cond(cond, out)?;
+    write_bytes(b")", out)
 }
 
 fn write_compared(op: CmpOp, left: &Expr, right: &Expr, out: &mut Vec<u8>) -> Result<(), Memory>
@@ -94,11 +98,7 @@ pub(crate) fn write_expr(expr: &Expr, out: &mut Vec<u8>) -> Result<(), Memory>
             write_aggregate(*f, out)?;
             match of {
                 None => write_bytes(b"(*)", out),
-                Some(of) => {
-                    write_bytes(b"(", out)?;
-                    write_expr(of, out)?;
-                    write_bytes(b")", out)
-                }
+                Some(of) => write_expr_enclosed(of, out),
             }
         }
     }
@@ -110,13 +110,19 @@ fn write_operand(expr: &Expr, out: &mut Vec<u8>) -> Result<(), Memory>
     ensures { OnOk result (out.new.items ≡ out.old.items ++ canon.operand_text (expr_tree expr.now)) }
 {
     match expr {
-        Expr::Arith { .. } => {
-            write_bytes(b"(", out)?;
-            write_expr(expr, out)?;
-            write_bytes(b")", out)
-        }
+        Expr::Arith { .. } => write_expr_enclosed(expr, out),
         _ => write_expr(expr, out),
     }
+}
+
+/// Appends an expression in parentheses.
+#[cycle(expressions)]
+fn write_expr_enclosed(expr: &Expr, out: &mut Vec<u8>) -> Result<(), Memory>
+    ensures { OnOk result (out.new.items ≡ out.old.items ++ canon.enclosed (canon.expr_text (expr_tree expr.now))) }
+{
+    write_bytes(b"(", out)?;
+    write_expr(expr, out)?;
+    write_bytes(b")", out)
 }
 
 /// Appends a column, behind its table where one is written.

@@ -1,7 +1,7 @@
 use cell_core::{Cell, Column, Sequence, Word};
 
 /// A statement.
-#[derive(Debug, Drop)]
+#[derive(Debug)]
 pub enum Stmt {
     /// `CREATE TABLE`
     Create {
@@ -53,8 +53,38 @@ pub enum Stmt {
     Explain(Query),
 }
 
+// By a call of its own, so that proofs needn't go through its forms where one is let go.
+impl Drop for Stmt {
+    fn drop(self) {
+        match self {
+            Stmt::Create {
+                table: _,
+                columns: _,
+            }
+            | Stmt::Drop { table: _ }
+            | Stmt::Alter {
+                table: _,
+                column: _,
+            }
+            | Stmt::Insert {
+                table: _,
+                columns: _,
+                rows: _,
+            }
+            | Stmt::Delete { table: _, cond: _ }
+            | Stmt::Update {
+                table: _,
+                sets: _,
+                cond: _,
+            }
+            | Stmt::Query(_)
+            | Stmt::Explain(_) => {}
+        }
+    }
+}
+
 /// A query.
-#[derive(Debug, Drop)]
+#[derive(Debug)]
 pub struct Query {
     /// Whether equal rows stand once.
     pub distinct: bool,
@@ -74,8 +104,24 @@ pub struct Query {
     pub limit: Option<u64>,
 }
 
+// By a call of its own, so that proofs needn't go through its forms where one is let go.
+impl Drop for Query {
+    fn drop(self) {
+        let Query {
+            distinct: _,
+            items: _,
+            froms: _,
+            cond: _,
+            groups: _,
+            having: _,
+            keys: _,
+            limit: _,
+        } = self;
+    }
+}
+
 /// An item of a query.
-#[derive(Debug, Drop)]
+#[derive(Debug)]
 pub struct Item {
     /// Its value.
     pub expr: Expr,
@@ -83,8 +129,15 @@ pub struct Item {
     pub alias: Option<Word>,
 }
 
+// By a call of its own, so that proofs needn't go through its forms where one is let go.
+impl Drop for Item {
+    fn drop(self) {
+        let Item { expr: _, alias: _ } = self;
+    }
+}
+
 /// A table of FROM.
-#[derive(Debug, Drop)]
+#[derive(Debug)]
 pub struct FromItem {
     /// The table's name.
     pub table: Word,
@@ -92,8 +145,15 @@ pub struct FromItem {
     pub alias: Option<Word>,
 }
 
+// By a call of its own, so that proofs needn't go through its forms where one is let go.
+impl Drop for FromItem {
+    fn drop(self) {
+        let FromItem { table: _, alias: _ } = self;
+    }
+}
+
 /// A column as a statement names it.
-#[derive(Debug, Drop)]
+#[derive(Debug)]
 pub struct ColRef {
     /// The FROM name before the dot.
     pub table: Option<Word>,
@@ -101,8 +161,18 @@ pub struct ColRef {
     pub column: Word,
 }
 
+// By a call of its own, so that proofs needn't go through its forms where one is let go.
+impl Drop for ColRef {
+    fn drop(self) {
+        let ColRef {
+            table: _,
+            column: _,
+        } = self;
+    }
+}
+
 /// A key of ORDER BY.
-#[derive(Debug, Drop)]
+#[derive(Debug)]
 pub struct SortKey {
     /// What is sorted by.
     pub at: Place,
@@ -110,8 +180,18 @@ pub struct SortKey {
     pub ascending: bool,
 }
 
+// By a call of its own, so that proofs needn't go through its forms where one is let go.
+impl Drop for SortKey {
+    fn drop(self) {
+        let SortKey {
+            at: _,
+            ascending: _,
+        } = self;
+    }
+}
+
 /// What a key of ORDER BY sorts by.
-#[derive(Debug, Drop)]
+#[derive(Debug)]
 pub enum Place {
     /// The item at this position, counted from 1.
     Position(u64),
@@ -119,8 +199,17 @@ pub enum Place {
     Named(ColRef),
 }
 
+// By a call of its own, so that proofs needn't go through its forms where one is let go.
+impl Drop for Place {
+    fn drop(self) {
+        match self {
+            Place::Position(_) | Place::Named(_) => {}
+        }
+    }
+}
+
 /// A condition.
-#[derive(Debug, Drop)]
+#[derive(Debug)]
 pub enum Cond {
     /// A comparison.
     Cmp {
@@ -150,6 +239,28 @@ pub enum Cond {
     Or(Box<Cond>, Box<Cond>),
 }
 
+// By a call of its own, so that proofs needn't go through its forms where one is let go.
+impl Drop for Cond {
+    fn drop(self) {
+        match self {
+            Cond::Cmp {
+                op: _,
+                left: _,
+                right: _,
+            }
+            | Cond::Between {
+                of: _,
+                low: _,
+                high: _,
+            }
+            | Cond::IsNull(_)
+            | Cond::Not(_)
+            | Cond::And(_, _)
+            | Cond::Or(_, _) => {}
+        }
+    }
+}
+
 /// The comparisons.
 #[derive(Clone, Copy, Debug, PartialEq, Eq)]
 pub enum CmpOp {
@@ -168,7 +279,7 @@ pub enum CmpOp {
 }
 
 /// An expression.
-#[derive(Debug, Drop)]
+#[derive(Debug)]
 pub enum Expr {
     /// A literal.
     Lit(Cell),
@@ -190,6 +301,22 @@ pub enum Expr {
         /// Its argument; none for `COUNT(*)`.
         of: Option<Box<Expr>>,
     },
+}
+
+// By a call of its own, so that proofs needn't go through its forms where one is let go.
+impl Drop for Expr {
+    fn drop(self) {
+        match self {
+            Expr::Lit(_)
+            | Expr::Col(_)
+            | Expr::Arith {
+                op: _,
+                left: _,
+                right: _,
+            }
+            | Expr::Agg { f: _, of: _ } => {}
+        }
+    }
 }
 
 /// The arithmetic operators.

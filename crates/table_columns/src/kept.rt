@@ -21,11 +21,21 @@ use std::marker::Model;
 
 /// The rows of a table as columns, each a BAT whose heads are the oids from 0, and beside each column its
 /// version. Contracts see the rows.
-#[derive(Drop)]
 pub struct Kept {
     columns: Vec<Shared>,
     versions: Vec<u64>,
     count: u64,
+}
+
+// By a call of its own, so that proofs needn't go through its forms where one is let go.
+impl Drop for Kept {
+    fn drop(self) {
+        let Kept {
+            columns: _,
+            versions: _,
+            count: _,
+        } = self;
+    }
 }
 
 impl Model for Kept {

@@ -15,5 +15,5 @@ use Rattle.group_to_mal.proofs.items.items_of_groups.Goals as goal
 pub returns : goal.returns
 returns c =
     let P : List Instr × Arg → Type 0 =
-    λ p. IfOk c.items_by-shown.result (λ shown. (c.items_by-shown.new.instrs, args_of shown.items) ≡ (items_by (group_value c.args.tables.now (variables c.args.rows.now) c.args.groups p.1) is_grouped p.1 (option_map cond_tree (option_copied c.args.having)) c.args.distinct (exprs_of c.args.items.now)).run p.0) in
-    subst P (c.in_ok-firsts.ensures ∙ ap (λ g. (heads g).run c.args.instrs.now) c.in_ok-share.ensures) c.items_by-shown.ensures
+    λ p. IfOk c.items_by.result (λ shown. (c.items_by.new.instrs, args_of shown.items) ≡ (items_by (group_value c.args.tables.now (variables c.args.rows.now) c.args.groups p.1) is_grouped p.1 (option_map cond_tree (option_copied c.args.having)) c.args.distinct (exprs_of c.args.items.now)).run p.0) in
+    subst P (c.in_ok-firsts.ensures ∙ ap (λ g. (heads g).run c.args.instrs.now) c.in_ok-share.ensures) c.items_by.ensures

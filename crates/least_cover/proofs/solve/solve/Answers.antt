@@ -1,4 +1,4 @@
-use Rattle.std.proofs.Common.{Some, arith, ap, sym, ◌∙◌, length-set}
+use Rattle.std.proofs.Common.{Some, None, arith, ap, sym, ◌∙◌, length-set, get_or-set_same}
 use Rattle.std.specs.Prelude.{slice_index}
 use Rattle.cell_core.specs.declared.cut.Span.{Span}
 use Rattle.cell_core.specs.Cuts.{is_cut_below}
@@ -46,3 +46,22 @@ returns-clause-solves c = all_solved c.args.spans.now c.args.target.now c.args.o
 
 pub returns-clause-ready : goal.returns-clause-ready
 returns-clause-ready c = λ found. ready_low c.args.spans.now c.args.target.now c.args.order.now c.requires.order c.spans.bests c.spans.queue.items c.spans.i (c.spans.invariant.passed c.requires.order) (λ j past high. absurd (let size = c.requires.order.size in let end = c.spans.auto.i-end in let test = c.spans-test.false in omega (arith, past, high, size, end)))
+
+pub onward-requires-clause-low : goal.onward-requires-clause-low
+onward-requires-clause-low c = c.requires.order.within c.spans.i (let size = c.requires.order.size in let low = c.spans-test.true in omega (arith, size, low))
+
+pub onward-requires-clause-short : goal.onward-requires-clause-short
+onward-requires-clause-short c = λ place best is.
+    let short = c.spans.invariant.short place best is in
+    let low = c.spans-test.true in (omega (arith, short.0, low), short.1)
+
+pub enqueue-requires-clause-known : goal.enqueue-requires-clause-known
+enqueue-requires-clause-known c =
+    let within = c.requires.order.within c.spans.i (let size = c.requires.order.size in let low = c.spans-test.true in omega (arith, size, low)) in
+    (c.in-Some.best, get_or-set_same c.spans.bests (slice_index c.args.order.now c.spans.i) (Some c.in-Some.best) None (omega (arith, within, c.spans.invariant.same)))
+
+pub enqueue-requires-clause-low : goal.enqueue-requires-clause-low
+enqueue-requires-clause-low c =
+    let within = c.requires.order.within c.spans.i (let size = c.requires.order.size in let low = c.spans-test.true in omega (arith, size, low)) in
+    let long = length-set c.spans.bests (slice_index c.args.order.now c.spans.i) (Some c.in-Some.best) in
+    omega (arith, within, long, c.spans.invariant.same)

@@ -4,4 +4,4 @@ use Rattle.mal_meaning.proofs.calc.first_rows.Given as goal
 
 -- the rows so far
 abbrev pub invariant-loop-place : goal.invariant-loop-place
-invariant-loop-place l = l.rows.items ≡ rows_of l.values l.place
+invariant-loop-place l = l.rows ≡ rows_of l.values l.place

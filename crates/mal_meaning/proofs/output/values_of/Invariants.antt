@@ -4,7 +4,7 @@ use Rattle.mal_meaning.proofs.output.values_of.Given as goal
 
 -- what is made so far, and what the rest gives, is what all give
 abbrev pub invariant-args-2 : goal.invariant-args-2
-invariant-args-2 l = l.columns.items ++ map (value_in l.values) l.rest ≡ map (value_in l.values) l.args
+invariant-args-2 l = l.columns ++ map (value_in l.values) l.rest ≡ map (value_in l.values) l.args
 
 abbrev pub decreases-args-2 : goal.decreases-args-2
 decreases-args-2 l = length l.rest

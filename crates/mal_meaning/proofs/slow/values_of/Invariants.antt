@@ -5,7 +5,7 @@ use Rattle.mal_meaning.proofs.slow.values_of.Given as goal
 
 -- what is made so far, and what the rest gives, is what all give
 abbrev pub invariant-args-2 : goal.invariant-args-2
-invariant-args-2 l = option_map (λ more. l.found.items ++ more) (arg_values (map Some l.values) l.rest) ≡ arg_values (map Some l.values) l.args
+invariant-args-2 l = option_map (λ more. l.found ++ more) (arg_values (map Some l.values) l.rest) ≡ arg_values (map Some l.values) l.args
 
 abbrev pub decreases-args-2 : goal.decreases-args-2
 decreases-args-2 l = length l.rest

@@ -14,6 +14,6 @@ pick_rising-requires c = λ k within.
 pub returns-in-Oids-Rising : goal.returns-in-Oids-Rising
 returns-in-Oids-Rising c =
     on_ok_weaker c.pick_rising.result
-    (λ e. e ∙ ap (λ l. l ++ map (λ i. Oid (c.in-Oids-Rising.from.first + i)) c.args.places.now) (sym (ap chunk_cells c.in-Oids-Rising.is-0) ∙ c.in_ok-make_ready.ensures)
+    (λ e. e ∙ ap (λ l. l ++ map (λ i. Oid (c.in-Oids-Rising.from.first + i)) c.args.places.now) (sym (ap chunk_cells c.in-Oids-Rising.is-0) ∙ c.make_ready.ensures)
     ∙ ap (λ l. chunk_cells c.args.self.now ++ l) (rising_picks c.in-Oids-Rising.from.first c.in-Oids-Rising.from.len c.args.places.now (part_cells c.args.part) (ap part_cells c.in-Oids-Rising.is-1) c.requires))
     c.pick_rising.ensures

@@ -8,7 +8,7 @@ use Rattle.pool_policy.specs.Looks.{Finding, after_look, found_of, ids_pinned, i
 use Rattle.pool_policy.specs.Keeps.{IsPool, faces}
 use Rattle.pool_policy.proofs.AdmitGiven.{pinned_faces, used_faces}
 use Rattle.pool_policy.proofs.Kept.{look_keeps}
-use Rattle.recycle_pool.specs.Answers.{told}
+use Rattle.recycle_pool.specs.Answers.{HandsOut, told}
 use Rattle.recycle_pool.specs.Views.{pool_shown}
 use Rattle.recycle_pool.proofs.Beside.{beside_faces}
 use Rattle.recycle_pool.proofs.Ids.{rising_on}
@@ -77,3 +77,20 @@ returns-clause-pool c =
     let paid = c.pay_uses.ensures.each ∙ ap (λ (es : List PoolEntry). paid_back c.self.inside.ledger.each (filter (λ (e : PoolEntry). is_one_of (ids_used found) e.id && pays_back c.args.who e) es)) c.as_slice-2.ensures.value in
     looked c.args.who c.args.now c.args.key.now (pool_shown c.self.inside) found c.use_all.new.entries.items c.pin_found.new.entries.items c.pay_uses.new.ledger.each is c.use_all.ensures.entries (c.pin_found.ensures.entries c.as_slice-used.result.now) paid
     ∙ ap (after_look c.args.who c.args.now c.args.key.now) c.self.view_is
+
+pub returns-clause-found : goal.returns-clause-found
+returns-clause-found c =
+    c.in_ok-found.ensures.found ∙ ap (λ (es : List PoolEntry). found_of es c.args.key.now) c.as_slice.ensures.value ∙ ap (λ (p : PoolState). found_of p.entries c.args.key.now) c.self.view_is
+
+pub returns-clause-values : goal.returns-clause-values
+returns-clause-values c =
+    subst (λ (es : List PoolEntry). HandsOut es c.in_ok-found.found c.find_whole.new.parts.items) (c.as_slice.ensures.value ∙ ap (λ (p : PoolState). p.entries) c.self.view_is) c.in_ok-found.ensures.values
+
+pub returns-clause-options : goal.returns-clause-options
+returns-clause-options c = ap (λ (p : PoolState). p.options) c.self.view_is
+
+pub returns-clause-moment : goal.returns-clause-moment
+returns-clause-moment c = refl
+
+pub pin_found-requires-clause-session : goal.pin_found-requires-clause-session
+pin_found-requires-clause-session c = c.requires.session

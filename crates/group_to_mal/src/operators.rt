@@ -1,0 +1,40 @@
+//! Operators of values.
+ghost use Rattle.std.specs.Prelude.{◌≡◌, [], ◌∷◌, IfOk};
+ghost use Rattle.mal_emit.specs.Emitters.{emits};
+
+use cell_core::{Arg, Instr, Memory, Op, Sequence};
+use mal_emit::emit;
+use std::alloc::Global;
+
+/// Adds an operator, and answers its result as an argument of others.
+fn add(instrs: &mut Sequence<Instr>, op: Op, args: Vec<Arg>) -> Result<Arg, Memory>
+    ensures { IfOk result (λ arg. (instrs.new, arg) ≡ (emits op args.items).run instrs.old) }
+{
+    let number = emit(instrs, op, args)?;
+    Ok(Arg::Var(number))
+}
+
+/// Adds an operator of one value.
+pub(crate) fn one(
+    alloc: Global,
+    instrs: &mut Sequence<Instr>,
+    op: Op,
+    of: Arg,
+) -> Result<Arg, Memory>
+    ensures { IfOk result (λ arg. (instrs.new, arg) ≡ (emits op (of ∷ [])).run instrs.old) }
+{
+    add(instrs, op, vec![in alloc; of]?)
+}
+
+/// Adds an operator of two values.
+pub(crate) fn two(
+    alloc: Global,
+    instrs: &mut Sequence<Instr>,
+    op: Op,
+    left: Arg,
+    right: Arg,
+) -> Result<Arg, Memory>
+    ensures { IfOk result (λ arg. (instrs.new, arg) ≡ (emits op (left ∷ right ∷ [])).run instrs.old) }
+{
+    add(instrs, op, vec![in alloc; left, right]?)
+}
