@@ -3,7 +3,7 @@ use Rattle.std.specs.Prelude.{ℕ, ◌==◌, List, [], ◌∷◌, ◌++◌, leng
 use Rattle.std.specs.List.{list_any, filter_map, enumerate_from, zip}
 use Rattle.cell_core.specs.declared.cell.Cell.{Cell}
 use Rattle.cell_core.specs.CellText.{cell_text}
-use Rattle.sql_tree.specs.Canon.{canonical}
+use Rattle.sql_print.specs.Canon.{canonical}
 use Rattle.sql_tree.specs.Tree.{StmtTree}
 use Rattle.sql_semantics.specs.Refusals.{refusal_number, refusal_words}
 use Rattle.sql_semantics.specs.declared.refusal.Refusal.{Refusal}

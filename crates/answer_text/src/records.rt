@@ -4,7 +4,8 @@ ghost use Rattle.csv.specs.Records.{fields_of, partial_of};
 ghost use Rattle.csv.specs.Writing.{default_writer, with_flexible};
 ghost use Rattle.answer_text.specs.Layout.{row_record};
 
-use cell_core::{Cell, Memory, Sequence, write_cell};
+use cell_core::{Cell, Memory, Sequence};
+use cell_text::write_cell;
 use csv::{ByteRecord, WriterBuilder};
 use std::alloc::Global;
 

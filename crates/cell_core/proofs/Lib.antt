@@ -1,9 +1,5 @@
 pub mod CutExamples
-pub mod DayExamples
-pub mod DayLemmas
 pub mod KeyExamples
 pub mod OperatorExamples
 pub mod SortedLemmas
-pub mod TextExamples
-pub mod TextLemmas
 pub mod TypedLemmas

@@ -1,17 +1,18 @@
 //! Cells, texts, tables and databases: what every other crate of the project speaks of.
 //!
 //! It stands on no other crate. It promises the one order of cells (`compare`), their stated size
-//! (`stated_bytes`), their text (`write_cell`), the civil days (`read_day`), and values that are
-//! shared and not copied (`Word::share`, `Cell::share`). `Steps` counts stated work.
+//! (`stated_bytes`), and values that are shared and not copied (`Word::share`, `Cell::share`). `Steps`
+//! counts stated work.
 //!
 //! Its definitions say what each operator of a plan (`Op`) gives, when it overflows, how much work it
 //! is, and which arguments fit it; a BAT is a list of pairs of cells there. A span of cells lies
 //! between two cuts of their order (`Cut`, `Span`), and spans may cover another.
+//! What text a cell and a day have is defined here, too (`CellText`, `Day`); `cell_text` reads and
+//! writes it.
 #![tactic(auto)]
 
 mod cell;
 mod cut;
-mod day;
 mod form;
 mod memory;
 mod operator;
@@ -20,12 +21,10 @@ mod rows;
 mod sequence;
 mod steps;
 mod table;
-mod text;
 mod word;
 
 pub use cell::{Cell, Kind};
 pub use cut::{Cut, Span, compare_cuts};
-pub use day::{days_read_as_printed, read_day};
 pub use form::Form;
 pub use memory::{Memory, RunError};
 pub use operator::{Arg, Instr, Op, Value, class_of, copy_args, equal_instrs_are_the_same};
@@ -34,5 +33,4 @@ pub use rows::{compare_rows, compare_rows_by, sort_rows, sort_rows_by};
 pub use sequence::Sequence;
 pub use steps::Steps;
 pub use table::{Column, Db, Table, copy_cells, copy_columns, copy_rows, find_column};
-pub use text::write_cell;
 pub use word::{Word, word_of};

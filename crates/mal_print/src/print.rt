@@ -7,7 +7,8 @@ ghost use Rattle.mal_check.specs.Checked.{plan_fault};
 ghost use Rattle.mal_print.specs.Canon as canon;
 ghost use Rattle.mal_tokens.specs.Tokens.{bit_word, spelled};
 
-use cell_core::{Arg, Cell, Form, Instr, Memory, write_cell};
+use cell_core::{Arg, Cell, Form, Instr, Memory};
+use cell_text::write_cell;
 use itoa::{Buffer, Integer};
 use mal_meaning::Plan;
 use mal_tokens::{function_word, is_calc, module_word};

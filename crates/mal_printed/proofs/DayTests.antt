@@ -1,7 +1,7 @@
 -- The test of days that have a text, by the numbers of the first and the last.
 use Rattle.std.proofs.Common.{◌≡◌, true, false, ◌&&◌, int_le, ℤ, pos, negsuc, refl, ap, sym, ◌∙◌}
 use Rattle.jiff_core.proofs.DateLemmas.{days_from_civil-max}
-use Rattle.cell_core.proofs.DayLemmas.{days_from_civil-first}
+use Rattle.cell_text.proofs.DayLemmas.{days_from_civil-first}
 use Rattle.cell_core.specs.Day.{is_printed_day}
 
 day_test : (n : ℤ) → is_printed_day n ≡ (int_le (negsuc 719_161) n && int_le n (pos 2_932_896))

@@ -10,7 +10,7 @@ use Rattle.std.proofs.lemmas.Fmt.{IsAscii-decimal_wide}
 use Rattle.std.proofs.lemmas.Str.{IsUtf8-append, IsUtf8-from_ascii, IsUtf8-nil}
 use Rattle.std.proofs.lemmas.Str.Ascii.{IsAscii-nil, IsAscii-cons}
 use Rattle.cell_core.specs.Day.{day_text, IsDayText}
-use Rattle.cell_core.proofs.DayLemmas.{IsDayText-day_text}
+use Rattle.cell_text.proofs.DayLemmas.{IsDayText-day_text}
 use Rattle.cell_core.specs.declared.cell.Cell.{Cell}
 use Rattle.cell_core.specs.declared.cell.Cell.TheVariants as cell
 use Rattle.cell_core.specs.declared.operator.Arg.{Arg}

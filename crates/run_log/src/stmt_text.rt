@@ -1,9 +1,10 @@
 ghost use Rattle.std.specs.Prelude.{◌≡◌, IfOk};
-ghost use Rattle.sql_tree.specs.Canon.{canonical};
+ghost use Rattle.sql_print.specs.Canon.{canonical};
 ghost use Rattle.sql_tree.specs.Tree.{stmt_tree};
 
 use cell_core::Memory;
-use sql_tree::{Stmt, print_stmt};
+use sql_print::print_stmt;
+use sql_tree::Stmt;
 use std::alloc::Global;
 use std::marker::Model;
 use std::snapshot::Snapshot;
@@ -29,7 +30,7 @@ impl Model for StmtText {
     ghost use Rattle.sql_tree.specs.declared.tree.Stmt.{Stmt};
     ghost use Rattle.sql_tree.specs.contracts.tree.Cond as cond;
     ghost use Rattle.sql_tree.specs.contracts.tree.Expr as expr;
-    ghost use Rattle.sql_tree.specs.Canon.{canonical};
+    ghost use Rattle.sql_print.specs.Canon.{canonical};
     ghost use Rattle.sql_tree.specs.Tree.{stmt_tree};
 
     ghost Value = { Stmt };

@@ -5,7 +5,7 @@ use Rattle.std.specs.List.{range_with_len}
 use Rattle.std.proofs.Math.Nat.{mul-suc}
 use Rattle.std.proofs.lemmas.Bool.{ne_eqb}
 use Rattle.std.proofs.lemmas.List.FromFn.{length-map-range_with_len, map-range_with_len_more}
-use Rattle.sql_tree.specs.Canon.{listed}
+use Rattle.sql_print.specs.Canon.{listed}
 use Rattle.sample_scripts.specs.Scripts.{changes, draw, inserts, insert_text, next_draw, queries, queries_behind, query_text, range_text}
 
 -- ## Draws

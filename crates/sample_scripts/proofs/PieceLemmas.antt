@@ -7,7 +7,7 @@ use Rattle.std.proofs.Math.Nat.{mod-lt}
 use Rattle.std.proofs.lemmas.Bool.{ne_eqb}
 use Rattle.std.proofs.lemmas.Fmt.{decimal_is_IsNumeral}
 use Rattle.std.proofs.lemmas.Str.Parse.{digit_at}
-use Rattle.sql_tree.specs.Canon.{listed}
+use Rattle.sql_print.specs.Canon.{listed}
 use Rattle.sql_tree.specs.Pieces.{opened, pieces_of, runs_of, says_something, with_byte}
 use Rattle.sql_tree.specs.declared.inside.Inside.TheVariants.{Outside}
 use Rattle.sample_scripts.specs.Scripts.{changes, draw, insert_text, inserts, queries, queries_behind, query_text, range_text, row_text, script_text}

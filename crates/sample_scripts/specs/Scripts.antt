@@ -1,7 +1,7 @@
 -- The two scripts of a number, made of its draws.
 use Rattle.std.specs.Prelude.{ℕ, zero, suc, ◌+◌, ◌*◌, ◌%◌, List, ◌∷◌, ◌++◌, map, codes, decimal, flat_map}
 use Rattle.std.specs.List.{range_with_len}
-use Rattle.sql_tree.specs.Canon.{enclosed, listed}
+use Rattle.sql_print.specs.Canon.{enclosed, listed}
 
 -- ## Draws
 

@@ -1,7 +1,7 @@
 use crate::{ParseError, SplitError, each_is_formed, one_reading, parse, split};
 use cell_core::Memory;
+use sql_print::print_stmt;
 use sql_semantics::Refusal;
-use sql_tree::print_stmt;
 use std::alloc::{AllocError, Global};
 use std::fmt::Write;
 use std::test::Fail;

@@ -8,9 +8,9 @@ use Rattle.jiff_core.proofs.SignedLemmas.{signed_arith}
 use Rattle.jiff_core.proofs.CalendarLemmas.{day_count-later_year, day_count-day_of_year, day_count_bounds, days_from_civil-day_count}
 use Rattle.jiff_core.proofs.MarchLemmas.{day_count-early}
 use Rattle.cell_core.specs.Day.{day_text, day_in, year_in, month_in, day_of_month_in, IsDayText}
-use Rattle.cell_core.proofs.DayLemmas.{day_text-day_in}
+use Rattle.cell_text.proofs.DayLemmas.{day_text-day_in}
 use Rattle.sql_tree.specs.Bytes.{doubled}
-use Rattle.sql_tree.specs.Canon.{is_dated}
+use Rattle.sql_print.specs.Canon.{is_dated}
 
 -- ## No mark
 

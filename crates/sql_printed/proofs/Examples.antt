@@ -7,7 +7,7 @@ use Rattle.sql_grammar.specs.Grammar.{sign}
 use Rattle.sql_grammar.specs.Statements.{write_stmt}
 use Rattle.sql_printed.specs.CanonRules.{canon_stmt}
 use Rattle.sql_printed.specs.Printable.{IsPrintable}
-use Rattle.sql_tree.specs.Canon.{canonical}
+use Rattle.sql_print.specs.Canon.{canonical}
 use Rattle.sql_tree.specs.Tree.{ExprTree, StmtTree}
 use Rattle.sql_tree.specs.Tree.ExprTree.{Literal, ColumnOf, Operator, AggregateAll}
 use Rattle.sql_tree.specs.Tree.CondTree.{Compare, IsNull, Negation, Both}

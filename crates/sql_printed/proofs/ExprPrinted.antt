@@ -14,7 +14,7 @@ use Rattle.sql_printed.proofs.DayLemmas.{prints_day}
 use Rattle.sql_printed.proofs.WordLemmas.{key, key_blank, spaced_key, digits_printed, minus_printed, string_printed, name_printed}
 use Rattle.sql_printed.specs.CanonRules.{canon_literal, column_rule, canon_reference, factor_rule, operator_rule, canon_factor, canon_operand, canon_expr, canon_value, canon_value_operand, canon_cmp, compared_unit, within_unit, null_unit, canon_cond, canon_part, canon_where, canon_having}
 use Rattle.sql_printed.specs.Printable.{IfThere, IsName, IsReference, IsPrintableExpr, IsPrintableValue, IsPrintableCond, IsPrintableWhere, IsPrintableHaving}
-use Rattle.sql_tree.specs.Canon.{quoted_text, enclosed, literal_text, table_text, reference_text, arith_text, aggregate_text, compare_text, expr_text, operand_text, compared_text, within_text, null_test_text, cond_text, part_text}
+use Rattle.sql_print.specs.Canon.{quoted_text, enclosed, literal_text, table_text, reference_text, arith_text, aggregate_text, compare_text, expr_text, operand_text, compared_text, within_text, null_test_text, cond_text, part_text}
 use Rattle.sql_tree.specs.Names.{name_text}
 use Rattle.sql_tree.specs.Tree.{ExprTree, CondTree}
 use Rattle.sql_tree.specs.Tree.ExprTree.{Literal, ColumnOf, Operator, AggregateAll, Aggregate}

@@ -9,7 +9,7 @@ use Rattle.sql_printed.proofs.ExprPrinted.{decimal_printed, reference_printed, v
 use Rattle.sql_printed.proofs.WordLemmas.{key, key_blank, spaced_key, name_printed}
 use Rattle.sql_printed.specs.CanonRules.{canon_all, canon_some, canon_any, canon_option, canon_where, canon_having, canon_alias, canon_item, canon_items, canon_source, canon_join, canon_column_of, canon_place, canon_order, canon_key, canon_limit, canon_sources, canon_query}
 use Rattle.sql_printed.specs.Printable.{EachOfSome, IfThere, IsName, IsReference, IsPrintableWhere, IsPrintableHaving, IsPrintableItem, IsPrintableSource, IsPrintablePlace, IsPrintableKey, IsPrintableLimit, IsPrintableQuery}
-use Rattle.sql_tree.specs.Canon.{listed, listed_behind, reference_text, cond_behind, alias_text, item_text, from_text, place_text, key_text, items_text, limit_text, query_text}
+use Rattle.sql_print.specs.Canon.{listed, listed_behind, reference_text, cond_behind, alias_text, item_text, from_text, place_text, key_text, items_text, limit_text, query_text}
 use Rattle.sql_tree.specs.Tree.{ItemTree, QueryTree}
 use Rattle.sql_tree.specs.declared.token.Keyword.{Keyword}
 use Rattle.sql_tree.specs.declared.token.Keyword.TheVariants as word

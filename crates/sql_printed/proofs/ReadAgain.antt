@@ -20,7 +20,7 @@ use Rattle.sql_printed.proofs.StmtTold.{read_is_printable_of}
 use Rattle.sql_printed.specs.CanonRules.{canon_stmt}
 use Rattle.sql_printed.specs.Printable.{IsPrintable}
 use Rattle.sql_printed.specs.PrintedReads.{PrintedReads}
-use Rattle.sql_tree.specs.Canon.{canonical}
+use Rattle.sql_print.specs.Canon.{canonical}
 use Rattle.sql_tree.specs.Tokens.{Part, write_part, written, token_of, with_token, tokens_of, AreTokens}
 use Rattle.sql_tree.specs.Tree.{QueryTree, StmtTree}
 use Rattle.sql_tree.specs.declared.token.Placed.{Placed}

@@ -18,7 +18,7 @@ use Rattle.sql_printed.proofs.WordLemmas.{key, key_blank, spaced_key, name_print
 use Rattle.sql_printed.specs.CanonRules.{canon_any, canon_literal, canon_type, canon_end, canon_coldef, canon_listed_name, canon_row, canon_set, canon_stmt}
 use Rattle.sql_printed.specs.Laws.{PrintedTokens}
 use Rattle.sql_printed.specs.Printable.{EachOfSome, IsName, IsPrintableKind, IsPrintableColumn, IsPrintableSet, IsPrintable}
-use Rattle.sql_tree.specs.Canon.{type_text, default_text, column_text, literal_text, row_text, column_list_text, set_text, canonical}
+use Rattle.sql_print.specs.Canon.{type_text, default_text, column_text, literal_text, row_text, column_list_text, set_text, canonical}
 use Rattle.sql_tree.specs.Names.{name_text}
 use Rattle.sql_tree.specs.Tree.{ExprTree, StmtTree}
 use Rattle.sql_tree.specs.Tree.StmtTree.{CreateTable, DropTable, AlterTable, InsertInto, DeleteFrom, UpdateTable, Select, ExplainSelect}

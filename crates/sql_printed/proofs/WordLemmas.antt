@@ -12,7 +12,7 @@ use Rattle.sql_printed.proofs.CutLemmas.{Cut, put, ends, Lead, Middle, Printed, 
 use Rattle.sql_printed.specs.CanonRules.{canon_name}
 use Rattle.sql_printed.specs.Printable.{IsName}
 use Rattle.sql_tree.specs.Bytes.{is_letter, is_low_letter, is_digit, is_word_byte, low, begins, begins_with, doubled}
-use Rattle.sql_tree.specs.Canon.{quoted_text}
+use Rattle.sql_print.specs.Canon.{quoted_text}
 use Rattle.sql_tree.specs.Names.{is_low_word, is_reserved_word, is_bare_name, name_text}
 use Rattle.sql_tree.specs.Tokens.{ends_symbol}
 use Rattle.sql_tree.specs.Tokens.Part.{Letters, Number, QuotedName as NameInQuotes, QuotedText, Mark}

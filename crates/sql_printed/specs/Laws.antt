@@ -5,7 +5,7 @@ use Rattle.sql_grammar.specs.Reads.Reading.{ReadsAs}
 use Rattle.sql_grammar.specs.Statements.{write_stmt, Derives}
 use Rattle.sql_printed.specs.CanonRules.{canon_stmt}
 use Rattle.sql_printed.specs.Printable.{IsPrintable}
-use Rattle.sql_tree.specs.Canon.{canonical}
+use Rattle.sql_print.specs.Canon.{canonical}
 use Rattle.sql_tree.specs.Tokens.{AreTokens}
 use Rattle.sql_tree.specs.Tree.{StmtTree}
 use Rattle.sql_tree.specs.declared.token.Placed.{Placed}

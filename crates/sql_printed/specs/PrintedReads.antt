@@ -2,7 +2,7 @@
 use Rattle.std.specs.Prelude.{ℕ, ◌≤◌, List, length}
 use Rattle.sql_grammar.specs.Reads.{IsReadAs}
 use Rattle.sql_grammar.specs.Reads.Reading.{ReadsAs}
-use Rattle.sql_tree.specs.Canon.{canonical}
+use Rattle.sql_print.specs.Canon.{canonical}
 use Rattle.sql_tree.specs.Tree.{StmtTree}
 
 -- the canonical text of a statement that a text reads as, where it is no longer than a statement may be, reads as that statement again

@@ -1,5 +1,3 @@
-pub mod ListedLemmas
 pub mod QuotedLemmas
-pub mod MapLemmas
 pub mod WordLists
 mod Examples

@@ -5,5 +5,4 @@ pub mod Names
 pub mod Pieces
 pub mod Tokens
 pub mod Tree
-pub mod Canon
 pub mod Exprs

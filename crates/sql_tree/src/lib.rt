@@ -1,29 +1,25 @@
-//! SQL as trees and as tokens: what a statement, a token and a piece of a script are, and the
-//! canonical text of a statement.
+//! SQL as trees and as tokens: what a statement, a token and a piece of a script are, and how a name
+//! is printed.
 //!
 //! It stands on `cell_core`. The definitions in `specs/` are what a reader has to believe: where a
 //! script is cut (`Pieces`), how a text is cut into tokens with their places (`Tokens`), which words
 //! are reserved (`Words`, over the two lists of `words.rt`), how the code's statements are seen as
-//! plain trees (`Tree`) and its digits as their bytes (`Kept`), and how a tree is printed (`Canon`,
-//! `Names`). It promises that `print_stmt` gives the canonical text of every tree and `copy` an equal
-//! one. Pieces and tokens are found by `sql_tokens`.
+//! plain trees (`Tree`) and its digits as their bytes (`Kept`), and how a name is printed (`Names`). It
+//! promises that `copy` gives an equal tree. Pieces and tokens are found by `sql_tokens`; statements are
+//! printed by `sql_print`.
 #![tactic(auto)]
 
 mod copy;
 mod digits;
 mod inside;
 mod names;
-mod print;
-mod print_expr;
-mod print_parts;
 mod token;
 mod tree;
 mod words;
 
 pub use digits::{Digits, digits_of};
 pub use inside::Inside;
-pub use names::printed_name;
-pub use print::print_stmt;
+pub use names::{printed_name, write_name, write_quoted};
 pub use token::{Keyword, PAIRS, Placed, SINGLES, Symbol, Token};
 pub use tree::{
     AggOp, ArithOp, CmpOp, ColRef, Cond, Expr, FromItem, Item, Place, Query, SortKey, Stmt,

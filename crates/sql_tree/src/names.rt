@@ -24,7 +24,7 @@ pub fn printed_name(alloc: Global, name: &Word) -> Result<Word, Memory>
 }
 
 /// Appends a name as it is printed.
-pub(crate) fn write_name(name: &Word, out: &mut Vec<u8>) -> Result<(), Memory>
+pub fn write_name(name: &Word, out: &mut Vec<u8>) -> Result<(), Memory>
     ensures { OnOk result (out.new.items ≡ out.old.items ++ name_text name.now) }
 {
     let text = name.text();
@@ -36,7 +36,7 @@ pub(crate) fn write_name(name: &Word, out: &mut Vec<u8>) -> Result<(), Memory>
 }
 
 /// Appends a text between two marks, with each mark in it doubled.
-pub(crate) fn write_quoted(mark: u8, text: &str, out: &mut Vec<u8>) -> Result<(), Memory>
+pub fn write_quoted(mark: u8, text: &str, out: &mut Vec<u8>) -> Result<(), Memory>
     ensures { OnOk result (out.new.items ≡ out.old.items ++ (mark ∷ flat_map (doubled mark) text.now ++ mark ∷ [])) }
 {
     out.push(mark)?;

@@ -1,6 +1,6 @@
 //! Bytes of texts: their classes, the fronts of one class, and the numbers and days that they write.
 //!
-//! It stands on `cell_core`, whose days these are, and `jiff_core`, whose calendar it is. What is read of
+//! It stands on `cell_text`, whose days these are, and `jiff_core`, whose calendar it is. What is read of
 //! SQL and of MAL alike stands here, once: each call gives what its definition in `specs/` says, and the
 //! lemmas on fronts, texts, numbers and days are there for the crates above. It takes no memory.
 #![tactic(auto)]

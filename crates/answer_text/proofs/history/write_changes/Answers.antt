@@ -1,6 +1,6 @@
 use Rattle.std.proofs.Common.{◌≡◌, ◌+◌, ◌++◌, ◌∷◌, [], Some, None, ap, sym, ◌∙◌, arith, length, length-append, take}
 use Rattle.std.specs.Option.{option_copied, option_map}
-use Rattle.sql_tree.specs.Canon.{canonical}
+use Rattle.sql_print.specs.Canon.{canonical}
 use Rattle.sql_tree.specs.Tree.{stmt_tree}
 use Rattle.run_log.specs.Events.{act_tree, log_tree, committed}
 use Rattle.answer_text.specs.Layout.{Change, changes_of, change_from, change_line}

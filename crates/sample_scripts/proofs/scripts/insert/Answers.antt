@@ -1,6 +1,6 @@
 use Rattle.std.proofs.Common.{rules, ◌≡◌, ◌==◌, ℕ, ◌+◌, List, [], ◌++◌, codes, map, if◌then◌else◌, ap, sym, ◌∙◌, append_assoc}
 use Rattle.std.specs.List.{range_with_len}
-use Rattle.sql_tree.specs.Canon.{listed}
+use Rattle.sql_print.specs.Canon.{listed}
 use Rattle.sample_scripts.specs.Scripts.{draw, next_draw, row_text}
 use Rattle.sample_scripts.proofs.DrawLemmas.{draw-next, draw-none, listed-next}
 use Rattle.sample_scripts.proofs.scripts.insert.Goals as goal

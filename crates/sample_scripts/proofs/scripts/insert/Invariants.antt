@@ -1,7 +1,7 @@
 use Rattle.std.proofs.Common.{◌≡◌, ◌<◌, ◌++◌, codes, map}
 use Rattle.std.specs.Prelude.{string_bytes}
 use Rattle.std.specs.List.{range_with_len}
-use Rattle.sql_tree.specs.Canon.{listed}
+use Rattle.sql_print.specs.Canon.{listed}
 use Rattle.sample_scripts.specs.Scripts.{draw, row_text}
 use Rattle.sample_scripts.proofs.scripts.insert.Given as goal
 

@@ -1,5 +1,0 @@
-use Rattle.cell_core.proofs.DayLemmas.{epoch_is_zero}
-use Rattle.cell_core.proofs.day.epoch.Goals as goal
-
-pub returns : goal.returns
-returns c = epoch_is_zero c.date.result c.date.ensures

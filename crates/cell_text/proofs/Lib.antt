@@ -1,0 +1,4 @@
+pub mod DayExamples
+pub mod DayLemmas
+pub mod TextExamples
+pub mod TextLemmas

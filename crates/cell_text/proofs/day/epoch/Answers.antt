@@ -1,0 +1,5 @@
+use Rattle.cell_text.proofs.DayLemmas.{epoch_is_zero}
+use Rattle.cell_text.proofs.day.epoch.Goals as goal
+
+pub returns : goal.returns
+returns c = epoch_is_zero c.date.result c.date.ensures

@@ -1,5 +1,0 @@
-use Rattle.sql_tree.proofs.MapLemmas.{sets_texts}
-use Rattle.sql_tree.proofs.print.write_set_list.Goals as goal
-
-pub returns : goal.returns
-returns c = rw (sets_texts c.args.sets.now) c.write_listed.ensures
