@@ -24,7 +24,6 @@ use std::alloc::Global;
 use table_store::Snap;
 
 /// What a query begins with.
-#[derive(Drop)]
 pub struct Begun {
     /// The position of its Begin, from 1.
     pub at: u64,
@@ -34,6 +33,46 @@ pub struct Begun {
     pub plan: Result<Plan, Refusal>,
     /// Whether each instruction of the plan is marked; none where it is refused.
     pub marks: Vec<bool>,
+}
+
+// By a call of its own, so that proofs needn't go through its forms where one is let go.
+impl Drop for Begun {
+    fn drop(self) {
+        let Begun {
+            at: _,
+            snap: _,
+            plan: _,
+            marks: _,
+        } = self;
+    }
+}
+
+impl Begun {
+    /// Its plan or refusal, for which it is given up.
+    pub fn into_plan(self) -> Result<Plan, Refusal>
+        ensures { result ≡ self.plan }
+    {
+        let Begun {
+            at: _,
+            snap: _,
+            plan,
+            marks: _,
+        } = self;
+        plan
+    }
+
+    /// Its tables, its plan or refusal, and its marks.
+    pub fn into_parts(self) -> (Snap, Result<Plan, Refusal>, Vec<bool>)
+        ensures { result ≡ (self.snap, self.plan, self.marks) }
+    {
+        let Begun {
+            at: _,
+            snap,
+            plan,
+            marks,
+        } = self;
+        (snap, plan, marks)
+    }
 }
 
 impl Book {

@@ -26,7 +26,6 @@ pub(crate) const WHO: Who = Who {
 };
 
 /// A book beside plain tables, to which the same changes are done.
-#[derive(Drop)]
 pub(crate) struct Beside<L: Ledger> {
     book: Book,
     scorer: Scorer,
@@ -35,6 +34,18 @@ pub(crate) struct Beside<L: Ledger> {
     pub(crate) db: Db,
     ghost kind: { scorer.kind ≡ book.options.evict },
     ghost weights: { scorer.weights.items ≡ book.options.weights },
+}
+
+// By a call of its own, so that proofs needn't go through its forms where one is let go.
+impl<L: Ledger> Drop for Beside<L> {
+    fn drop(self) {
+        let Beside {
+            book: _,
+            scorer: _,
+            steps: _,
+            db: _,
+        } = self;
+    }
 }
 
 impl<L: Ledger> Beside<L> {
@@ -93,7 +104,10 @@ impl<L: Ledger> Beside<L> {
     pub(crate) fn snapshot(&mut self, alloc: Global) -> Result<Snap, Memory> {
         let stmt = read(alloc, "SELECT a FROM t")?;
         match &stmt {
-            Stmt::Query(query) => Ok(self.book.begin(alloc, WHO, &stmt, query)?.snap),
+            Stmt::Query(query) => {
+                let (snap, _, _) = self.book.begin(alloc, WHO, &stmt, query)?.into_parts();
+                Ok(snap)
+            }
             _ => Err(Memory),
         }
     }

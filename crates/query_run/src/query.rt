@@ -61,12 +61,7 @@ impl Query {
         if count > u32::MAX as usize {
             return Err(Memory);
         }
-        let Query {
-            snap,
-            plan,
-            marks,
-            ..
-        } = self;
+        let (snap, plan, marks) = self.into_begun();
         let ids = vec![in alloc; 0_u64; count]?;
         let values = no_results(alloc, count)?;
         let asked = vec![in alloc; false; count]?;
@@ -144,12 +139,7 @@ impl Query {
         ensures step { IfOk result (ComesTo self) }
         ensures held { IfOk result (λ next. held next ≡ self.work) }
     {
-        let Query {
-            plan,
-            values,
-            work,
-            ..
-        } = self;
+        let (plan, values, work) = self.into_results();
         let values = all_results(alloc, values)?;
         let rows = output(alloc, &plan.out, values.as_slice())?;
         Ok(Step::Ending(Shown::Rows(rows), work))

@@ -1,3 +1,5 @@
+ghost use Rattle.std.specs.Prelude.{◌≡◌};
+
 use answer_text::Shown;
 use bat_core::{Obj, Shared};
 use lineage_key::Key;
@@ -6,7 +8,6 @@ use recycle_pool::{Found, Part};
 use table_store::Snap;
 
 /// A query under way. Its results come in any order in which each has its arguments.
-#[derive(Drop)]
 pub struct Query {
     /// The tables that it sees.
     pub snap: Snap,
@@ -22,6 +23,55 @@ pub struct Query {
     pub asked: Vec<bool>,
     /// The stated work of those results that aren't marked.
     pub work: u128,
+}
+
+// By a call of its own, so that proofs needn't go through its forms where one is let go.
+impl Drop for Query {
+    fn drop(self) {
+        let Query {
+            snap: _,
+            plan: _,
+            marks: _,
+            ids: _,
+            values: _,
+            asked: _,
+            work: _,
+        } = self;
+    }
+}
+
+impl Query {
+    /// What it began with: its tables, its plan and its marks.
+    pub(crate) fn into_begun(self) -> (Snap, Plan, Vec<bool>)
+        ensures { result ≡ (self.snap, self.plan, self.marks) }
+    {
+        let Query {
+            snap,
+            plan,
+            marks,
+            ids: _,
+            values: _,
+            asked: _,
+            work: _,
+        } = self;
+        (snap, plan, marks)
+    }
+
+    /// What it ends with: its plan, its results and its work.
+    pub(crate) fn into_results(self) -> (Plan, Vec<Option<Obj>>, u128)
+        ensures { result ≡ (self.plan, self.values, self.work) }
+    {
+        let Query {
+            snap: _,
+            plan,
+            marks: _,
+            ids: _,
+            values,
+            asked: _,
+            work,
+        } = self;
+        (plan, values, work)
+    }
 }
 
 /// A result that is offered.

@@ -63,21 +63,13 @@ fn with_work(totals: Totals, work: u128) -> Result<Totals, Memory>
     Ok(Totals { work, ..totals })
 }
 
-/// The text of a session.
-fn text_of(session: Session) -> Vec<u8>
-    ensures { result ≡ session.text }
-{
-    let Session { text, .. } = session;
-    text
-}
-
 /// The texts of the sessions.
 fn texts_of(alloc: Global, sessions: Vec<Session>) -> Result<Vec<Vec<u8>>, Memory>
     ensures { IfOk result (λ texts. texts.items ≡ map (λ (x : SessionSeen). x.text) sessions.items) }
 {
     let mut texts = Vec::new(alloc);
     'sessions: for session in sessions {
-        texts.push(text_of(session))?;
+        texts.push(session.into_text())?;
     }
     Ok(texts)
 }

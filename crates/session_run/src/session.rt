@@ -30,7 +30,6 @@ use std::mem;
 use std::sync::ledger::Ledger;
 
 /// One script's way through a run.
-#[derive(Drop)]
 pub struct Session {
     /// Its number, from 1.
     pub number: u32,
@@ -46,6 +45,21 @@ pub struct Session {
     pub wide: bool,
     /// What it does next.
     pub stage: Stage,
+}
+
+// By a call of its own, so that proofs needn't go through its forms where one is let go.
+impl Drop for Session {
+    fn drop(self) {
+        let Session {
+            number: _,
+            pieces: _,
+            ended: _,
+            text: _,
+            work: _,
+            wide: _,
+            stage: _,
+        } = self;
+    }
 }
 
 impl Session {
@@ -71,6 +85,22 @@ impl Session {
             wide,
             stage: Stage::Between,
         }
+    }
+
+    /// Its replies, as they are printed, for which it is given up.
+    pub fn into_text(self) -> Vec<u8>
+        ensures { result ≡ self.text }
+    {
+        let Session {
+            number: _,
+            pieces: _,
+            ended: _,
+            text,
+            work: _,
+            wide: _,
+            stage: _,
+        } = self;
+        text
     }
 
     /// Whether all its statements have ended.

@@ -211,12 +211,7 @@ impl Session {
 fn query_stage(alloc: Global, begun: Begun) -> Stage
     ensures { BeginsWith begun.snap begun.marks.items begun.plan result }
 {
-    let Begun {
-        snap,
-        plan,
-        marks,
-        ..
-    } = begun;
+    let (snap, plan, marks) = begun.into_parts();
     match plan {
         Ok(plan) => Stage::Querying(Step::Begun(Query::new(alloc, snap, plan, marks))),
         Err(refusal) => refused(refusal),
@@ -227,8 +222,7 @@ fn query_stage(alloc: Global, begun: Begun) -> Stage
 fn explain_stage(begun: Begun) -> Stage
     ensures { result ≡ explained begun.plan }
 {
-    let Begun { plan, .. } = begun;
-    match plan {
+    match begun.into_plan() {
         Ok(plan) => Stage::Explaining(plan),
         Err(refusal) => refused(refusal),
     }

@@ -47,7 +47,6 @@ pub(crate) struct Tools<'h, 'k, V: Logged, K: RunOptions, F, E> {
 
 /// A session whose query is open, with the pass by which it takes turns. It asks the pool for the results of
 /// marked instructions, computes by itself what reuses others, hands the rest out, and offers what comes back.
-#[derive(Drop)]
 pub(crate) struct Crew<'h, 'k, 's, V: Logged, K: RunOptions, F, E, L: Ledger> {
     pub tools: Tools<'h, 'k, V, K, F, E>,
     pub steps: &'s mut Steps<L>,
@@ -59,6 +58,38 @@ pub(crate) struct Crew<'h, 'k, 's, V: Logged, K: RunOptions, F, E, L: Ledger> {
     /// How many instructions the plan has.
     pub instrs: u32,
     ghost counted: { instrs ≡ length (basis_of tools.began.value.stage).plan.instrs },
+}
+
+// By a call of its own, so that proofs needn't go through its forms where one is let go.
+impl<'h, 'k, 's, V: Logged, K: RunOptions, F: Drop, E, L: Ledger> Drop
+    for Crew<'h, 'k, 's, V, K, F, E, L> {
+    fn drop(self) {
+        let Crew {
+            tools: _,
+            steps: _,
+            runner: _,
+            handed: _,
+            finished: _,
+            instrs: _,
+        } = self;
+    }
+}
+
+impl<'h, 'k, 's, V: Logged, K: RunOptions, F: Drop, E, L: Ledger> Crew<'h, 'k, 's, V, K, F, E, L> {
+    /// Its session with its pass; the rest is let go.
+    pub(crate) fn into_runner(self) -> Runner<V>
+        ensures { result ≡ self.runner }
+    {
+        let Crew {
+            tools: _,
+            steps: _,
+            runner,
+            handed: _,
+            finished: _,
+            instrs: _,
+        } = self;
+        runner
+    }
 }
 
 /// Where a query comes to by one instruction.

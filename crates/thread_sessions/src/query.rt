@@ -117,7 +117,7 @@ fn open_crew<
     ensures sound { IfOk result (λ crew. IsSound F.Fn K.options crew.tools.hall.now crew.tools.event crew.runner crew.tools.began.value crew.handed.items crew.finished.items) }
     ensures none_out { IfOk result (λ crew. NoneOut crew.handed.items crew.finished.items) }
 {
-    let Runner { pass, mut session } = runner;
+    let (pass, mut session) = runner.into_parts();
     let query = match mem::replace(&mut session.stage, Stage::Between) {
         Stage::Querying(Step::Begun(query)) => query.open(alloc)?,
         _ => unreachable!(),
@@ -185,7 +185,7 @@ fn end<V: Logged<Entry = Event>, K: RunOptions, F: Drop, E, L: Ledger>(
     requires aside { IsAside (stage.Querying ending) }
     ensures { HasEnded K.options crew.entry.tools.hall.now crew.entry.tools.began.value result }
 {
-    let Crew { mut runner, .. } = crew;
+    let mut runner = crew.into_runner();
     runner.session.stage = Stage::Querying(ending);
     runner
 }

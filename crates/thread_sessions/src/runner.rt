@@ -23,10 +23,29 @@ use std::thread::Threads;
 use turn_hall::{Hall, Logged, Pass};
 
 /// A session, and the pass by which it takes turns.
-#[derive(Drop)]
 pub(crate) struct Runner<V: Logged> {
     pub(crate) pass: Pass<V>,
     pub(crate) session: Session,
+}
+
+// By a call of its own, so that proofs needn't go through its forms where one is let go.
+impl<V: Logged> Drop for Runner<V> {
+    fn drop(self) {
+        let Runner {
+            pass: _,
+            session: _,
+        } = self;
+    }
+}
+
+impl<V: Logged> Runner<V> {
+    /// Its pass and its session.
+    pub(crate) fn into_parts(self) -> (Pass<V>, Session)
+        ensures { result ≡ (self.pass, self.session) }
+    {
+        let Runner { pass, session } = self;
+        (pass, session)
+    }
 }
 
 /// Does a session's next event in one turn, with a counter of its own.

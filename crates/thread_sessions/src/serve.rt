@@ -190,10 +190,7 @@ fn join_all<K: RunOptions>(
 {
     let mut sessions = Vec::new(alloc);
     'runners: for runner in runners {
-        let Runner {
-            pass: other,
-            session,
-        } = runner;
+        let (other, session) = runner.into_parts();
         hall.join(pass, other);
         sessions.push(session)?;
     }

@@ -6,5 +6,8 @@ use Rattle.session_run.proofs.start.query_stage.Goals as goal
 
 pub returns-in-Ok : goal.returns-in-Ok
 returns-in-Ok c =
-    subst (λ outcome. BeginsWith c.args.begun.snap c.args.begun.marks.items outcome (stage.Querying (step.Begun c.new.result))) (sym c.in-Ok.is)
-    (c.new.result, refl, record { snap_is = c.new.ensures.snap; plan_is = c.new.ensures.plan; marks_are = c.new.ensures.marks; work = c.new.ensures.work })
+    let began = c.into_parts-snap.result in
+    let next = stage.Querying (step.Begun c.new.result) in
+    subst (λ parts. BeginsWith parts.0 parts.2.items parts.1 next) c.into_parts-snap.ensures
+    (subst (λ outcome. BeginsWith began.0 began.2.items outcome next) (sym c.in-Ok.is)
+    (c.new.result, refl, record { snap_is = c.new.ensures.snap; plan_is = c.new.ensures.plan; marks_are = c.new.ensures.marks; work = c.new.ensures.work }))
