@@ -12,10 +12,11 @@ use Rattle.pool_policy.specs.Pool.{pool_bytes, has_credits, score_at}
 use Rattle.pool_policy.specs.Keyed.{shape_in}
 use Rattle.pool_policy.specs.Admits.{Offer, evictions_for, number_from, offer_bytes, rows_of}
 use Rattle.pool_policy.proofs.Fitting.{pools_fit_all}
+use Rattle.pool_entries.specs.Shapes.{credit_with, shapes_with}
 use Rattle.recycle_pool.specs.declared.pool.Pool.TheInside.{Inside}
 use Rattle.recycle_pool.specs.declared.lists.Lists.{Lists}
 use Rattle.recycle_pool.specs.Placed.{HasPlace}
-use Rattle.recycle_pool.specs.Usable.{IsNew, IsWeighable, credit_with, shapes_with}
+use Rattle.recycle_pool.specs.Usable.{IsNew, IsWeighable}
 use Rattle.recycle_pool.specs.Views.{pool_shown, HaveRoom, IsKept}
 use Rattle.recycle_pool.proofs.Answered.{IsShaped}
 

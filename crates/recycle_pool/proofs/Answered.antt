@@ -19,7 +19,9 @@ use Rattle.pool_policy.specs.Keeps.{AreFunded, IsPool, IsOffer}
 use Rattle.pool_policy.proofs.Credits.{IsNumbered, funded_shape, paid_is}
 use Rattle.pool_policy.proofs.Lists.{all_filter, all_on}
 use Rattle.pool_policy.proofs.NewEntry.{admit_keeps, none_with}
-use Rattle.recycle_pool.specs.Usable.{IsNew, IsOwed, credit_with, shapes_with}
+use Rattle.pool_entries.specs.Shapes.{credit_with, shapes_with}
+use Rattle.pool_entries.specs.Usable.{IsOwed}
+use Rattle.recycle_pool.specs.Usable.{IsNew}
 use Rattle.std.proofs.lemmas.Option.{slice_get-get_or}
 
 -- what an admission leaves is a pool

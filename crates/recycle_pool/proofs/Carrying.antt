@@ -16,8 +16,9 @@ use Rattle.pool_policy.proofs.Fitting.{apart_fit, ids_fit, range_fit}
 use Rattle.pool_policy.proofs.Touches.{forget_keeps}
 use Rattle.pool_policy.proofs.WrittenPool.{returns_keep}
 use Rattle.pool_policy.proofs.WriteEnds.{write_keeps}
+use Rattle.pool_entries.specs.Usable.{IsOwed}
 use Rattle.recycle_pool.specs.declared.pool.Pool.TheInside.{Inside}
-use Rattle.recycle_pool.specs.Usable.{IsOwed, IsWeighable}
+use Rattle.recycle_pool.specs.Usable.{IsWeighable}
 use Rattle.recycle_pool.specs.Views.{pool_shown, IsKept}
 use Rattle.recycle_pool.proofs.Answered.{owed_from}
 

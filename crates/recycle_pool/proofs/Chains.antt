@@ -25,9 +25,9 @@ use Rattle.pool_policy.proofs.Ends.{all_from, filter_map_in}
 use Rattle.pool_policy.proofs.Faces.{value_of_in}
 use Rattle.pool_policy.proofs.Reuses.{from_entry}
 use Rattle.cell_core.specs.Pairs.{Pairs}
+use Rattle.pool_entries.proofs.Places.{read_any}
 use Rattle.recycle_pool.specs.Answers.{IsPooledAs}
 use Rattle.std.proofs.lemmas.Option.{slice_get-get_or}
-use Rattle.recycle_pool.proofs.Places.{read_any}
 
 -- ## Pooled selections
 

@@ -1,14 +1,10 @@
-pub mod Changed
 pub mod Stands
 pub mod Places
-pub mod Ids
 pub mod Totals
 pub mod Prints
 pub mod Chains
 pub mod Findings
-pub mod Owed
 pub mod Looked
-pub mod Numbers
 pub mod Planned
 pub mod Answered
 pub mod Admissions

@@ -11,8 +11,9 @@ use Rattle.pool_policy.specs.Looks.{Finding, after_found, after_look, at_ids, id
 use Rattle.pool_policy.specs.Keeps.{IsCounted}
 use Rattle.pool_policy.proofs.Fitting.{pools_fit_all}
 use Rattle.pool_policy.proofs.Lists.{all_on}
+use Rattle.pool_entries.specs.Usable.{CanUse, HaveRisingIds, IsOwed}
 use Rattle.recycle_pool.specs.declared.pool.Pool.TheInside.{Inside}
-use Rattle.recycle_pool.specs.Usable.{CanUse, HaveRisingIds, IsLookable, IsOwed}
+use Rattle.recycle_pool.specs.Usable.{IsLookable}
 use Rattle.recycle_pool.specs.Named.{IsNamed}
 use Rattle.recycle_pool.specs.Indexed.{IsIndexed}
 use Rattle.recycle_pool.specs.Views.{pool_shown, IsKept}

@@ -5,8 +5,8 @@ use Rattle.std.proofs.lemmas.List.{take_all}
 use Rattle.evict_admit.specs.Credits.{Credits}
 use Rattle.pool_policy.specs.declared.entry.PoolEntry.{PoolEntry}
 use Rattle.pool_policy.specs.Looks.{one_more, paid_back}
-use Rattle.recycle_pool.specs.Usable.{IsOwed}
-use Rattle.recycle_pool.proofs.Owed.{owed_first}
+use Rattle.pool_entries.specs.Usable.{IsOwed}
+use Rattle.pool_entries.proofs.Owed.{owed_first}
 
 -- a list by its first element and the others
 pub first_and_rest : {X : Type 0} (xs : List X) (x : X) → 1 ≤ length xs → x ≡ get_or xs 0 x → xs ≡ x ∷ take (length xs - 1) (drop 1 xs)

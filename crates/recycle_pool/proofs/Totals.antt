@@ -8,7 +8,7 @@ use Rattle.pool_policy.specs.declared.entry.PoolEntry.{PoolEntry}
 use Rattle.pool_policy.specs.Pool.{pool_bytes}
 use Rattle.pool_policy.specs.Admits.{left_without}
 use Rattle.pool_policy.specs.Keeps.{Face, face_of, faces}
-use Rattle.recycle_pool.proofs.Ids.{none_kept}
+use Rattle.pool_entries.proofs.Ids.{none_kept}
 
 by_faces : (es : List PoolEntry) → pool_bytes es ≡ sum_by (λ (f : Face). f.bytes) (faces es)
 by_faces [] = refl

@@ -15,9 +15,9 @@ use Rattle.pool_policy.specs.Admits.{left_without}
 use Rattle.pool_policy.specs.Keyed.{entry_of_id, first_parent}
 use Rattle.pool_policy.specs.Keeps.{Face, Rises, faces}
 use Rattle.pool_policy.specs.Looks.{selections_from}
+use Rattle.pool_entries.proofs.Ids.{found_there}
 use Rattle.recycle_pool.specs.Indexed.{IsIndexed, own_selection, pair_of, selections_at}
 use Rattle.recycle_pool.proofs.Findings.{one_of_is}
-use Rattle.recycle_pool.proofs.Ids.{found_there}
 
 -- ## Upkeep
 

@@ -7,12 +7,11 @@ ghost use Rattle.recycle_pool.specs.Answers.{offer_in};
 ghost use Rattle.recycle_pool.specs.Usable.{IsNew};
 
 use crate::exchange::exchange;
-use crate::offer::{Offered, bytes_of, first_missing, is_stale, new_entry};
+use crate::offer::{Offered, bytes_of, is_stale, new_entry};
 use crate::pool::Pool;
-use crate::room::{is_spent, make_room};
-use crate::shapes::give_number;
-use crate::uses::pin_id;
+use crate::room::make_room;
 use cell_core::Memory;
+use pool_entries::{first_missing, give_number, is_spent, pin_id};
 use pool_policy::{Admitted, Who};
 use score_hook::Scorer;
 

@@ -6,15 +6,16 @@ ghost use Rattle.subsume.specs.Cutting.{least_cut, piece_of};
 ghost use Rattle.least_cover.specs.Chosen.{chain_of, entry_at, pieces_from};
 ghost use Rattle.pool_policy.specs.Keyed.{entry_of_id};
 ghost use Rattle.pool_policy.specs.Looks.{across_found, cover_of, has_rising_heads, selections_from};
+ghost use Rattle.pool_entries.specs.Usable.{HaveRisingIds};
 ghost use Rattle.recycle_pool.specs.Answers.{ArePooled, HandsOut, IsPooledAs, piece_in, told};
-ghost use Rattle.recycle_pool.specs.Usable.{HaveRisingIds, IsLookable};
+ghost use Rattle.recycle_pool.specs.Usable.{IsLookable};
 
-use crate::by_id::place_by_id;
 use crate::found::{Found, Part};
 use crate::selections::{Selection, priced};
 use bat_core::Shared;
 use cell_core::{Cut, Memory, Span, compare_cuts};
 use least_cover::cheapest;
+use pool_entries::place_by_id;
 use pool_policy::PoolEntry;
 use std::alloc::Global;
 

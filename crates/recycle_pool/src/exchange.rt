@@ -5,17 +5,18 @@ ghost use Rattle.evict_admit.specs.Runs.{is_one_of};
 ghost use Rattle.pool_policy.specs.declared.entry.PoolEntry.{PoolEntry as EntryValue};
 ghost use Rattle.pool_policy.specs.Looks.{paid_back};
 ghost use Rattle.pool_policy.specs.Admits.{credit_of, left_without, one_less, pays_at_end};
+ghost use Rattle.pool_entries.specs.Usable.{IsOwed};
 ghost use Rattle.recycle_pool.specs.Indexed.{AreBeside, IsIndexed};
 ghost use Rattle.recycle_pool.specs.Named.{IsNamed};
 ghost use Rattle.recycle_pool.specs.Placed.{HasPlace};
-ghost use Rattle.recycle_pool.specs.Usable.{IsOwed};
 
 use crate::carried::Carried;
 use crate::children::{add_child, renew_children, take_children};
 use crate::keys::Keys;
-use crate::room::{enter, leave, pay};
+use crate::room::{enter, leave};
 use crate::written::{enter_all, take_touched};
 use evict_admit::Ledger;
+use pool_entries::pay;
 use pool_index::{Children, Parents};
 use pool_policy::PoolEntry;
 

@@ -5,12 +5,12 @@ ghost use Rattle.std.specs.Option.{is_some, option_and_then, option_map_or};
 ghost use Rattle.lineage_key.specs.Same.{same_key};
 ghost use Rattle.pool_index.specs.Named.{id_under};
 ghost use Rattle.pool_policy.specs.Keyed.{entry_of_id, entry_of_key};
-ghost use Rattle.recycle_pool.specs.Usable.{HaveRisingIds};
+ghost use Rattle.pool_entries.specs.Usable.{HaveRisingIds};
 ghost use Rattle.recycle_pool.specs.Named.{IsNamed};
 
-use crate::by_id::place_by_id;
 use cell_core::Memory;
 use lineage_key::Key;
+use pool_entries::place_by_id;
 use pool_index::{Prints, print_of};
 use pool_policy::{PoolEntry, place_of_id, place_of_key};
 use std::alloc::Global;

@@ -2,9 +2,9 @@
 //!
 //! It stands on `pool_policy`, whose functions say all that a pool does: contracts see a `Pool` as the
 //! state that these speak of, and each call answers and leaves exactly what they give. It stands on
-//! `lineage_key` for keys, on `subsume` and `least_cover` for ranges, and on `evict_admit` for credits and
-//! for what goes to make room. What the entries mean, and that results from them are the plain ones, is
-//! told by the laws of `pool_policy`.
+//! `pool_entries` for what is done with the entries alone, on `lineage_key` for keys, on `subsume` and
+//! `least_cover` for ranges, and on `evict_admit` for what goes to make room. What the entries mean, and
+//! that results from them are the plain ones, is told by the laws of `pool_policy`.
 //!
 //! An entry with a key is found by the print of the key (`pool_index`), and one with an id by halves, since
 //! ids rise. The bytes of all entries are kept. The selections from one parent are found by a look at
@@ -12,7 +12,6 @@
 #![tactic(auto)]
 
 mod admit;
-mod by_id;
 mod carried;
 mod children;
 mod covers;
@@ -26,7 +25,6 @@ mod offer;
 mod pool;
 mod room;
 mod selections;
-mod shapes;
 mod uses;
 mod write;
 mod written;

@@ -1,16 +1,12 @@
 //! What is asked of an offer before there is room for it.
 ghost use Rattle.std.specs.Prelude.{◌≡◌, ◌<◌, ◌^◌};
-ghost use Rattle.std.specs.List.{filter_map, find};
-ghost use Rattle.lineage_key.specs.Parents.{id_in, parents_of};
-ghost use Rattle.pool_policy.specs.Keyed.{class_of, is_missing, is_pooled};
+ghost use Rattle.pool_policy.specs.Keyed.{class_of};
 ghost use Rattle.pool_policy.specs.Admits.{is_other_version, new_entry as entry_of, offer_bytes, stated_bytes};
 ghost use Rattle.recycle_pool.specs.Answers.{offer_in};
-ghost use Rattle.recycle_pool.specs.Usable.{HaveRisingIds};
 
-use crate::by_id::place_by_id;
 use bat_core::Shared;
 use cell_core::Op;
-use lineage_key::{Key, KeyArg};
+use lineage_key::Key;
 use pool_policy::{PoolEntry, Who};
 use score_hook::Stats;
 
@@ -25,38 +21,6 @@ pub struct Offered {
     pub work: u64,
     /// The present version of its column, where it is a bind.
     pub present: u64,
-}
-
-/// Whether an entry has this id.
-fn is_there(entries: &[PoolEntry], id: u64) -> bool
-    requires { HaveRisingIds entries.now }
-    ensures { result ≡ is_pooled entries.now id }
-{
-    place_by_id(entries, id).is_some()
-}
-
-/// The first parent of the key that isn't pooled.
-pub(crate) fn first_missing(entries: &[PoolEntry], key: &Key) -> Option<u64>
-    requires { HaveRisingIds entries.now }
-    ensures { result ≡ find (is_missing entries.now) (parents_of key.now) }
-{
-    missing_among(entries, key.args.as_slice())
-}
-
-fn missing_among(entries: &[PoolEntry], args: &[KeyArg]) -> Option<u64>
-    requires { HaveRisingIds entries.now }
-    ensures { result ≡ find (is_missing entries.now) (filter_map id_in args.now) }
-{
-    let mut rest = args;
-    'arguments: while let [arg, more @ ..] = rest {
-        if let KeyArg::Id(id) = arg {
-            if !is_there(entries, *id) {
-                return Some(*id);
-            }
-        }
-        rest = more;
-    }
-    None
 }
 
 /// The stated bytes of a result.

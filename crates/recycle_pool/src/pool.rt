@@ -5,11 +5,11 @@ ghost use Rattle.pool_policy.specs.Admits.{release_of};
 
 use crate::keys::Keys;
 use crate::lists::Lists;
-use crate::uses::unpin_all;
 use bat_core::Shared;
 use cell_core::Memory;
 use evict_admit::Ledger;
 use lineage_key::{Key, Shape};
+use pool_entries::unpin_all;
 use pool_index::{Children, Parents};
 use pool_policy::{PoolEntry, PoolOptions};
 use std::alloc::Global;

@@ -1,19 +1,20 @@
 //! Room for a new entry: which entries go, and what their leaving pays back.
-ghost use Rattle.std.specs.Prelude.{◌≡◌, ◌≢◌, ◌==◌, ◌&&◌, ◌++◌, ◌∷◌, ◌-◌, ◌+◌, ◌<◌, ◌≤◌, ◌^◌, [], false, filter, length, map, not, slice_index, vec_len};
+ghost use Rattle.std.specs.Prelude.{◌≡◌, ◌&&◌, ◌++◌, ◌∷◌, ◌-◌, ◌+◌, ◌<◌, ◌≤◌, ◌^◌, [], filter, length, map, not, vec_len};
 ghost use Rattle.std.specs.Vec.{vec_capacity};
 ghost use Rattle.lineage_key.specs.Parents.{parents_of, two_parents};
 ghost use Rattle.evict_admit.specs.Evictions.{is_enough};
 ghost use Rattle.evict_admit.specs.Runs.{given_up, is_one_of};
 ghost use Rattle.pool_policy.specs.Pool.{pool_bytes, score_at};
 ghost use Rattle.pool_policy.specs.Looks.{paid_back};
-ghost use Rattle.pool_policy.specs.Admits.{credit_of, left_without, one_less, pays_at_end, row_of, rows_of};
+ghost use Rattle.pool_policy.specs.Admits.{left_without, pays_at_end, row_of, rows_of};
+ghost use Rattle.pool_entries.specs.Usable.{IsOwed};
 ghost use Rattle.recycle_pool.specs.Indexed.{kin_of};
-ghost use Rattle.recycle_pool.specs.Usable.{IsOwed, IsWeighable};
+ghost use Rattle.recycle_pool.specs.Usable.{IsWeighable};
 
 use crate::lists::Lists;
-use crate::uses::pay_if;
 use evict_admit::{Ledger, Row, plan_evictions};
 use lineage_key::Key;
+use pool_entries::pay_if;
 use pool_index::Kin;
 use pool_policy::{PoolEntry, PoolOptions, is_among};
 use score_hook::Scorer;
@@ -208,28 +209,6 @@ pub(crate) fn take_out(entries: &mut Vec<PoolEntry>, gone: &[u64])
             ensures { result ≡ not (is_one_of gone.entry.now entry.entry.now.id) }
         { !is_among(gone, entry.id) },
     );
-}
-
-/// Whether the shape has no credit left.
-pub(crate) fn is_spent(ledger: &Ledger, shape: u32) -> bool
-    requires last { shape ≤ length ledger.now.each }
-    ensures spent { 0 < shape → result ≡ (credit_of shape ledger.now.each == 0) }
-    ensures none { shape ≡ 0 → result ≡ false }
-{
-    shape > 0 && ledger.credit(shape) == 0
-}
-
-/// One credit is paid, where shapes have credits.
-pub(crate) fn pay(ledger: &mut Ledger, shape: u32)
-    requires last { shape ≤ length ledger.old.each }
-    requires first { 0 < length ledger.old.each → 0 < shape }
-    requires some { 0 < shape → slice_index ledger.old.each (shape - 1) ≢ 0 }
-    ensures each { ledger.new.each ≡ one_less ledger.old.each shape }
-    ensures start { ledger.new.start ≡ ledger.old.start }
-{
-    if shape > 0 {
-        ledger.pay(shape);
-    }
 }
 
 /// An entry comes last.

@@ -5,12 +5,12 @@ ghost use Rattle.lineage_key.specs.Spans.{span_asked};
 ghost use Rattle.subsume.specs.Cutting.{is_contained};
 ghost use Rattle.pool_policy.specs.Keyed.{entry_of_id};
 ghost use Rattle.pool_policy.specs.Looks.{container_of, selections_from};
+ghost use Rattle.pool_entries.specs.Usable.{HaveRisingIds};
 ghost use Rattle.recycle_pool.specs.Indexed.{is_lighter_than, lighter, own_selection, selection_of_id, selections_at, weight_of};
-ghost use Rattle.recycle_pool.specs.Usable.{HaveRisingIds};
 
-use crate::by_id::place_by_id;
 use cell_core::{Memory, Span};
 use lineage_key::span_of;
+use pool_entries::place_by_id;
 use pool_policy::PoolEntry;
 use std::alloc::Global;
 use subsume::within;

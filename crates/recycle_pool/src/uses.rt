@@ -1,44 +1,18 @@
-//! Changes of entries, one by one.
-ghost use Rattle.std.specs.Prelude.{◌≡◌, ◌-◌, ◌<◌, ◌≤◌, ◌^◌, [], ◌∷◌, ◌&&◌, List, false, filter, if◌then◌else◌, length, map, slice_index, true};
+//! What a look changes of the entries, by what it finds.
+ghost use Rattle.std.specs.Prelude.{◌≡◌, ◌<◌, [], ◌∷◌, ◌&&◌, List, filter, if◌then◌else◌, map};
 ghost use Rattle.std.specs.List.{AllByRecursion};
 ghost use Rattle.std.specs.Option.{option_map_or};
 ghost use Rattle.std.specs.Vec.{vec_capacity};
 ghost use Rattle.evict_admit.specs.Runs.{is_one_of};
-ghost use Rattle.pool_policy.specs.declared.entry.PoolEntry.{PoolEntry as EntryValue};
-ghost use Rattle.pool_policy.specs.Pool.{pool_bytes};
-ghost use Rattle.pool_policy.specs.Looks.{at_ids, ids_pinned, ids_used, one_more, paid_back, pays_back, pinned, used};
-ghost use Rattle.pool_policy.specs.Admits.{unpinned};
+ghost use Rattle.pool_policy.specs.Looks.{at_ids, ids_pinned, ids_used, paid_back, pays_back, pinned, used};
+ghost use Rattle.pool_entries.specs.Usable.{CanUse, HaveRisingIds, IsOwed};
 ghost use Rattle.recycle_pool.specs.declared.found.Part.{Part as PartValue};
 ghost use Rattle.recycle_pool.specs.Answers.{piece_in, told};
-ghost use Rattle.recycle_pool.specs.Usable.{CanUse, HaveRisingIds, IsOwed};
 
-use crate::by_id::place_by_id;
 use crate::found::{Found, Part};
 use evict_admit::Ledger;
+use pool_entries::{pay_id, pay_if, pin_id, use_id};
 use pool_policy::{PoolEntry, Who};
-
-/// The stated bytes of the entries.
-pub(crate) fn total_bytes(entries: &[PoolEntry]) -> u64
-    requires { pool_bytes entries.now < 2 ^ 62 }
-    ensures { result ≡ pool_bytes entries.now }
-{
-    let mut total = 0;
-    'entries: for i in 0..entries.len() {
-        total += entries[i].bytes;
-    }
-    total
-}
-
-/// A session holds none of the entries any more.
-pub(crate) fn unpin_all(entries: &mut Vec<PoolEntry>, session: u32)
-    requires { session < 17 }
-    ensures entries { entries.new.items ≡ map (unpinned session) entries.old.items }
-    ensures room { vec_capacity entries.new ≡ vec_capacity entries.old }
-{
-    'entries: for i in 0..entries.len() {
-        entries[i].unpin(session);
-    }
-}
 
 /// Whether a part has this id.
 fn is_part(parts: &[Part], id: u64) -> bool
@@ -75,19 +49,6 @@ fn use_if(entry: &mut PoolEntry, found: &Found, parts: &[Part], who: Who, now: u
     }
 }
 
-/// The entry with this id is used.
-fn use_id(entries: &mut Vec<PoolEntry>, id: u64, who: Who, now: u64)
-    requires rising { HaveRisingIds entries.old.items }
-    requires usable { AllByRecursion CanUse entries.old.items }
-    ensures entries { entries.new.items ≡ at_ids (id ∷ []) (used who now) entries.old.items }
-    ensures room { vec_capacity entries.new ≡ vec_capacity entries.old }
-{
-    match place_by_id(entries.as_slice(), id) {
-        None => {}
-        Some(place) => entries[place].use_by(who, now),
-    }
-}
-
 /// Each entry that a look uses is used.
 fn use_each(entries: &mut Vec<PoolEntry>, found: &Found, parts: &[Part], who: Who, now: u64)
     requires { AllByRecursion CanUse entries.old.items }
@@ -119,19 +80,6 @@ pub(crate) fn use_all(
     }
 }
 
-/// A session holds the entry with this id.
-pub(crate) fn pin_id(entries: &mut Vec<PoolEntry>, id: u64, who: Who)
-    requires session { who.session < 17 }
-    requires rising { HaveRisingIds entries.old.items }
-    ensures entries { entries.new.items ≡ at_ids (id ∷ []) (pinned who) entries.old.items }
-    ensures room { vec_capacity entries.new ≡ vec_capacity entries.old }
-{
-    match place_by_id(entries.as_slice(), id) {
-        None => {}
-        Some(place) => entries[place].pin(who),
-    }
-}
-
 /// The id of an exact result.
 fn exact_id(found: &Found) -> Option<u64>
     ensures { (parts : List PartValue) → ids_pinned (told found.now parts) ≡ option_map_or (λ id. id ∷ []) result [] }
@@ -155,53 +103,11 @@ pub(crate) fn pin_found(entries: &mut Vec<PoolEntry>, found: &Found, who: Who)
     }
 }
 
-/// One credit more for a shape, where shapes have credits.
-fn pay_back(ledger: &mut Ledger, shape: u32)
-    requires last { shape ≤ length ledger.old.each }
-    requires first { 0 < length ledger.old.each → 0 < shape }
-    requires below { 0 < shape → slice_index ledger.old.each (shape - 1) < ledger.old.start }
-    ensures each { ledger.new.each ≡ one_more ledger.old.each shape }
-    ensures start { ledger.new.start ≡ ledger.old.start }
-{
-    if shape > 0 {
-        ledger.back(shape);
-    }
-}
-
-/// The entry's credit is paid back, where it is to be.
-pub(crate) fn pay_if(ledger: &mut Ledger, entry: &PoolEntry, pays: bool)
-    requires unpaid { pays ≡ true → entry.now.is_paid ≡ false }
-    requires owed { IsOwed ledger.old (entry.now ∷ []) }
-    ensures each { ledger.new.each ≡ (if pays then one_more ledger.old.each entry.now.shape else ledger.old.each) }
-    ensures start { ledger.new.start ≡ ledger.old.start }
-    ensures owed { (rest : List EntryValue) → IsOwed ledger.old (entry.now ∷ rest) → IsOwed ledger.new rest }
-{
-    if pays {
-        pay_back(ledger, entry.shape);
-    }
-}
-
 /// Whether a look that finds this has the entry's credit paid back.
 fn pays_now(entry: &PoolEntry, found: &Found, parts: &[Part], who: Who) -> bool
     ensures { result ≡ (is_one_of (ids_used (told found.now parts.now)) entry.now.id && pays_back who entry.now) }
 {
     is_used(found, parts, entry.id) && entry.pays_back(who)
-}
-
-/// The entry with this id pays its credit back, where its use does.
-fn pay_id(ledger: &mut Ledger, entries: &[PoolEntry], id: u64, who: Who)
-    requires rising { HaveRisingIds entries.now }
-    requires owed { IsOwed ledger.old entries.now }
-    ensures each { ledger.new.each ≡ paid_back ledger.old.each (filter (λ e. is_one_of (id ∷ []) e.id && pays_back who e) entries.now) }
-    ensures start { ledger.new.start ≡ ledger.old.start }
-{
-    match place_by_id(entries, id) {
-        None => {}
-        Some(place) => {
-            let entry = &entries[place];
-            pay_if(ledger, entry, entry.pays_back(who));
-        }
-    }
 }
 
 /// Each entry that a look uses pays its credit back, where its use does.

@@ -6,9 +6,9 @@ ghost use Rattle.recycle_pool.specs.Carries.{IsCarried};
 use crate::carried::Carried;
 use crate::exchange::{bring_back, give_up};
 use crate::pool::Pool;
-use crate::uses::total_bytes;
 use crate::written::plan_last;
 use cell_core::Word;
+use pool_entries::total_bytes;
 use pool_policy::{Touched, note_touched};
 use score_hook::Scorer;
 

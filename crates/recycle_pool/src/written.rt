@@ -5,12 +5,13 @@ ghost use Rattle.evict_admit.specs.Runs.{given_up, is_one_of};
 ghost use Rattle.pool_policy.specs.Pool.{pool_bytes, score_at};
 ghost use Rattle.pool_policy.specs.Looks.{paid_back};
 ghost use Rattle.pool_policy.specs.Admits.{left_without, pays_at_end, rows_of};
-ghost use Rattle.recycle_pool.specs.Usable.{IsOwed, IsWeighable};
+ghost use Rattle.pool_entries.specs.Usable.{IsOwed};
+ghost use Rattle.recycle_pool.specs.Usable.{IsWeighable};
 
 use crate::lists::Lists;
 use crate::room::{push_row, take_out};
-use crate::uses::pay_if;
 use evict_admit::{Ledger, Row, plan_evictions};
+use pool_entries::pay_if;
 use pool_policy::{PoolEntry, PoolOptions, is_among};
 use score_hook::Scorer;
 

@@ -5,7 +5,7 @@ use Rattle.evict_admit.specs.Runs.{is_one_of}
 use Rattle.pool_policy.specs.declared.entry.PoolEntry.{PoolEntry}
 use Rattle.pool_policy.specs.Looks.{paid_back}
 use Rattle.pool_policy.specs.Admits.{pays_at_end}
-use Rattle.recycle_pool.specs.Usable.{IsOwed}
+use Rattle.pool_entries.specs.Usable.{IsOwed}
 use Rattle.recycle_pool.proofs.room.pay_leaving.Given as goal
 
 abbrev pub invariant-entries : goal.invariant-entries

@@ -3,8 +3,8 @@ use Rattle.std.proofs.Common.{◌-◌, ◌&&◌, ◌∙◌, subst, length, take,
 use Rattle.evict_admit.specs.Runs.{is_one_of}
 use Rattle.pool_policy.specs.declared.entry.PoolEntry.{PoolEntry}
 use Rattle.pool_policy.specs.Looks.{ids_used, pays_back}
+use Rattle.pool_entries.specs.Usable.{IsOwed}
 use Rattle.recycle_pool.specs.Answers.{told}
-use Rattle.recycle_pool.specs.Usable.{IsOwed}
 use Rattle.recycle_pool.proofs.Paying.{first_and_rest, owed_here, paid_on}
 use Rattle.recycle_pool.proofs.uses.pay_each.Goals as goal
 

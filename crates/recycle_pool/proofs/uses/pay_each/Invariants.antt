@@ -4,8 +4,8 @@ use Rattle.std.specs.Prelude.{filter}
 use Rattle.evict_admit.specs.Runs.{is_one_of}
 use Rattle.pool_policy.specs.declared.entry.PoolEntry.{PoolEntry}
 use Rattle.pool_policy.specs.Looks.{ids_used, paid_back, pays_back}
+use Rattle.pool_entries.specs.Usable.{IsOwed}
 use Rattle.recycle_pool.specs.Answers.{told}
-use Rattle.recycle_pool.specs.Usable.{IsOwed}
 use Rattle.recycle_pool.proofs.uses.pay_each.Given as goal
 
 abbrev pub invariant-entries : goal.invariant-entries

@@ -3,8 +3,8 @@ use Rattle.std.specs.Prelude.{filter}
 use Rattle.evict_admit.specs.Runs.{is_one_of}
 use Rattle.pool_policy.specs.declared.entry.PoolEntry.{PoolEntry}
 use Rattle.pool_policy.specs.Looks.{ids_used, paid_back, pays_back}
+use Rattle.pool_entries.proofs.Ids.{none_kept}
 use Rattle.recycle_pool.specs.Answers.{told}
-use Rattle.recycle_pool.proofs.Ids.{none_kept}
 use Rattle.recycle_pool.proofs.uses.pay_uses.Goals as goal
 
 pub returns-in-Miss-clause-each : goal.returns-in-Miss-clause-each

@@ -1,7 +1,7 @@
 use Rattle.std.proofs.Common.{◌≡◌, List, ℕ, [], ◌∷◌, ap, sym, ◌∙◌}
 use Rattle.pool_policy.specs.Looks.{at_ids, ids_pinned, pinned}
+use Rattle.pool_entries.proofs.Owed.{none_changed}
 use Rattle.recycle_pool.specs.Answers.{told}
-use Rattle.recycle_pool.proofs.Owed.{none_changed}
 use Rattle.recycle_pool.proofs.uses.pin_found.Goals as goal
 
 pub returns-in-None-clause-entries : goal.returns-in-None-clause-entries

@@ -1,7 +1,7 @@
 use Rattle.std.proofs.Common.{◌≡◌, ℕ, List, [], ap, sym, ◌∙◌}
 use Rattle.pool_policy.specs.Looks.{at_ids, ids_used, used}
+use Rattle.pool_entries.proofs.Owed.{none_changed}
 use Rattle.recycle_pool.specs.Answers.{told}
-use Rattle.recycle_pool.proofs.Owed.{none_changed}
 use Rattle.recycle_pool.proofs.uses.use_all.Goals as goal
 
 pub returns-in-Miss-clause-entries : goal.returns-in-Miss-clause-entries

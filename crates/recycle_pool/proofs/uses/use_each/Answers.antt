@@ -3,10 +3,10 @@ use Rattle.std.specs.Prelude.{if◌then◌else◌}
 use Rattle.evict_admit.specs.Runs.{is_one_of}
 use Rattle.pool_policy.specs.declared.entry.PoolEntry.{PoolEntry}
 use Rattle.pool_policy.specs.Looks.{ids_used, used}
+use Rattle.pool_entries.specs.Usable.{CanUse}
+use Rattle.pool_entries.proofs.Changed.{one_more_changed, read_so_far}
+use Rattle.pool_entries.proofs.Places.{all_read}
 use Rattle.recycle_pool.specs.Answers.{told}
-use Rattle.recycle_pool.specs.Usable.{CanUse}
-use Rattle.recycle_pool.proofs.Changed.{one_more_changed, read_so_far}
-use Rattle.recycle_pool.proofs.Places.{all_read}
 use Rattle.recycle_pool.proofs.uses.use_each.Goals as goal
 
 pub use_if-requires : goal.use_if-requires

@@ -5,8 +5,8 @@ use Rattle.std.specs.Vec.{vec_capacity}
 use Rattle.evict_admit.specs.Runs.{is_one_of}
 use Rattle.pool_policy.specs.declared.entry.PoolEntry.{PoolEntry}
 use Rattle.pool_policy.specs.Looks.{ids_used, used}
+use Rattle.pool_entries.proofs.Changed.{so_far}
 use Rattle.recycle_pool.specs.Answers.{told}
-use Rattle.recycle_pool.proofs.Changed.{so_far}
 use Rattle.recycle_pool.proofs.uses.use_each.Given as goal
 
 abbrev pub invariant-entries : goal.invariant-entries

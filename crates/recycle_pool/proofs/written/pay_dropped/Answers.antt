@@ -3,7 +3,7 @@ use Rattle.std.proofs.Common.{◌-◌, ◌&&◌, not, ◌∙◌, subst, length, 
 use Rattle.evict_admit.specs.Runs.{is_one_of}
 use Rattle.pool_policy.specs.declared.entry.PoolEntry.{PoolEntry}
 use Rattle.pool_policy.specs.Admits.{pays_at_end}
-use Rattle.recycle_pool.specs.Usable.{IsOwed}
+use Rattle.pool_entries.specs.Usable.{IsOwed}
 use Rattle.recycle_pool.proofs.Paying.{first_and_rest, owed_here, paid_on}
 use Rattle.recycle_pool.proofs.written.pay_dropped.Goals as goal
 

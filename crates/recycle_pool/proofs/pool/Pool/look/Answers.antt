@@ -8,10 +8,10 @@ use Rattle.pool_policy.specs.Looks.{Finding, after_look, found_of, ids_pinned, i
 use Rattle.pool_policy.specs.Keeps.{IsPool, faces}
 use Rattle.pool_policy.proofs.AdmitGiven.{pinned_faces, used_faces}
 use Rattle.pool_policy.proofs.Kept.{look_keeps}
+use Rattle.pool_entries.proofs.Ids.{rising_on}
 use Rattle.recycle_pool.specs.Answers.{HandsOut, told}
 use Rattle.recycle_pool.specs.Views.{pool_shown}
 use Rattle.recycle_pool.proofs.Beside.{beside_faces}
-use Rattle.recycle_pool.proofs.Ids.{rising_on}
 use Rattle.recycle_pool.proofs.Looked.{indexed, lookable, looked, named, owed, rising, usable}
 use Rattle.recycle_pool.proofs.Prints.{named_faces}
 use Rattle.recycle_pool.proofs.Totals.{bytes_on}

@@ -1,6 +1,0 @@
-use Rattle.std.proofs.Common.{◌∙◌}
-use Rattle.recycle_pool.proofs.Ids.{there_is_place}
-use Rattle.recycle_pool.proofs.offer.is_there.Goals as goal
-
-pub returns : goal.returns
-returns c = c.is_some.ensures ∙ there_is_place c.args.entries.now c.args.id c.place_by_id.result c.place_by_id.ensures.found c.place_by_id.ensures.within

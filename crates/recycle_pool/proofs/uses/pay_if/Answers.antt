@@ -1,6 +1,0 @@
-use Rattle.recycle_pool.proofs.Owed.{owed_paid}
-use Rattle.recycle_pool.proofs.uses.pay_if.Goals as goal
-
-pub returns-then-pays-clause-owed : goal.returns-then-pays-clause-owed
-returns-then-pays-clause-owed c rest known =
-    owed_paid c.args.ledger.now c.pay_back.new.ledger c.args.entry.now rest known (c.requires.unpaid c.if-pays.true) c.pay_back.ensures.start c.pay_back.ensures.each
