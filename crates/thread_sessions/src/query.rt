@@ -117,14 +117,14 @@ fn open_crew<
     ensures sound { IfOk result (λ crew. IsSound F.Fn K.options crew.tools.hall.now crew.tools.event crew.runner crew.tools.began.value crew.handed.items crew.finished.items) }
     ensures none_out { IfOk result (λ crew. NoneOut crew.handed.items crew.finished.items) }
 {
-    let (pass, mut session) = runner.into_parts();
-    let query = match mem::replace(&mut session.stage, Stage::Between) {
+    let mut runner = runner;
+    let query = match mem::replace(&mut runner.session.stage, Stage::Between) {
         Stage::Querying(Step::Begun(query)) => query.open(alloc)?,
         _ => unreachable!(),
     };
     let instrs = query.plan.instrs.len() as u32;
-    session.stage = Stage::Querying(Step::Open(query));
-    let began = Snapshot::of(&session);
+    runner.session.stage = Stage::Querying(Step::Open(query));
+    let began = Snapshot::of(&runner.session);
     let tools = Tools {
         alloc,
         hall,
@@ -136,7 +136,7 @@ fn open_crew<
     Ok(Crew {
         tools,
         steps,
-        runner: Runner { pass, session },
+        runner,
         handed: Vec::new(alloc),
         finished: Vec::new(alloc),
         instrs,

@@ -9,7 +9,7 @@ sessions-preserved c =
     let session = c.in-Some.session in
     let here : yielded ++ session ∷ c.next.new.self.rest.items ≡ c.args.sessions.items = search rules in
     record {
-      texts = c.in_ok-push.ensures.items ∙ ap (λ texts. texts ++ c.text_of.result ∷ []) c.sessions.invariant.texts ∙ ap (λ text. map (λ (x : Session). x.text) yielded ++ text ∷ []) c.text_of.ensures
+      texts = c.in_ok-push.ensures.items ∙ ap (λ texts. texts ++ c.into_text.result ∷ []) c.sessions.invariant.texts ∙ ap (λ text. map (λ (x : Session). x.text) yielded ++ text ∷ []) c.into_text.ensures
           ∙ sym (map-append (λ (x : Session). x.text) yielded (session ∷ []));
       rest = append_assoc yielded (session ∷ []) c.next.new.self.rest.items ∙ here;
     }
