@@ -78,7 +78,7 @@ impl<'h, 'k, 's, V: Logged, K: RunOptions, F: Drop, E, L: Ledger> Drop
 impl<'h, 'k, 's, V: Logged, K: RunOptions, F: Drop, E, L: Ledger> Crew<'h, 'k, 's, V, K, F, E, L> {
     /// Its session with its pass; the rest is let go.
     pub(crate) fn into_runner(self) -> Runner<V>
-        ensures { result ≡ self.runner }
+        ensures { result ≡ self.entry.runner }
     {
         let Crew {
             tools: _,
