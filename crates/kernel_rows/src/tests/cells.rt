@@ -1,9 +1,10 @@
-//! The order of cells and of cuts, and each call of `cell_core` with ample memory.
+//! The order of cells and of cuts, and each call of `cell_core` and `cell_text` with ample memory.
 use cell_core::{
     Arg, Cell, Column, Cut, Db, Instr, Kind, Memory, Op, Sequence, Span, Table, compare,
-    compare_cuts, copy_columns, copy_rows, find_column, read_day, sort_rows, sort_rows_by,
-    stated_bytes, word_of, write_cell,
+    compare_cuts, copy_columns, copy_rows, find_column, sort_rows, sort_rows_by, stated_bytes,
+    word_of,
 };
+use cell_text::{read_day, write_cell};
 use std::alloc::Global;
 use std::cmp::Ordering;
 use std::test::Fail;
@@ -34,19 +35,33 @@ fn cells_in_their_order(rt: HostRuntime) {
     assert!(rt; Cell::Int(5) != Cell::Huge(5));
 }
 
+/// How two texts compare as cells, and whether they are equal.
+fn compare_texts(alloc: Global, one: &str, other: &str) -> Result<(Ordering, bool), Memory> {
+    let one = Cell::Text(word_of(alloc, one)?);
+    let other = Cell::Text(word_of(alloc, other)?);
+    Ok((compare(&one, &other), one == other))
+}
+
+/// The stated size of a text, and how it compares with a number and with a day.
+fn place_text(alloc: Global, letters: &str) -> Result<(u64, Ordering, Ordering), Memory> {
+    let text = Cell::Text(word_of(alloc, letters)?);
+    Ok((
+        stated_bytes(&text),
+        compare(&text, &Cell::Int(1)),
+        compare(&text, &Cell::Day(1)),
+    ))
+}
+
 // Texts stand between numbers and days, by their bytes.
 #[test]
 fn texts_in_their_order(rt: HostRuntime) -> Result<(), Fail> {
     let texts = ["", "a", "aa", "b", "\u{e4}"];
-    for (i, letters) in texts.iter().enumerate() {
-        let a = Cell::Text(word_of(rt.alloc(), letters)?);
-        assert_eq!(rt; stated_bytes(&a), 16 + letters.len() as u64, "{i}");
-        assert_eq!(rt; compare(&a, &Cell::Int(1)), Ordering::Greater, "{i}");
-        assert_eq!(rt; compare(&a, &Cell::Day(1)), Ordering::Less, "{i}");
-        for (j, others) in texts.iter().enumerate() {
-            let b = Cell::Text(word_of(rt.alloc(), others)?);
-            assert_eq!(rt; compare(&a, &b), i.cmp(&j), "{i} {j}");
-            assert_eq!(rt; a == b, i == j, "{i} {j}");
+    for (i, one) in texts.iter().enumerate() {
+        let place = (16 + one.len() as u64, Ordering::Greater, Ordering::Less);
+        assert!(rt; place_text(rt.alloc(), one)? == place, "{i}");
+        for (j, other) in texts.iter().enumerate() {
+            let told = compare_texts(rt.alloc(), one, other)?;
+            assert!(rt; told == (i.cmp(&j), i == j), "{i} {j}");
         }
     }
     Ok(())
@@ -190,6 +205,13 @@ fn reads_dates_of_the_calendar_alone(rt: HostRuntime) {
     }
 }
 
+/// Whether a cell is appended as this text.
+fn is_written(alloc: Global, cell: &Cell, text: &str) -> Result<bool, Memory> {
+    let mut out = Vec::from_slice(alloc, b"=")?;
+    write_cell(cell, &mut out)?;
+    Ok(out.split_first().map(|(_, rest)| rest) == Some(text.as_bytes()))
+}
+
 #[test]
 fn appends_cells_of_each_kind(rt: HostRuntime) -> Result<(), Fail> {
     for (cell, text) in [
@@ -204,15 +226,6 @@ fn appends_cells_of_each_kind(rt: HostRuntime) -> Result<(), Fail> {
             Cell::Huge(i128::MAX),
             "170141183460469231731687303715884105727",
         ),
-        (
-            Cell::Text(word_of(rt.alloc(), "plain, text")?),
-            "plain, text",
-        ),
-        (
-            Cell::Text(word_of(rt.alloc(), "\\ä\\\\N")?),
-            "\\\\ä\\\\\\\\N",
-        ),
-        (Cell::Text(word_of(rt.alloc(), "")?), ""),
         (Cell::Day(8_840), "1994-03-16"),
         (Cell::Day(-719_162), "0001-01-01"),
         (Cell::Day(-719_163), "-719163"),
@@ -222,10 +235,20 @@ fn appends_cells_of_each_kind(rt: HostRuntime) -> Result<(), Fail> {
         (Cell::Bit(false), "false"),
         (Cell::Oid(u64::MAX), "18446744073709551615@0"),
     ] {
-        let mut out = Vec::from_slice(rt.alloc(), b"=")?;
-        write_cell(&cell, &mut out)?;
-        assert_eq!(rt; out.len(), text.len() + 1, "at {text}");
-        assert_eq!(rt; &out[1..], text.as_bytes(), "at {text}");
+        assert!(rt; is_written(rt.alloc(), &cell, text)?, "at {text}");
+    }
+    Ok(())
+}
+
+#[test]
+fn appends_texts(rt: HostRuntime) -> Result<(), Fail> {
+    for (letters, text) in [
+        ("plain, text", "plain, text"),
+        ("\\ä\\\\N", "\\\\ä\\\\\\\\N"),
+        ("", ""),
+    ] {
+        let cell = Cell::Text(word_of(rt.alloc(), letters)?);
+        assert!(rt; is_written(rt.alloc(), &cell, text)?, "at {text}");
     }
     Ok(())
 }
