@@ -17,8 +17,6 @@ mod real;
 mod sink;
 mod source;
 mod sure_scripts;
-#[cfg(test)]
-mod tests;
 mod writing;
 
 pub use error::{Failed, ReadError, WriteFault};

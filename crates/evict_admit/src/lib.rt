@@ -16,8 +16,6 @@ mod leading;
 mod ledger;
 mod names;
 mod plan;
-#[cfg(test)]
-mod tests;
 
 pub use laws::{one_order, runs_are_functions};
 pub use ledger::Ledger;

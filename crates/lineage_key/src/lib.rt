@@ -11,8 +11,6 @@ mod key;
 mod parents;
 mod shape;
 mod span;
-#[cfg(test)]
-mod tests;
 
 pub use key::{Key, KeyArg, equal_keys_are_the_same, key_of};
 pub use parents::shape_of;

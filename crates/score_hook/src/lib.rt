@@ -7,8 +7,6 @@
 
 mod scorer;
 mod stats;
-#[cfg(test)]
-mod tests;
 
 pub use scorer::{ScoreCall, Scorer};
 pub use stats::{Evict, Score, Stats, formula, less, weighted_formula};

@@ -161,6 +161,3 @@ fn is_below(a: &CutItem, b: &CutItem) -> bool
         .then(a.id.cmp(&b.id))
         .is_lt()
 }
-
-#[cfg(test)]
-mod tests;

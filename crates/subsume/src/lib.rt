@@ -9,8 +9,6 @@
 mod index;
 mod item;
 mod pieces;
-#[cfg(test)]
-mod tests;
 
 pub use index::CutIndex;
 pub use item::CutItem;

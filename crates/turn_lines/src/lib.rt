@@ -5,8 +5,6 @@
 //! number of the first bad line. `turns_of` answers exactly that, and each turn is one of the sessions.
 #![tactic(auto)]
 
-#[cfg(test)]
-mod tests;
 mod turns;
 
 pub use turns::{ScheduleError, turns_of};

@@ -18,8 +18,6 @@ mod joining;
 mod listing;
 mod rows;
 mod source;
-#[cfg(test)]
-mod tests;
 mod write;
 
 use crate::bring::bring_all;

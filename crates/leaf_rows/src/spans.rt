@@ -1,7 +1,13 @@
-use super::*;
-use cell_core::{Cell, Cut, Memory, Span, compare_cuts};
+//! Which spans lie in others and cover them, and where an index of them has its items.
+ghost use Rattle.std.specs.Prelude.{◌≡◌, ◌<◌, position};
+ghost use Rattle.subsume.specs.Index.{is_at};
+
+use cell_core::{Cell, Cut, Memory, Span, Steps, compare_cuts};
 use std::alloc::Global;
+use std::marker::Brand;
+use std::sync::ledger::{Blank, Ledger};
 use std::test::Fail;
+use subsume::{CutIndex, CutItem, cover, within};
 
 /// The span from one number up to another.
 fn span(low: i64, high: i64) -> Span {
@@ -69,5 +75,59 @@ fn a_gap_is_no_cover(rt: HostRuntime) -> Result<(), Fail> {
     assert!(rt; !cover(spans.as_slice(), &span(4, 7), &mut out)?);
     assert!(rt; out.is_empty());
     assert!(rt; cover(spans.as_slice(), &span(4, 5), &mut out)?);
+    Ok(())
+}
+
+/// The span from a number on.
+fn from(low: i64) -> Span {
+    Span {
+        low: Cut::Before(Cell::Int(low)),
+        high: Cut::High,
+    }
+}
+
+fn bounds_with<L: Ledger>(index: &CutIndex, blank: Blank) -> [u64; 4]
+    requires name { blank.name ≡ L.name }
+    requires parts { blank.parts ≡ L.parts }
+    requires some { 0 < blank.parts }
+{
+    let mut steps = Steps::<L>::new(blank);
+    [
+        index.bound(1, false, &mut steps),
+        index.bound(1, true, &mut steps),
+        index.bound(2, false, &mut steps),
+        index.bound(9, true, &mut steps),
+    ]
+}
+
+/// How many items have a parent below 1, at most 1, below 2 and at most 9.
+fn bounds(index: &CutIndex) -> [u64; 4] {
+    bounds_with::<Brand>(index, Blank::new(1))
+}
+
+/// The place of the item of this parent that has this id.
+fn place_of(items: &[CutItem], parent: u64, id: u64) -> Option<usize>
+    ensures { result ≡ position (is_at parent id) items.now }
+{
+    items
+        .iter()
+        .position(|item| item.parent == parent && item.id == id)
+}
+
+// Two items of parent 1 and one of parent 3, which came first.
+#[test]
+fn items_are_counted_by_parent(rt: HostRuntime) -> Result<(), Fail> {
+    let mut index = CutIndex::new(rt.alloc(), 3)?;
+    index.add(3, from(0), 1, 5);
+    index.add(1, from(4), 1, 7);
+    index.add(1, from(2), 1, 8);
+    assert_eq!(rt; bounds(&index).as_slice(), [0, 2, 2, 3].as_slice());
+    assert_eq!(rt; place_of(index.as_slice(), 1, 8), Some(0));
+    assert_eq!(rt; index.as_slice().len(), 3);
+    if place_of(index.as_slice(), 1, 7).is_some() {
+        let span = index.remove(1, 7);
+        assert!(rt; compare_cuts(&span.low, &Cut::Before(Cell::Int(4))).is_eq());
+    }
+    assert_eq!(rt; bounds(&index).as_slice(), [0, 1, 1, 2].as_slice());
     Ok(())
 }

@@ -1,8 +1,9 @@
+//! What names a result, and what its name tells.
 ghost use Rattle.std.specs.Prelude.{All, IfOk};
 ghost use Rattle.lineage_key.specs.Keys.{IsNumbered};
 
-use super::*;
 use cell_core::{Arg, Cell, Cut, Instr, Memory, Op, Sequence, compare_cuts, word_of};
+use lineage_key::{Key, KeyArg, Shape, key_of, shape_of, span_of};
 use std::alloc::Global;
 use std::test::Fail;
 

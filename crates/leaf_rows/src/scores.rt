@@ -1,8 +1,10 @@
-ghost use Rattle.std.specs.Prelude.{◌≡◌, ℕ, [], ◌<◌, ◌^◌};
-ghost use Rattle.score_hook.specs.declared.stats.Evict.TheVariants.{History, Weighted};
+//! What entries score.
+ghost use Rattle.std.specs.Prelude.{◌≡◌, ℕ, ◌<◌, ◌^◌};
+ghost use Rattle.score_hook.specs.declared.stats.Evict.TheVariants.{Weighted};
 ghost use Rattle.score_hook.specs.Scores.{AreWeights, IsInRange, score_of};
 
-use super::*;
+use crate::scorers::by_counted_age;
+use score_hook::{Evict, Score, ScoreCall, Scorer, Stats, formula, less, weighted_formula};
 use std::sync::Arc;
 use std::sync::atomic::{AtomicU64, Ordering};
 use std::test::Fail;
@@ -25,32 +27,11 @@ fn stats(class: u32, work: u64, reuses: u64, admitted_at: u64) -> Stats
     }
 }
 
-// A closure that counts its calls, and computes the age by a test in place of a subtraction that
-// stops at 1.
 #[test]
 fn a_closure_that_counts(rt: HostRuntime) -> Result<(), Fail> {
     let alloc = rt.alloc();
     let calls = Arc::new(alloc, AtomicU64::new(0))?;
-    let held = Arc::try_clone(&calls)?;
-    let call: ScoreCall = Box::new(
-        alloc,
-        move |stats: &Stats, now: u64| -> Score
-            requires { IsInRange stats.now now }
-            ensures { result ≡ score_of History [] stats.now now }
-        {
-            held.fetch_add(1, Ordering::SeqCst);
-            let age = if now > stats.admitted_at {
-                now - stats.admitted_at
-            } else {
-                1
-            };
-            Score {
-                top: formula(Evict::Benefit, stats, now).top,
-                bottom: u128::from(age),
-            }
-        },
-    )?;
-    let scorer = Scorer::new(alloc, Evict::History, call);
+    let scorer = by_counted_age(alloc, &calls)?;
     let score = scorer.score(&stats(1, 6, 2, 1), 7);
     assert_eq!(rt; score.top, 120);
     assert_eq!(rt; score.bottom, 6);

@@ -1,9 +1,7 @@
-ghost use Rattle.std.specs.Prelude.{◌≡◌, []};
-ghost use Rattle.score_hook.specs.declared.stats.Evict.TheVariants.{History, Lru};
-ghost use Rattle.score_hook.specs.Scores.{IsInRange, score_of};
-
-use super::*;
-use score_hook::{Evict, Score, ScoreCall, Scorer, Stats, formula};
+//! Which entries go to make room, and the credits of shapes.
+use crate::scorers::{by_age, by_counted_age, by_last_use};
+use evict_admit::{Ledger, Row, one_order, plan_evictions};
+use score_hook::{Scorer, Stats};
 use std::alloc::{AllocError, Global};
 use std::sync::Arc;
 use std::sync::atomic::{AtomicU64, Ordering};
@@ -81,71 +79,38 @@ fn plan(
     Ok((enough, out))
 }
 
+/// So many bytes and places, whether they can be had by last use, and what is given up.
+const NEEDS: [(u128, u64, bool, &[u64]); 5] = [
+    (25, 0, true, &[4, 2, 1]),
+    (15, 1, true, &[4, 2]),
+    (10, 1, true, &[4]),
+    (31, 0, false, &[4, 2, 1]),
+    (0, 0, true, &[]),
+];
+
 #[test]
 fn parents_go_after_their_children(rt: HostRuntime) -> Result<(), Fail> {
     let alloc = rt.alloc();
-    let call: ScoreCall = Box::new(
-        alloc,
-        move |stats: &Stats, now: u64| -> Score
-            requires { IsInRange stats.now now }
-            ensures { result ≡ score_of Lru [] stats.now now }
-        { formula(Evict::Lru, stats, now) },
-    )?;
-    let scorer = Scorer::new(alloc, Evict::Lru, call);
+    let scorer = by_last_use(alloc)?;
     one_order();
-    let (enough, out) = plan(alloc, &scorer, 25, 0)?;
-    assert!(rt; enough);
-    assert_eq!(rt; out.as_slice(), [4, 2, 1].as_slice());
-    let (enough, out) = plan(alloc, &scorer, 15, 1)?;
-    assert!(rt; enough);
-    assert_eq!(rt; out.as_slice(), [4, 2].as_slice());
-    let (enough, out) = plan(alloc, &scorer, 10, 1)?;
-    assert!(rt; enough);
-    assert_eq!(rt; out.as_slice(), [4].as_slice());
-    let (enough, out) = plan(alloc, &scorer, 31, 0)?;
-    assert!(rt; !enough);
-    assert_eq!(rt; out.as_slice(), [4, 2, 1].as_slice());
-    let (enough, out) = plan(alloc, &scorer, 0, 0)?;
-    assert!(rt; enough && out.is_empty());
+    for (need, slots, is_enough, gone) in NEEDS {
+        let (enough, out) = plan(alloc, &scorer, need, slots)?;
+        assert_eq!(rt; enough, is_enough, "{need}");
+        assert_eq!(rt; out.as_slice(), gone, "{need}");
+    }
     Ok(())
 }
 
-// A closure that counts its calls, and computes the age by a test in place of a difference that stops
-// at 1, gives up the same rows as the plain formula: 2 scores 30 / 5, 4 scores 40 / 3, 1 scores 9 / 6.
+// The counting closure gives up the same rows as the plain formula: 2 scores 30 / 5, 4 scores 40 / 3,
+// 1 scores 9 / 6.
 #[test]
 fn another_closure_gives_up_the_same(rt: HostRuntime) -> Result<(), Fail> {
     let alloc = rt.alloc();
-    let plain: ScoreCall = Box::new(
-        alloc,
-        move |stats: &Stats, now: u64| -> Score
-            requires { IsInRange stats.now now }
-            ensures { result ≡ score_of History [] stats.now now }
-        { formula(Evict::History, stats, now) },
-    )?;
     let calls = Arc::new(alloc, AtomicU64::new(0))?;
-    let held = Arc::try_clone(&calls)?;
-    let counting: ScoreCall = Box::new(
-        alloc,
-        move |stats: &Stats, now: u64| -> Score
-            requires { IsInRange stats.now now }
-            ensures { result ≡ score_of History [] stats.now now }
-        {
-            held.fetch_add(1, Ordering::SeqCst);
-            let age = if now > stats.admitted_at {
-                now - stats.admitted_at
-            } else {
-                1
-            };
-            Score {
-                top: formula(Evict::Benefit, stats, now).top,
-                bottom: u128::from(age),
-            }
-        },
-    )?;
-    let (enough, out) = plan(alloc, &Scorer::new(alloc, Evict::History, plain), 30, 0)?;
+    let (enough, out) = plan(alloc, &by_age(alloc)?, 30, 0)?;
     assert!(rt; enough);
     assert_eq!(rt; out.as_slice(), [2, 1, 4].as_slice());
-    let (_, same) = plan(alloc, &Scorer::new(alloc, Evict::History, counting), 30, 0)?;
+    let (_, same) = plan(alloc, &by_counted_age(alloc, &calls)?, 30, 0)?;
     assert_eq!(rt; same.as_slice(), out.as_slice());
     assert!(rt; calls.load(Ordering::SeqCst) != 0);
     Ok(())

@@ -1,6 +1,6 @@
 use Rattle.std.proofs.Common.{refl}
 use Rattle.std.specs.List.{IsDistinct}
-use Rattle.evict_admit.proofs.tests.plan.Goals as goal
+use Rattle.leaf_rows.proofs.evictions.plan.Goals as goal
 
 pub plan_evictions-enough-requires-clause-distinct : goal.plan_evictions-enough-requires-clause-distinct
 unfolding IsDistinct
