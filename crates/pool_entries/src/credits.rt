@@ -46,7 +46,7 @@ fn pay_back(ledger: &mut Ledger, shape: u32)
 }
 
 /// The entry's credit is paid back, where it is to be.
-pub fn pay_if(ledger: &mut Ledger, entry: &PoolEntry, pays: bool)
+pub fn pay_back_if(ledger: &mut Ledger, entry: &PoolEntry, pays: bool)
     requires unpaid { pays ≡ true → entry.now.is_paid ≡ false }
     requires owed { IsOwed ledger.old (entry.now ∷ []) }
     ensures each { ledger.new.each ≡ (if pays then one_more ledger.old.each entry.now.shape else ledger.old.each) }
@@ -59,7 +59,7 @@ pub fn pay_if(ledger: &mut Ledger, entry: &PoolEntry, pays: bool)
 }
 
 /// The entry with this id pays its credit back, where its use does.
-pub fn pay_id(ledger: &mut Ledger, entries: &[PoolEntry], id: u64, who: Who)
+pub fn pay_back_id(ledger: &mut Ledger, entries: &[PoolEntry], id: u64, who: Who)
     requires rising { HaveRisingIds entries.now }
     requires owed { IsOwed ledger.old entries.now }
     ensures each { ledger.new.each ≡ paid_back ledger.old.each (filter (λ e. is_one_of (id ∷ []) e.id && pays_back who e) entries.now) }
@@ -69,7 +69,7 @@ pub fn pay_id(ledger: &mut Ledger, entries: &[PoolEntry], id: u64, who: Who)
         None => {}
         Some(place) => {
             let entry = &entries[place];
-            pay_if(ledger, entry, entry.pays_back(who));
+            pay_back_if(ledger, entry, entry.pays_back(who));
         }
     }
 }

@@ -13,5 +13,5 @@ mod shapes;
 
 pub use by_id::{first_missing, place_by_id};
 pub use changes::{pin_id, total_bytes, unpin_all, use_id};
-pub use credits::{is_spent, pay, pay_id, pay_if};
+pub use credits::{is_spent, pay, pay_back_id, pay_back_if};
 pub use shapes::give_number;

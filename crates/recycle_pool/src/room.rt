@@ -14,7 +14,7 @@ ghost use Rattle.recycle_pool.specs.Usable.{IsWeighable};
 use crate::lists::Lists;
 use evict_admit::{Ledger, Row, plan_evictions};
 use lineage_key::Key;
-use pool_entries::pay_if;
+use pool_entries::pay_back_if;
 use pool_index::Kin;
 use pool_policy::{PoolEntry, PoolOptions, is_among};
 use score_hook::Scorer;
@@ -179,7 +179,7 @@ fn pay_leaving(ledger: &mut Ledger, entries: &[PoolEntry], gone: &[u64])
     let mut rest = entries;
     'entries: while let [entry, more @ ..] = rest {
         let pays = pays_then(entry, gone);
-        pay_if(ledger, entry, pays);
+        pay_back_if(ledger, entry, pays);
         rest = more;
     }
 }

@@ -11,7 +11,7 @@ ghost use Rattle.recycle_pool.specs.Answers.{piece_in, told};
 
 use crate::found::{Found, Part};
 use evict_admit::Ledger;
-use pool_entries::{pay_id, pay_if, pin_id, use_id};
+use pool_entries::{pay_back_id, pay_back_if, pin_id, use_id};
 use pool_policy::{PoolEntry, Who};
 
 /// Whether a part has this id.
@@ -119,7 +119,7 @@ fn pay_each(ledger: &mut Ledger, entries: &[PoolEntry], found: &Found, parts: &[
     let mut rest = entries;
     'entries: while let [entry, more @ ..] = rest {
         let pays = pays_now(entry, found, parts, who);
-        pay_if(ledger, entry, pays);
+        pay_back_if(ledger, entry, pays);
         rest = more;
     }
 }
@@ -138,7 +138,7 @@ pub(crate) fn pay_uses(
     ensures start { ledger.new.start ≡ ledger.old.start }
 {
     match found {
-        Found::Exact(id, _) | Found::Within(id, _) => pay_id(ledger, entries, *id, who),
+        Found::Exact(id, _) | Found::Within(id, _) => pay_back_id(ledger, entries, *id, who),
         Found::Across(_) => pay_each(ledger, entries, found, parts, who),
         Found::Miss => {}
     }

@@ -11,7 +11,7 @@ ghost use Rattle.recycle_pool.specs.Usable.{IsWeighable};
 use crate::lists::Lists;
 use crate::room::{push_row, take_out};
 use evict_admit::{Ledger, Row, plan_evictions};
-use pool_entries::pay_if;
+use pool_entries::pay_back_if;
 use pool_policy::{PoolEntry, PoolOptions, is_among};
 use score_hook::Scorer;
 
@@ -31,7 +31,7 @@ fn pay_dropped(ledger: &mut Ledger, entries: &[PoolEntry], touched: &[u64], back
     let mut rest = entries;
     'entries: while let [entry, more @ ..] = rest {
         let pays = pays_dropped(entry, touched, back);
-        pay_if(ledger, entry, pays);
+        pay_back_if(ledger, entry, pays);
         rest = more;
     }
 }

@@ -1,5 +1,5 @@
 use Rattle.pool_entries.proofs.Owed.{owed_paid}
-use Rattle.pool_entries.proofs.credits.pay_if.Goals as goal
+use Rattle.pool_entries.proofs.credits.pay_back_if.Goals as goal
 
 pub returns-then-pays-clause-owed : goal.returns-then-pays-clause-owed
 returns-then-pays-clause-owed c rest known =

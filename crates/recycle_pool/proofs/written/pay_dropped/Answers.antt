@@ -7,8 +7,8 @@ use Rattle.pool_entries.specs.Usable.{IsOwed}
 use Rattle.recycle_pool.proofs.Paying.{first_and_rest, owed_here, paid_on}
 use Rattle.recycle_pool.proofs.written.pay_dropped.Goals as goal
 
-pub pay_if-requires-clause-owed : goal.pay_if-requires-clause-owed
-pay_if-requires-clause-owed c =
+pub pay_back_if-requires-clause-owed : goal.pay_back_if-requires-clause-owed
+pay_back_if-requires-clause-owed c =
     owed_here c.entries.ledger c.entries.rest.now (take (length c.entries.rest.now - 1) (drop 1 c.entries.rest.now)) c.entry-item.result
     (first_and_rest c.entries.rest.now c.entry-item.result c.in-len1-up.len_at_least c.entry-item.is) c.entries.invariant.owed
 
@@ -16,8 +16,8 @@ pub entries-preserved : goal.entries-preserved
 entries-preserved c =
     let split = first_and_rest c.entries.rest.now c.entry-item.result c.in-len1-up.len_at_least c.entry-item.is in
     record {
-      paid = paid_on (λ (e : PoolEntry). (is_one_of c.args.touched.now e.id && not (is_one_of c.args.back.now e.id)) && pays_at_end e) c.entries.ledger.each c.pay_if.new.ledger.each _ c.entries.rest.now (take (length c.entries.rest.now - 1) (drop 1 c.entries.rest.now)) c.entry-item.result
-          c.pays_dropped-pays.result split c.pays_dropped-pays.ensures c.pay_if.ensures.each c.entries.invariant.paid;
-      owed = c.pay_if.ensures.owed (take (length c.entries.rest.now - 1) (drop 1 c.entries.rest.now)) (subst (IsOwed c.entries.ledger) split c.entries.invariant.owed);
-      start = c.pay_if.ensures.start ∙ c.entries.invariant.start;
+      paid = paid_on (λ (e : PoolEntry). (is_one_of c.args.touched.now e.id && not (is_one_of c.args.back.now e.id)) && pays_at_end e) c.entries.ledger.each c.pay_back_if.new.ledger.each _ c.entries.rest.now (take (length c.entries.rest.now - 1) (drop 1 c.entries.rest.now)) c.entry-item.result
+          c.pays_dropped-pays.result split c.pays_dropped-pays.ensures c.pay_back_if.ensures.each c.entries.invariant.paid;
+      owed = c.pay_back_if.ensures.owed (take (length c.entries.rest.now - 1) (drop 1 c.entries.rest.now)) (subst (IsOwed c.entries.ledger) split c.entries.invariant.owed);
+      start = c.pay_back_if.ensures.start ∙ c.entries.invariant.start;
     }
