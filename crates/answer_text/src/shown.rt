@@ -2,7 +2,6 @@ use cell_core::{Cell, Sequence};
 use sql_semantics::Refusal;
 
 /// The reply to one statement.
-#[derive(Debug)]
 pub enum Shown {
     /// Done.
     Done,

@@ -9,7 +9,7 @@ use cell_calc::{
 use cell_core::Cell;
 
 /// A function of two cells.
-#[derive(Clone, Copy, Debug, PartialEq, Eq)]
+#[derive(Clone, Copy, PartialEq, Eq)]
 pub(crate) enum Function {
     /// The sum.
     Plus,

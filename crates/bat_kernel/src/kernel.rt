@@ -6,7 +6,7 @@ use std::alloc::Global;
 use std::sync::ledger::Ledger;
 
 /// The machine that runs the operators of plans over BATs and scalars. It keeps nothing.
-#[derive(Clone, Copy, Debug, Default, PartialEq, Eq)]
+#[derive(Clone, Copy, Default, PartialEq, Eq)]
 pub struct Kernel;
 
 impl Kernel {

@@ -2,7 +2,7 @@ ghost use Rattle.causes.specs.Faults.{next_count};
 ghost use Rattle.std.specs.Prelude.{◌≡◌, ◌≤◌, ◌↔◌, Contains, IsTrue};
 
 /// Which calls are to fail, and how many calls and faults were counted.
-#[derive(Debug, Drop)]
+#[derive(Drop)]
 pub struct FailingCalls {
     /// The numbers of the calls that are to fail.
     pub listed: Vec<u64>,

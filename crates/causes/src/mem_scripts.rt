@@ -15,7 +15,7 @@ use std::marker::Model;
 ///
 /// The calls of `start` and `read` are numbered together from 1. A listed call fails, and so does
 /// the start of an unknown name. Of two files with one name the first counts.
-#[derive(Debug, Drop)]
+#[derive(Drop)]
 pub struct MemScripts {
     files: OpenFiles,
     calls: FailingCalls,

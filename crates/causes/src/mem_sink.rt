@@ -13,7 +13,7 @@ use std::marker::Model;
 ///
 /// The calls of `write` are numbered from 1. A call takes at most `per_call` bytes, and all calls
 /// together at most `room`. It takes no memory after it is made.
-#[derive(Debug, Drop)]
+#[derive(Drop)]
 pub struct MemSink {
     held: Vec<u8>,
     per_call: usize,

@@ -7,14 +7,14 @@ use cell_core::Word;
 use std::marker::Model;
 
 /// Named files in memory, of which one at a time is read from its first byte on.
-#[derive(Debug, Drop)]
+#[derive(Drop)]
 pub struct OpenFiles {
     files: Vec<(Word, Vec<u8>)>,
     place: Option<Place>,
 }
 
 /// How much of which file was read. A file that isn't there has no bytes.
-#[derive(Clone, Copy, Debug)]
+#[derive(Clone, Copy)]
 struct Place {
     file: usize,
     done: usize,

@@ -14,7 +14,7 @@ pub const MOST_BYTES: usize = 1_048_576;
 const PIECE_BYTES: usize = 65_536;
 
 /// The text of a script. Contracts see it as its bytes, which are UTF-8.
-#[derive(Debug, Drop)]
+#[derive(Drop)]
 pub struct Script {
     text: String,
 }

@@ -10,7 +10,7 @@ use std::marker::Model;
 /// Files in memory that never fail. An unknown name is an empty text.
 ///
 /// Of two files with one name the first counts.
-#[derive(Debug, Drop)]
+#[derive(Drop)]
 pub struct SureScripts {
     files: OpenFiles,
 }

@@ -5,7 +5,7 @@ use crate::memory::Memory;
 use crate::word::Word;
 
 /// The kinds of cells.
-#[derive(Clone, Copy, Debug, PartialEq, Eq, Hash)]
+#[derive(Clone, Copy, PartialEq, Eq, Hash)]
 pub enum Kind {
     /// A signed number of 64 bits.
     Int,
@@ -22,7 +22,7 @@ pub enum Kind {
 }
 
 /// One value of a table or of a column.
-#[derive(Debug, Hash)]
+#[derive(Hash)]
 pub enum Cell {
     /// No value.
     Nil,

@@ -7,7 +7,6 @@ use crate::order::compare;
 use std::cmp::Ordering;
 
 /// A place between cells, where their order can be cut in two.
-#[derive(Debug)]
 pub enum Cut {
     /// Before all cells.
     Low,
@@ -29,7 +28,6 @@ impl Drop for Cut {
 }
 
 /// The cells between two cuts.
-#[derive(Debug)]
 pub struct Span {
     /// Where the span begins.
     pub low: Cut,

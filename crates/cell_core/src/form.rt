@@ -4,7 +4,7 @@ ghost use Rattle.cell_core.specs.Forms.{form_of};
 use crate::operator::Op;
 
 /// What an operator takes and gives.
-#[derive(Clone, Copy, Debug, PartialEq, Eq)]
+#[derive(Clone, Copy, PartialEq, Eq)]
 pub enum Form {
     /// The column of a database that three texts name.
     Bind,

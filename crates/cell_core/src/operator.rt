@@ -8,7 +8,7 @@ use crate::sequence::Sequence;
 use std::alloc::Global;
 
 /// The operators of plans.
-#[derive(Clone, Copy, Debug, PartialEq, Eq, Hash)]
+#[derive(Clone, Copy, PartialEq, Eq, Hash)]
 pub enum Op {
     /// The cells of a table's column.
     Bind,
@@ -90,7 +90,6 @@ pub fn class_of(op: Op) -> u32
 }
 
 /// An argument of an instruction.
-#[derive(Debug)]
 pub enum Arg {
     /// A constant.
     Const(Cell),
@@ -108,7 +107,6 @@ impl Drop for Arg {
 }
 
 /// An instruction of a plan.
-#[derive(Debug)]
 pub struct Instr {
     /// The operator.
     pub op: Op,
@@ -208,7 +206,6 @@ pub fn copy_args(alloc: Global, args: &[Arg]) -> Result<Sequence<Arg>, Memory>
 }
 
 /// What an instruction computes, held plainly.
-#[derive(Debug)]
 pub enum Value {
     /// A binary association table: pairs of a head and a tail.
     Bat(Sequence<(Cell, Cell)>),

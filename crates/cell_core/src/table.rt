@@ -9,7 +9,6 @@ use crate::word::Word;
 use std::alloc::Global;
 
 /// A column of a table.
-#[derive(Debug)]
 pub struct Column {
     /// Its name.
     pub name: Word,
@@ -37,7 +36,6 @@ impl Drop for Column {
 }
 
 /// A table.
-#[derive(Debug)]
 pub struct Table {
     /// Its name.
     pub name: Word,
@@ -59,7 +57,7 @@ impl Drop for Table {
 }
 
 /// A database.
-#[derive(Debug, Drop)]
+#[derive(Drop)]
 pub struct Db {
     /// Its tables, whose names differ.
     pub tables: Sequence<Table>,

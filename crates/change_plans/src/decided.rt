@@ -2,7 +2,7 @@ use cell_core::{Cell, Sequence, Word};
 use sql_semantics::Refusal;
 
 /// What is decided of a DELETE or an UPDATE.
-#[derive(Debug, Drop)]
+#[derive(Drop)]
 pub enum Decided {
     /// It is refused.
     Refused(Refusal),

@@ -14,7 +14,7 @@ use cell_core::{Cell, compare, stated_bytes};
 use std::cmp::Ordering;
 
 /// Facts about the cells of a column.
-#[derive(Clone, Copy, Debug, PartialEq, Eq)]
+#[derive(Clone, Copy, PartialEq, Eq)]
 pub struct Facts {
     /// The sum of their stated bytes.
     pub bytes: u64,

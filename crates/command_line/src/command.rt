@@ -18,7 +18,7 @@ use std::alloc::Global;
 const MOST_FILES: usize = 16;
 
 /// The options of a run.
-#[derive(Debug, Drop)]
+#[derive(Drop)]
 pub struct RunOptions {
     /// How many stated bytes the pool can have, at most 2^40.
     pub budget: u64,
@@ -35,7 +35,7 @@ pub struct RunOptions {
 }
 
 /// What the program is to do.
-#[derive(Debug, Drop)]
+#[derive(Drop)]
 pub enum Command {
     /// Runs the scripts in these files.
     Run {

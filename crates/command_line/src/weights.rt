@@ -10,7 +10,7 @@ use mal_tokens::{OPERATORS, function_word};
 use std::alloc::{AllocError, Global};
 
 /// An operator, and the weight that it is given.
-#[derive(Clone, Copy, Debug)]
+#[derive(Clone, Copy)]
 struct Given {
     operator: Op,
     weight: u64,

@@ -17,7 +17,7 @@ use score_hook::{Score, Scorer, Stats};
 pub const MOST_ROWS: usize = 1024;
 
 /// An entry of a pool.
-#[derive(Clone, Copy, Debug, PartialEq, Eq)]
+#[derive(Clone, Copy, PartialEq, Eq)]
 pub struct Row {
     /// Its id, above 0.
     pub id: u64,

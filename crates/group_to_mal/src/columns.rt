@@ -9,7 +9,7 @@ use mal_emit::{counted, emit};
 use std::alloc::Global;
 
 /// The value of an item: the argument that holds it, and whether that is a BAT.
-#[derive(Debug, Drop)]
+#[derive(Drop)]
 pub struct ItemValue {
     /// The argument.
     pub arg: Arg,

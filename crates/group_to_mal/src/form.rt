@@ -17,7 +17,6 @@ use sql_tree::{AggOp, CmpOp, Cond, Expr};
 use std::alloc::Global;
 
 /// What values are over.
-#[derive(Debug)]
 pub enum Form {
     /// Each row so far.
     Rows,

@@ -20,7 +20,7 @@ use sql_tree::{ColRef, Cond, Item, Query};
 use std::alloc::Global;
 
 /// What a plan shows: its columns, and a test of whether it shows any row.
-#[derive(Debug, Drop)]
+#[derive(Drop)]
 pub struct Shown {
     /// The columns.
     pub columns: Vec<Arg>,

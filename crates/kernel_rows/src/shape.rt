@@ -11,7 +11,7 @@ use bat_core::{Bat, Obj};
 use cell_core::{Cell, Kind, Op};
 
 /// The shape of an argument. The heads of BATs are oids, and Nil is of each kind.
-#[derive(Clone, Copy, Debug, PartialEq, Eq)]
+#[derive(Clone, Copy, PartialEq, Eq)]
 pub enum Shape {
     /// A BAT of numbers.
     Ints,

@@ -19,7 +19,7 @@ pub(crate) use ranges::RANGES;
 pub(crate) use two_bats::TWO_BATS;
 
 /// A cell of a table.
-#[derive(Clone, Copy, Debug, PartialEq, Eq)]
+#[derive(Clone, Copy, PartialEq, Eq)]
 pub(crate) enum Lit {
     Nil,
     Int(i64),
@@ -30,7 +30,7 @@ pub(crate) enum Lit {
 }
 
 /// An argument, or what an operator gives.
-#[derive(Clone, Copy, Debug, PartialEq, Eq)]
+#[derive(Clone, Copy, PartialEq, Eq)]
 pub(crate) enum Val {
     Bat(&'static [(Lit, Lit)]),
     One(Lit),

@@ -8,7 +8,7 @@ ghost use Rattle.least_cover.specs.Covers.{rows_at, span_at};
 use cell_core::{Cut, Span, compare_cuts};
 
 /// The least chain that begins with a span.
-#[derive(Clone, Copy, Debug)]
+#[derive(Clone, Copy)]
 pub(crate) struct Best {
     /// The rows of all its spans.
     pub(crate) cost: u64,

@@ -7,7 +7,7 @@ use std::alloc::Global;
 use std::hash::{Hash, Hasher};
 
 /// An argument of a key.
-#[derive(Debug, Hash)]
+#[derive(Hash)]
 pub enum KeyArg {
     /// A constant.
     Const(Cell),
@@ -26,7 +26,7 @@ impl Drop for KeyArg {
 
 /// What names the result of an instruction: the operator, its arguments with results by their ids,
 /// and the version of the table that a bind reads (other operators have version 0).
-#[derive(Debug, Drop)]
+#[derive(Drop)]
 pub struct Key {
     /// The operator.
     pub op: Op,

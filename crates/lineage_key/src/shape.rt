@@ -5,7 +5,6 @@ use cell_core::{Op, Word};
 use std::hash::{Hash, Hasher};
 
 /// A lineage without its constants and versions.
-#[derive(Debug)]
 pub struct Shape {
     /// The operator.
     pub op: Op,

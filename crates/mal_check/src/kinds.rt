@@ -14,7 +14,7 @@ use cell_calc::{agrees, are_comparable, both_are, kind_of};
 use cell_core::{Arg, Cell, Kind, Op, Word};
 
 /// What is known of a value before its plan is run. A kind `None` is that of Nil.
-#[derive(Clone, Copy, Debug, PartialEq, Eq)]
+#[derive(Clone, Copy, PartialEq, Eq)]
 pub(crate) enum ValueKind {
     /// A scalar of a kind.
     One(Option<Kind>),
@@ -23,7 +23,7 @@ pub(crate) enum ValueKind {
 }
 
 /// The kinds of a BAT's heads and of its tails.
-#[derive(Clone, Copy, Debug, PartialEq, Eq)]
+#[derive(Clone, Copy, PartialEq, Eq)]
 pub(crate) struct BatKind {
     head: Option<Kind>,
     tail: Option<Kind>,

@@ -5,7 +5,6 @@ use cell_core::{Arg, Instr, Memory, Sequence, copy_args};
 use std::alloc::Global;
 
 /// What a plan answers, made of the values of its instructions.
-#[derive(Debug)]
 pub struct Out {
     /// The columns: a BAT gives its tails, a scalar stands in every row.
     pub cols: Sequence<Arg>,
@@ -31,7 +30,6 @@ impl Drop for Out {
 }
 
 /// A plan: instructions in order, each of which may use the results of earlier ones, and an output.
-#[derive(Debug)]
 pub struct Plan {
     /// The instructions; `Arg::Var(n)` is the result of instruction n, counted from 0.
     pub instrs: Sequence<Instr>,

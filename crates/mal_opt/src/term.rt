@@ -7,7 +7,7 @@ use std::hash::{Hash, Hasher};
 use std::marker::Model;
 
 /// An instruction that stands in a set. Contracts see it as the instruction.
-#[derive(Debug, Drop)]
+#[derive(Drop)]
 pub(crate) struct Term {
     instr: Instr,
 }

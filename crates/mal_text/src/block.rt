@@ -1,7 +1,6 @@
 use cell_core::{Sequence, Word};
 
 /// An argument as it is written.
-#[derive(Debug)]
 pub enum Term {
     /// A word: `true`, `false`, `nil`, or the name of a variable.
     Name(Word),
@@ -32,7 +31,6 @@ impl Drop for Term {
 }
 
 /// An instruction as it is written.
-#[derive(Debug)]
 pub struct Line {
     /// The variable that it assigns.
     pub name: Word,
@@ -57,7 +55,6 @@ impl Drop for Line {
 }
 
 /// A key of the order as it is written.
-#[derive(Debug)]
 pub struct Key {
     /// The digits of a place among the columns, counted from 1.
     pub place: Word,
@@ -76,7 +73,6 @@ impl Drop for Key {
 }
 
 /// A block as it is written.
-#[derive(Debug)]
 pub struct Block {
     /// Its name.
     pub name: Word,

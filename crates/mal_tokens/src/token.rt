@@ -1,7 +1,6 @@
 use cell_core::Word;
 
 /// A token of MAL text.
-#[derive(Debug)]
 pub enum Token {
     /// A word, with its case kept.
     Name(Word),
@@ -23,7 +22,7 @@ impl Drop for Token {
 }
 
 /// A mark.
-#[derive(Clone, Copy, Debug, PartialEq, Eq)]
+#[derive(Clone, Copy, PartialEq, Eq)]
 pub enum Mark {
     /// `(`
     Open,

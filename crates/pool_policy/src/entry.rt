@@ -8,7 +8,7 @@ use lineage_key::Key;
 use score_hook::Stats;
 
 /// A session, and which of its statements.
-#[derive(Clone, Copy, Debug, PartialEq, Eq)]
+#[derive(Clone, Copy, PartialEq, Eq)]
 pub struct Who {
     /// The session, from 1 to 16.
     pub session: u32,

@@ -2,7 +2,7 @@ use cell_core::Sequence;
 use score_hook::Evict;
 
 /// Which results are admitted.
-#[derive(Clone, Copy, Debug, PartialEq, Eq)]
+#[derive(Clone, Copy, PartialEq, Eq)]
 pub enum Admit {
     /// All that there is room for.
     All,
@@ -11,7 +11,6 @@ pub enum Admit {
 }
 
 /// The options of a pool.
-#[derive(Debug)]
 pub struct PoolOptions {
     /// How many entries there can be, at most 1,024.
     pub places: u64,
@@ -42,7 +41,7 @@ impl Drop for PoolOptions {
 }
 
 /// What an admission answers.
-#[derive(Clone, Copy, Debug, PartialEq, Eq)]
+#[derive(Clone, Copy, PartialEq, Eq)]
 pub enum Admitted {
     /// The result is an entry now.
     Taken {

@@ -22,7 +22,6 @@ use sql_tree::{Cond, Expr, FromItem, Stmt};
 use std::alloc::Global;
 
 /// The rows that a statement keeps.
-#[derive(Debug)]
 pub struct Rows {
     /// The instructions.
     pub instrs: Sequence<Instr>,

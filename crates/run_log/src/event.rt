@@ -9,7 +9,6 @@ use mal_meaning::Plan;
 use pool_policy::Admitted;
 
 /// One entry of the log. Positions in the log count from 1.
-#[derive(Debug)]
 pub struct Event {
     /// The session, from 1.
     pub session: u32,
@@ -31,7 +30,6 @@ impl Drop for Event {
 }
 
 /// What an event does. A code is 0 where the statement is accepted, and else the refusal's number.
-#[derive(Debug)]
 pub enum Act {
     /// A query begins: the tables that it sees are those at this place.
     Begin {
@@ -100,7 +98,7 @@ impl Drop for Act {
 }
 
 /// What a look finds, as it is logged.
-#[derive(Clone, Copy, Debug, PartialEq, Eq)]
+#[derive(Clone, Copy, PartialEq, Eq)]
 pub enum Looked {
     /// The entry with this id has the key.
     Exact(u64),
@@ -125,7 +123,7 @@ impl Act {
 }
 
 /// The totals of a run so far.
-#[derive(Clone, Copy, Debug, PartialEq, Eq)]
+#[derive(Clone, Copy, PartialEq, Eq)]
 pub struct Totals {
     /// The entries of the pool.
     pub entries: u64,

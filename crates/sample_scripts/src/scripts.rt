@@ -18,7 +18,7 @@ const ROWS: u64 = 500;
 const QUERIES: u64 = 100;
 
 /// The statements of two scripts, without the `;` behind each.
-#[derive(Debug, Drop)]
+#[derive(Drop)]
 pub struct SampleScripts {
     /// A table is made and filled.
     pub changes: Sequence<Word>,

@@ -3,7 +3,7 @@ ghost use Rattle.score_hook.specs.declared.stats.Evict.TheVariants.{Weighted};
 ghost use Rattle.score_hook.specs.Scores.{AreWeights, IsInRange, score_of, weight_of, is_less};
 
 /// What is known of an entry.
-#[derive(Clone, Copy, Debug, PartialEq, Eq)]
+#[derive(Clone, Copy, PartialEq, Eq)]
 pub struct Stats {
     /// The place of its operator in the table of operators, from 0 to 34.
     pub class: u32,
@@ -20,7 +20,7 @@ pub struct Stats {
 }
 
 /// A fraction.
-#[derive(Clone, Copy, Debug, PartialEq, Eq)]
+#[derive(Clone, Copy, PartialEq, Eq)]
 pub struct Score {
     /// Above the line.
     pub top: u128,
@@ -29,7 +29,7 @@ pub struct Score {
 }
 
 /// Which entry goes first.
-#[derive(Clone, Copy, Debug, PartialEq, Eq)]
+#[derive(Clone, Copy, PartialEq, Eq)]
 pub enum Evict {
     /// The one that was used least recently.
     Lru,

@@ -15,7 +15,7 @@ use cell_core::Word;
 use sql_tree::{Cond, Expr, Item, Query, Stmt};
 
 /// What is looked for in expressions.
-#[derive(Clone, Copy, Debug)]
+#[derive(Clone, Copy)]
 pub(crate) enum Sought {
     /// More than 64 nodes.
     Large,

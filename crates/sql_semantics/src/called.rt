@@ -22,7 +22,7 @@ impl<'a> Model for Called<'a> {
 }
 
 /// How many columns a reference may mean.
-#[derive(Clone, Copy, Debug, PartialEq, Eq)]
+#[derive(Clone, Copy, PartialEq, Eq)]
 pub enum Found {
     /// None.
     Nowhere,

@@ -1,7 +1,6 @@
 use cell_core::{Column, Sequence, Word};
 
 /// A table without its rows.
-#[derive(Debug)]
 pub struct Source {
     /// The table's name.
     pub table: Word,
@@ -20,7 +19,7 @@ impl Drop for Source {
 }
 
 /// The tables that a statement is checked over.
-#[derive(Debug, Drop)]
+#[derive(Drop)]
 pub struct Schema {
     /// The tables, whose names differ.
     pub tables: Sequence<Source>,

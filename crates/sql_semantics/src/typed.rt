@@ -14,7 +14,6 @@ use sql_tree::{FromItem, Stmt};
 
 /// A statement that reading may give and the check accepts, with the tables that it speaks of. Contracts
 /// see the statement's tree as a formed one, which the check has no refusal of over these tables.
-#[derive(Debug)]
 pub struct Typed {
     /// The statement.
     pub stmt: Stmt,

@@ -16,7 +16,7 @@ use std::alloc::Global;
 use turn_lines::{ScheduleError, turns_of};
 
 /// How sessions go.
-#[derive(Debug, Drop)]
+#[derive(Drop)]
 pub enum Course {
     /// Each on a thread of its own, with so many workers for its queries.
     InThreads(u32),
@@ -25,7 +25,7 @@ pub enum Course {
 }
 
 /// What a command has read.
-#[derive(Debug, Drop)]
+#[derive(Drop)]
 pub struct Inputs {
     /// The scripts of its files.
     pub scripts: Vec<Script>,

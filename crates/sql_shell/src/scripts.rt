@@ -28,7 +28,7 @@ pub const STATUS_NOT_TEXT: u8 = 6;
 pub const STATUS_BAD_LINE: u8 = 7;
 
 /// A script that was read, cut into its statements.
-#[derive(Debug, Drop)]
+#[derive(Drop)]
 pub struct Script {
     /// Its file's name.
     pub name: Word,
@@ -37,7 +37,7 @@ pub struct Script {
 }
 
 /// Why a run ends before its first statement. Files are counted from 1, and the schedule is file 0.
-#[derive(Clone, Copy, Debug, PartialEq, Eq, Drop)]
+#[derive(Clone, Copy, PartialEq, Eq, Drop)]
 pub enum Failure {
     /// The words are outside the grammar.
     Words,

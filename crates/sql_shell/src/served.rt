@@ -25,7 +25,7 @@ use std::sync::ledger::Ledger;
 use std::thread::Threads;
 
 /// What the program answers.
-#[derive(Debug, Drop)]
+#[derive(Drop)]
 pub struct Served {
     /// 0: served; 1: the words are outside the grammar; 2: a file can't be read; 3: the answer can't be
     /// written; 4: a file has too many bytes or statements; 5: memory ran out; 6: a file isn't UTF-8; 7: the

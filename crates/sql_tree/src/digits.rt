@@ -9,13 +9,12 @@ const SHORT: usize = 20;
 
 /// Decimal digits. Contracts see them as their bytes. As most numbers are short, and a script has many,
 /// short ones take no memory.
-#[derive(Debug, Drop)]
+#[derive(Drop)]
 pub struct Digits {
     kept: Kept,
 }
 
 /// Where the bytes of digits lie.
-#[derive(Debug)]
 enum Kept {
     /// At the front of these bytes, so many.
     Short([u8; SHORT], u8),

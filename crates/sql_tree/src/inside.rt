@@ -1,5 +1,5 @@
 /// What a byte of a script stands in.
-#[derive(Clone, Copy, Debug, PartialEq, Eq)]
+#[derive(Clone, Copy, PartialEq, Eq)]
 pub enum Inside {
     /// Neither a string nor a quoted name nor a comment.
     Outside,

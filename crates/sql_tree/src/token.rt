@@ -2,7 +2,6 @@ use crate::digits::Digits;
 use cell_core::Word;
 
 /// A token of SQL text.
-#[derive(Debug)]
 pub enum Token {
     /// A word that isn't reserved, folded to lower case.
     Name(Word),
@@ -36,7 +35,6 @@ impl Drop for Token {
 }
 
 /// A token and its place in the text.
-#[derive(Debug)]
 pub struct Placed {
     /// The token.
     pub token: Token,
@@ -58,7 +56,7 @@ impl Drop for Placed {
 }
 
 /// A reserved word that the profile reads.
-#[derive(Clone, Copy, Debug, PartialEq, Eq)]
+#[derive(Clone, Copy, PartialEq, Eq)]
 pub enum Keyword {
     /// `ADD`
     Add,
@@ -155,7 +153,7 @@ pub enum Keyword {
 }
 
 /// A symbol.
-#[derive(Clone, Copy, Debug, PartialEq, Eq)]
+#[derive(Clone, Copy, PartialEq, Eq)]
 pub enum Symbol {
     /// `(`
     Open,

@@ -1,7 +1,6 @@
 use cell_core::{Cell, Column, Sequence, Word};
 
 /// A statement.
-#[derive(Debug)]
 pub enum Stmt {
     /// `CREATE TABLE`
     Create {
@@ -84,7 +83,6 @@ impl Drop for Stmt {
 }
 
 /// A query.
-#[derive(Debug)]
 pub struct Query {
     /// Whether equal rows stand once.
     pub distinct: bool,
@@ -121,7 +119,6 @@ impl Drop for Query {
 }
 
 /// An item of a query.
-#[derive(Debug)]
 pub struct Item {
     /// Its value.
     pub expr: Expr,
@@ -137,7 +134,6 @@ impl Drop for Item {
 }
 
 /// A table of FROM.
-#[derive(Debug)]
 pub struct FromItem {
     /// The table's name.
     pub table: Word,
@@ -153,7 +149,6 @@ impl Drop for FromItem {
 }
 
 /// A column as a statement names it.
-#[derive(Debug)]
 pub struct ColRef {
     /// The FROM name before the dot.
     pub table: Option<Word>,
@@ -172,7 +167,6 @@ impl Drop for ColRef {
 }
 
 /// A key of ORDER BY.
-#[derive(Debug)]
 pub struct SortKey {
     /// What is sorted by.
     pub at: Place,
@@ -191,7 +185,6 @@ impl Drop for SortKey {
 }
 
 /// What a key of ORDER BY sorts by.
-#[derive(Debug)]
 pub enum Place {
     /// The item at this position, counted from 1.
     Position(u64),
@@ -209,7 +202,6 @@ impl Drop for Place {
 }
 
 /// A condition.
-#[derive(Debug)]
 pub enum Cond {
     /// A comparison.
     Cmp {
@@ -262,7 +254,7 @@ impl Drop for Cond {
 }
 
 /// The comparisons.
-#[derive(Clone, Copy, Debug, PartialEq, Eq)]
+#[derive(Clone, Copy, PartialEq, Eq)]
 pub enum CmpOp {
     /// `=`
     Eq,
@@ -279,7 +271,6 @@ pub enum CmpOp {
 }
 
 /// An expression.
-#[derive(Debug)]
 pub enum Expr {
     /// A literal.
     Lit(Cell),
@@ -320,7 +311,7 @@ impl Drop for Expr {
 }
 
 /// The arithmetic operators.
-#[derive(Clone, Copy, Debug, PartialEq, Eq)]
+#[derive(Clone, Copy, PartialEq, Eq)]
 pub enum ArithOp {
     /// `+`
     Plus,
@@ -331,7 +322,7 @@ pub enum ArithOp {
 }
 
 /// The aggregates.
-#[derive(Clone, Copy, Debug, PartialEq, Eq)]
+#[derive(Clone, Copy, PartialEq, Eq)]
 pub enum AggOp {
     /// `COUNT`
     Count,

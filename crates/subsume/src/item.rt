@@ -1,7 +1,7 @@
 use cell_core::Span;
 
 /// A pooled selection in the index.
-#[derive(Debug, Drop)]
+#[derive(Drop)]
 pub struct CutItem {
     /// The id of what it selects from.
     pub parent: u64,

@@ -17,7 +17,7 @@ const ROUNDS: u32 = 6;
 const MOST_LOOKS: u32 = 100_000_000;
 
 /// A note by the pass with this number.
-#[derive(Clone, Copy, Debug, PartialEq, Eq)]
+#[derive(Clone, Copy, PartialEq, Eq)]
 struct Note {
     by: u32,
     text: u32,

@@ -9,7 +9,7 @@ use std::alloc::{AllocFailed, Global};
 use text_bytes::{is_digit, number_64};
 
 /// Why a text is no schedule.
-#[derive(Clone, Copy, Debug, PartialEq, Eq, Drop)]
+#[derive(Clone, Copy, PartialEq, Eq, Drop)]
 pub enum ScheduleError {
     /// The line with this number, counted from 1, is the first that numbers no session.
     BadLine(u64),
