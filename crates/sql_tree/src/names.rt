@@ -23,7 +23,7 @@ pub fn printed_name(alloc: Global, name: &Word) -> Result<Word, Memory>
     }
 }
 
-/// Appends a name as it is printed.
+/// Appends a name as it is printed. Where memory runs out, a part of it may stand in `out`.
 pub fn write_name(name: &Word, out: &mut Vec<u8>) -> Result<(), Memory>
     ensures { OnOk result (out.new.items ≡ out.old.items ++ name_text name.now) }
 {
@@ -35,7 +35,8 @@ pub fn write_name(name: &Word, out: &mut Vec<u8>) -> Result<(), Memory>
     write_quoted(b'"', text, out)
 }
 
-/// Appends a text between two marks, with each mark in it doubled.
+/// Appends a text between two marks, with each mark in it doubled. Where memory runs out, a part of it may stand in
+/// `out`.
 pub fn write_quoted(mark: u8, text: &str, out: &mut Vec<u8>) -> Result<(), Memory>
     ensures { OnOk result (out.new.items ≡ out.old.items ++ (mark ∷ flat_map (doubled mark) text.now ++ mark ∷ [])) }
 {
