@@ -1,8 +1,8 @@
 //! What is printed of a run: replies, the history of accepted changes, the pool's totals and the log.
 //!
-//! It stands on `cell_core`, on the trees of `sql_tree` and on what they mean by `sql_semantics`. The definitions in `specs/` say which events a log has,
-//! which tables a statement meets at its place in it, and every byte that is printed. `write_reply`,
-//! `write_session_line` and `write_history` append exactly these bytes, or leave the text as it was.
+//! It stands on `run_log` for events and on `sql_semantics` for what statements mean. `specs/` says which tables a
+//! statement meets at its place in a log, and every byte that is printed. `write_reply`, `write_session_line`,
+//! `write_history`, `write_totals` and `write_log` append exactly these bytes, or leave the text as it was.
 #![tactic(auto)]
 
 mod events;
