@@ -117,10 +117,10 @@ fn decide_update(
 }
 
 /// What the rows of its plan decide of a change, exactly.
-fn decide_from(alloc: Global, typed: &Typed<'_>, rows: &[Sequence<Cell>]) -> Result<Decided, Memory>
-    ensures { IfOk result (λ decided. decided ≡ decided_by (stmt_tree typed.now.stmt.now) (own_columns_of typed.now.sources) rows.now) }
+fn decide_from(alloc: Global, typed: &Typed, rows: &[Sequence<Cell>]) -> Result<Decided, Memory>
+    ensures { IfOk result (λ decided. decided ≡ decided_by (stmt_tree typed.now.stmt) (own_columns_of typed.now.sources) rows.now) }
 {
-    match typed.stmt {
+    match &typed.stmt {
         Stmt::Update { sets, .. } => {
             let columns = own_columns(typed.sources.as_slice());
             decide_update(alloc, columns, sets.as_slice(), rows)
@@ -144,16 +144,16 @@ fn decide_from(alloc: Global, typed: &Typed<'_>, rows: &[Sequence<Cell>]) -> Res
 /// Where these are the plan's rows over a valid database that has the statement's table, what is decided
 /// leaves of the table what SQL says, the rows that it touches are there, and the statement's effect on the
 /// database is that change of the table.
-pub fn decide(alloc: Global, typed: &Typed<'_>, rows: &[Sequence<Cell>]) -> Result<Decided, Memory>
-    requires { is_write (stmt_tree typed.now.stmt.now) ≡ true }
-    ensures decided { IfOk result (λ decided. decided ≡ decided_by (stmt_tree typed.now.stmt.now) (own_columns_of typed.now.sources) rows.now) }
-    ensures table { IfOk result (λ decided. (db : DbSeen) (table : TableSeen) → HoldsTables (stmt_tree typed.now.stmt.now) typed.now.sources db → named_table (changed_table (stmt_tree typed.now.stmt.now)) db ≡ Some table
-        → plan_rows (write_plan (stmt_tree typed.now.stmt.now) typed.now.sources) db ≡ Some rows.now → left_by decided table ≡ change_of (stmt_tree typed.now.stmt.now) table) }
-    ensures in_place { IfOk result (λ decided. (db : DbSeen) (table : TableSeen) → HoldsTables (stmt_tree typed.now.stmt.now) typed.now.sources db → named_table (changed_table (stmt_tree typed.now.stmt.now)) db ≡ Some table
-        → plan_rows (write_plan (stmt_tree typed.now.stmt.now) typed.now.sources) db ≡ Some rows.now → is_in_place decided table ≡ true) }
-    ensures effect { IfOk result (λ decided. (db : DbSeen) → HoldsTables (stmt_tree typed.now.stmt.now) typed.now.sources db
-        → plan_rows (write_plan (stmt_tree typed.now.stmt.now) typed.now.sources) db ≡ Some rows.now
-        → effect (stmt_tree typed.now.stmt.now) db ≡ changed (changed_table (stmt_tree typed.now.stmt.now)) (left_by decided) (named_table (changed_table (stmt_tree typed.now.stmt.now)) db) db) }
+pub fn decide(alloc: Global, typed: &Typed, rows: &[Sequence<Cell>]) -> Result<Decided, Memory>
+    requires { is_write (stmt_tree typed.now.stmt) ≡ true }
+    ensures decided { IfOk result (λ decided. decided ≡ decided_by (stmt_tree typed.now.stmt) (own_columns_of typed.now.sources) rows.now) }
+    ensures table { IfOk result (λ decided. (db : DbSeen) (table : TableSeen) → HoldsTables (stmt_tree typed.now.stmt) typed.now.sources db → named_table (changed_table (stmt_tree typed.now.stmt)) db ≡ Some table
+        → plan_rows (write_plan (stmt_tree typed.now.stmt) typed.now.sources) db ≡ Some rows.now → left_by decided table ≡ change_of (stmt_tree typed.now.stmt) table) }
+    ensures in_place { IfOk result (λ decided. (db : DbSeen) (table : TableSeen) → HoldsTables (stmt_tree typed.now.stmt) typed.now.sources db → named_table (changed_table (stmt_tree typed.now.stmt)) db ≡ Some table
+        → plan_rows (write_plan (stmt_tree typed.now.stmt) typed.now.sources) db ≡ Some rows.now → is_in_place decided table ≡ true) }
+    ensures effect { IfOk result (λ decided. (db : DbSeen) → HoldsTables (stmt_tree typed.now.stmt) typed.now.sources db
+        → plan_rows (write_plan (stmt_tree typed.now.stmt) typed.now.sources) db ≡ Some rows.now
+        → effect (stmt_tree typed.now.stmt) db ≡ changed (changed_table (stmt_tree typed.now.stmt)) (left_by decided) (named_table (changed_table (stmt_tree typed.now.stmt)) db) db) }
 {
     writes_give_hits();
     decisions_are_meant();
@@ -175,15 +175,15 @@ fn reply_over(alloc: Global, stmt: &Stmt, table: Table) -> Result<Reply, Memory>
 
 /// Why a checked DELETE or UPDATE is refused whose plan overflows over this table: a text that is too
 /// long or Nil in some row comes before the overflow, so the rows are looked at one by one.
-pub fn refusal_over(alloc: Global, typed: &Typed<'_>, table: Table) -> Result<Refusal, Memory>
-    requires write { is_write (stmt_tree typed.now.stmt.now) ≡ true }
-    requires overflows { OverflowsOver (stmt_tree typed.now.stmt.now) typed.now.sources table }
-    ensures table { IfOk result (λ refusal. change_of (stmt_tree typed.now.stmt.now) table ≡ Err refusal) }
-    ensures effect { IfOk result (λ refusal. (db : DbSeen) → HoldsTables (stmt_tree typed.now.stmt.now) typed.now.sources db → named_table (changed_table (stmt_tree typed.now.stmt.now)) db ≡ Some table
-        → effect (stmt_tree typed.now.stmt.now) db ≡ (db, Refused refusal)) }
+pub fn refusal_over(alloc: Global, typed: &Typed, table: Table) -> Result<Refusal, Memory>
+    requires write { is_write (stmt_tree typed.now.stmt) ≡ true }
+    requires overflows { OverflowsOver (stmt_tree typed.now.stmt) typed.now.sources table }
+    ensures table { IfOk result (λ refusal. change_of (stmt_tree typed.now.stmt) table ≡ Err refusal) }
+    ensures effect { IfOk result (λ refusal. (db : DbSeen) → HoldsTables (stmt_tree typed.now.stmt) typed.now.sources db → named_table (changed_table (stmt_tree typed.now.stmt)) db ≡ Some table
+        → effect (stmt_tree typed.now.stmt) db ≡ (db, Refused refusal)) }
 {
     writes_give_hits();
-    match reply_over(alloc, typed.stmt, table)? {
+    match reply_over(alloc, &typed.stmt, table)? {
         Reply::Refused(refusal) => Ok(refusal),
         Reply::Done | Reply::Rows(_) => unreachable!(),
     }

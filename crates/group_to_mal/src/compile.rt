@@ -35,11 +35,11 @@ fn compile_over(alloc: Global, query: &Query, sources: &[Source]) -> Result<Plan
 }
 
 /// The plan of a SELECT or an EXPLAIN.
-fn compile_select(alloc: Global, typed: &Typed<'_>) -> Result<Plan, Memory>
-    requires query { IsSome (query_of (stmt_tree typed.now.stmt.now)) }
-    ensures { IfOk result (λ plan. option_map (query_plan (statement_scope (stmt_tree typed.now.stmt.now) typed.now.sources)) (query_of (stmt_tree typed.now.stmt.now)) ≡ Some plan) }
+fn compile_select(alloc: Global, typed: &Typed) -> Result<Plan, Memory>
+    requires query { IsSome (query_of (stmt_tree typed.now.stmt)) }
+    ensures { IfOk result (λ plan. option_map (query_plan (statement_scope (stmt_tree typed.now.stmt) typed.now.sources)) (query_of (stmt_tree typed.now.stmt)) ≡ Some plan) }
 {
-    match typed.stmt {
+    match &typed.stmt {
         Stmt::Query(query) => compile_over(alloc, query, typed.sources.as_slice()),
         Stmt::Explain(query) => compile_over(alloc, query, typed.sources.as_slice()),
         Stmt::Create { .. }
@@ -55,13 +55,13 @@ fn compile_select(alloc: Global, typed: &Typed<'_>) -> Result<Plan, Memory>
 ///
 /// Over every valid database that has the query's tables, the plan has no fault, fits the columns and
 /// can be run, and its meaning is the query's answer: none exactly where the query overflows.
-pub fn compile_query(alloc: Global, typed: &Typed<'_>) -> Result<Plan, Memory>
-    requires query { IsSome (query_of (stmt_tree typed.now.stmt.now)) }
-    ensures plan { IfOk result (λ plan. option_map (query_plan (statement_scope (stmt_tree typed.now.stmt.now) typed.now.sources)) (query_of (stmt_tree typed.now.stmt.now)) ≡ Some plan) }
-    ensures checked { IfOk result (λ plan. (db : Db) → HoldsTables (stmt_tree typed.now.stmt.now) typed.now.sources db → plan_fault plan ≡ None) }
-    ensures fits { IfOk result (λ plan. (db : Db) → HoldsTables (stmt_tree typed.now.stmt.now) typed.now.sources db → FitsDb plan db) }
-    ensures meaning { IfOk result (λ plan. (db : Db) → HoldsTables (stmt_tree typed.now.stmt.now) typed.now.sources db → plan_rows plan db ≡ answer_of_stmt (stmt_tree typed.now.stmt.now) db) }
-    ensures runs { IfOk result (λ plan. (db : Db) → HoldsTables (stmt_tree typed.now.stmt.now) typed.now.sources db → Runs plan db) }
+pub fn compile_query(alloc: Global, typed: &Typed) -> Result<Plan, Memory>
+    requires query { IsSome (query_of (stmt_tree typed.now.stmt)) }
+    ensures plan { IfOk result (λ plan. option_map (query_plan (statement_scope (stmt_tree typed.now.stmt) typed.now.sources)) (query_of (stmt_tree typed.now.stmt)) ≡ Some plan) }
+    ensures checked { IfOk result (λ plan. (db : Db) → HoldsTables (stmt_tree typed.now.stmt) typed.now.sources db → plan_fault plan ≡ None) }
+    ensures fits { IfOk result (λ plan. (db : Db) → HoldsTables (stmt_tree typed.now.stmt) typed.now.sources db → FitsDb plan db) }
+    ensures meaning { IfOk result (λ plan. (db : Db) → HoldsTables (stmt_tree typed.now.stmt) typed.now.sources db → plan_rows plan db ≡ answer_of_stmt (stmt_tree typed.now.stmt) db) }
+    ensures runs { IfOk result (λ plan. (db : Db) → HoldsTables (stmt_tree typed.now.stmt) typed.now.sources db → Runs plan db) }
 {
     checked_plans_run();
     plans_mean_answers();

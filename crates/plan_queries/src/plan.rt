@@ -22,14 +22,14 @@ use std::alloc::Global;
 /// The plan by which a checked query is run: its translation, optimised. `typed` is a SELECT or an EXPLAIN,
 /// over the tables of some valid database. The plan has no fault; it fits each such database, over which it
 /// can be run, and its meaning is the query's answer.
-pub fn plan_query(alloc: Global, typed: &Typed<'_>) -> Result<Plan, Memory>
-    requires query { IsSome (query_of (stmt_tree typed.now.stmt.now)) }
-    requires held { (db : DbSeen) × HoldsTables (stmt_tree typed.now.stmt.now) typed.now.sources db }
-    ensures plan { IfOk result (λ plan. option_map (optimised_plan (statement_scope (stmt_tree typed.now.stmt.now) typed.now.sources)) (query_of (stmt_tree typed.now.stmt.now)) ≡ Some plan) }
+pub fn plan_query(alloc: Global, typed: &Typed) -> Result<Plan, Memory>
+    requires query { IsSome (query_of (stmt_tree typed.now.stmt)) }
+    requires held { (db : DbSeen) × HoldsTables (stmt_tree typed.now.stmt) typed.now.sources db }
+    ensures plan { IfOk result (λ plan. option_map (optimised_plan (statement_scope (stmt_tree typed.now.stmt) typed.now.sources)) (query_of (stmt_tree typed.now.stmt)) ≡ Some plan) }
     ensures checked { IfOk result (λ plan. plan_fault plan ≡ None) }
-    ensures fits { IfOk result (λ plan. (db : DbSeen) → HoldsTables (stmt_tree typed.now.stmt.now) typed.now.sources db → FitsDb plan db) }
-    ensures meaning { IfOk result (λ plan. (db : DbSeen) → HoldsTables (stmt_tree typed.now.stmt.now) typed.now.sources db → plan_rows plan db ≡ answer_of_stmt (stmt_tree typed.now.stmt.now) db) }
-    ensures runs { IfOk result (λ plan. (db : DbSeen) → HoldsTables (stmt_tree typed.now.stmt.now) typed.now.sources db → Runs plan db) }
+    ensures fits { IfOk result (λ plan. (db : DbSeen) → HoldsTables (stmt_tree typed.now.stmt) typed.now.sources db → FitsDb plan db) }
+    ensures meaning { IfOk result (λ plan. (db : DbSeen) → HoldsTables (stmt_tree typed.now.stmt) typed.now.sources db → plan_rows plan db ≡ answer_of_stmt (stmt_tree typed.now.stmt) db) }
+    ensures runs { IfOk result (λ plan. (db : DbSeen) → HoldsTables (stmt_tree typed.now.stmt) typed.now.sources db → Runs plan db) }
 {
     checked_plans_run();
     let plan = compile_query(alloc, typed)?;

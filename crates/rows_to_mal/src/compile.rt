@@ -72,11 +72,11 @@ fn called_itself<'a>(
 }
 
 /// The tables of a checked statement, under the names that it calls them.
-pub fn called_tables<'a>(alloc: Global, typed: &'a Typed<'_>) -> Result<Vec<Called<'a>>, Memory>
+pub fn called_tables<'a>(alloc: Global, typed: &'a Typed) -> Result<Vec<Called<'a>>, Memory>
     ensures { IfOk result (λ called. called.items ≡ typed_sources typed.now) }
 {
     let sources = typed.sources.as_slice();
-    match typed.stmt {
+    match &typed.stmt {
         Stmt::Query(query) | Stmt::Explain(query) => {
             called_in_from(alloc, query.froms.as_slice(), sources)
         }
@@ -101,21 +101,17 @@ fn condition(stmt: &Stmt) -> Option<&Cond>
 }
 
 /// Adds the rows that a checked statement keeps.
-fn add_rows(
-    alloc: Global,
-    instrs: &mut Sequence<Instr>,
-    typed: &Typed<'_>,
-) -> Result<Vec<u32>, Memory>
-    ensures { IfOk result (λ rows. (instrs.new, variables rows.items) ≡ (statement_rows (stmt_tree typed.now.stmt.now) typed.now.sources).run instrs.old) }
+fn add_rows(alloc: Global, instrs: &mut Sequence<Instr>, typed: &Typed) -> Result<Vec<u32>, Memory>
+    ensures { IfOk result (λ rows. (instrs.new, variables rows.items) ≡ (statement_rows (stmt_tree typed.now.stmt) typed.now.sources).run instrs.old) }
 {
     let called = called_tables(alloc, typed)?;
     let tables = Tables::new(&called, typed.sources.as_slice());
-    tables.kept_rows(alloc, instrs, condition(typed.stmt))
+    tables.kept_rows(alloc, instrs, condition(&typed.stmt))
 }
 
 /// The rows of a statement, exactly.
-fn statement_kept(alloc: Global, typed: &Typed<'_>) -> Result<Rows, Memory>
-    ensures { IfOk result (λ rows. (rows.instrs, variables rows.rows.items) ≡ (statement_rows (stmt_tree typed.now.stmt.now) typed.now.sources).run []) }
+fn statement_kept(alloc: Global, typed: &Typed) -> Result<Rows, Memory>
+    ensures { IfOk result (λ rows. (rows.instrs, variables rows.rows.items) ≡ (statement_rows (stmt_tree typed.now.stmt) typed.now.sources).run []) }
 {
     let mut instrs = Sequence::new(alloc);
     let rows = add_rows(alloc, &mut instrs, typed)?;
@@ -127,11 +123,11 @@ fn statement_kept(alloc: Global, typed: &Typed<'_>) -> Result<Rows, Memory>
 /// Over every valid database that has the statement's tables, they give for each table the oids
 /// of its rows in the choices that the condition keeps, in order; they have no value exactly where the
 /// condition overflows.
-pub fn compile_rows(alloc: Global, typed: &Typed<'_>) -> Result<Rows, Memory>
-    requires { keeps_rows (stmt_tree typed.now.stmt.now) ≡ true }
-    ensures rows { IfOk result (λ rows. (rows.instrs, variables rows.rows.items) ≡ (statement_rows (stmt_tree typed.now.stmt.now) typed.now.sources).run []) }
-    ensures meaning { IfOk result (λ rows. (db : Db) → HoldsTables (stmt_tree typed.now.stmt.now) typed.now.sources db
-        → values_behind db rows.instrs (variables rows.rows.items) ≡ option_map (oids_of_tables (length typed.now.sources)) (kept_numbers (typed_sources typed.now) (condition_of (stmt_tree typed.now.stmt.now)) (map (rows_in db) typed.now.sources))) }
+pub fn compile_rows(alloc: Global, typed: &Typed) -> Result<Rows, Memory>
+    requires { keeps_rows (stmt_tree typed.now.stmt) ≡ true }
+    ensures rows { IfOk result (λ rows. (rows.instrs, variables rows.rows.items) ≡ (statement_rows (stmt_tree typed.now.stmt) typed.now.sources).run []) }
+    ensures meaning { IfOk result (λ rows. (db : Db) → HoldsTables (stmt_tree typed.now.stmt) typed.now.sources db
+        → values_behind db rows.instrs (variables rows.rows.items) ≡ option_map (oids_of_tables (length typed.now.sources)) (kept_numbers (typed_sources typed.now) (condition_of (stmt_tree typed.now.stmt)) (map (rows_in db) typed.now.sources))) }
 {
     statements_keep_rows();
     statement_kept(alloc, typed)
@@ -191,20 +187,20 @@ fn sets(stmt: &Stmt) -> &[(Word, Expr)]
 fn add_columns(
     alloc: Global,
     instrs: &mut Sequence<Instr>,
-    typed: &Typed<'_>,
+    typed: &Typed,
 ) -> Result<Vec<Arg>, Memory>
-    ensures { IfOk result (λ cols. (instrs.new, cols.items) ≡ (write_columns (stmt_tree typed.now.stmt.now) typed.now.sources).run instrs.old) }
+    ensures { IfOk result (λ cols. (instrs.new, cols.items) ≡ (write_columns (stmt_tree typed.now.stmt) typed.now.sources).run instrs.old) }
 {
     let called = called_tables(alloc, typed)?;
     let tables = Tables::new(&called, typed.sources.as_slice());
-    let rows = tables.kept_rows(alloc, instrs, condition(typed.stmt))?;
-    let values = tables.set_values(alloc, instrs, &rows, sets(typed.stmt))?;
+    let rows = tables.kept_rows(alloc, instrs, condition(&typed.stmt))?;
+    let values = tables.set_values(alloc, instrs, &rows, sets(&typed.stmt))?;
     and_args(alloc, &rows, &values)
 }
 
 /// The plan of a change, exactly.
-fn change_plan(alloc: Global, typed: &Typed<'_>) -> Result<Plan, Memory>
-    ensures { IfOk result (λ plan. plan ≡ write_plan (stmt_tree typed.now.stmt.now) typed.now.sources) }
+fn change_plan(alloc: Global, typed: &Typed) -> Result<Plan, Memory>
+    ensures { IfOk result (λ plan. plan ≡ write_plan (stmt_tree typed.now.stmt) typed.now.sources) }
 {
     let mut instrs = Sequence::new(alloc);
     let cols = add_columns(alloc, &mut instrs, typed)?;
@@ -222,12 +218,12 @@ fn change_plan(alloc: Global, typed: &Typed<'_>) -> Result<Plan, Memory>
 /// Over every valid database that has the statement's table, the plan has no fault, fits its
 /// columns and can be run; it gives, for each row of which the condition is true, the row's oid and the
 /// cells of the values that columns are set to, or it overflows.
-pub fn compile_write(alloc: Global, typed: &Typed<'_>) -> Result<Plan, Memory>
-    requires { is_write (stmt_tree typed.now.stmt.now) ≡ true }
-    ensures plan { IfOk result (λ plan. plan ≡ write_plan (stmt_tree typed.now.stmt.now) typed.now.sources) }
-    ensures meaning { IfOk result (λ plan. (db : Db) → HoldsTables (stmt_tree typed.now.stmt.now) typed.now.sources db
-        → plan_rows plan db ≡ written_rows (typed_sources typed.now) (condition_of (stmt_tree typed.now.stmt.now)) (new_values (stmt_tree typed.now.stmt.now)) (map (rows_in db) typed.now.sources)) }
-    ensures runs { IfOk result (λ plan. (db : Db) → HoldsTables (stmt_tree typed.now.stmt.now) typed.now.sources db → RunsOver plan db) }
+pub fn compile_write(alloc: Global, typed: &Typed) -> Result<Plan, Memory>
+    requires { is_write (stmt_tree typed.now.stmt) ≡ true }
+    ensures plan { IfOk result (λ plan. plan ≡ write_plan (stmt_tree typed.now.stmt) typed.now.sources) }
+    ensures meaning { IfOk result (λ plan. (db : Db) → HoldsTables (stmt_tree typed.now.stmt) typed.now.sources db
+        → plan_rows plan db ≡ written_rows (typed_sources typed.now) (condition_of (stmt_tree typed.now.stmt)) (new_values (stmt_tree typed.now.stmt)) (map (rows_in db) typed.now.sources)) }
+    ensures runs { IfOk result (λ plan. (db : Db) → HoldsTables (stmt_tree typed.now.stmt) typed.now.sources db → RunsOver plan db) }
 {
     writes_are_meant();
     write_plans_run();

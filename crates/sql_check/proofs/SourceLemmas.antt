@@ -155,9 +155,10 @@ accepted_over_own (UpdateTable name sets c) schema e = change_same name schema (
 accepted_over_own (Select query) schema e = ap first (query_same query schema) ∙ e
 accepted_over_own (ExplainSelect query) schema e = ap first (query_same query schema) ∙ e
 
--- the same of equal tables
-pub accepted_over : (stmt : StmtTree) (schema : Schema) (sources : List Source) → sources ≡ sources_named (tables_of stmt) schema
-    → check_refusal stmt schema ≡ None → check_refusal stmt (record { tables = sources }) ≡ None
-accepted_over stmt schema sources are_sources e =
-    ap (λ (l : List Source). check_refusal stmt (record { tables = l })) are_sources
+-- the same of an equal statement and equal tables
+pub accepted_over : (stmt copy : StmtTree) (schema : Schema) (sources : List Source) → copy ≡ stmt → sources ≡ sources_named (tables_of stmt) schema
+    → check_refusal stmt schema ≡ None → check_refusal copy (record { tables = sources }) ≡ None
+accepted_over stmt copy schema sources is_copy are_sources e =
+    ap (λ (t : StmtTree). check_refusal t (record { tables = sources })) is_copy
+    ∙ ap (λ (l : List Source). check_refusal stmt (record { tables = l })) are_sources
     ∙ accepted_over_own stmt schema e

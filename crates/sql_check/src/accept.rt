@@ -28,8 +28,8 @@ fn no_table(alloc: Global, table: &Word) -> Result<Option<Refusal>, Memory>
     Ok(Some(Refusal::NoTable(name)))
 }
 
-/// The first refusal of a statement over a schema, or none where it is accepted. It copies
-/// nothing, and so serves where the tables aren't kept.
+/// The first refusal of a statement over a schema, or none where it is accepted. It copies nothing, and
+/// so serves where the statement isn't kept.
 pub fn refusal_of(alloc: Global, stmt: &Stmt, schema: &Schema) -> Result<Option<Refusal>, Memory>
     ensures { IfOk result (λ refusal. refusal ≡ check_refusal (stmt_tree stmt.now) schema.now) }
 {
@@ -122,23 +122,24 @@ fn sources_of(alloc: Global, stmt: &Stmt, schema: &Schema) -> Result<Sequence<So
 }
 
 /// An accepted statement with the tables that it speaks of.
-fn typed_over<'a>(alloc: Global, stmt: &'a Stmt, schema: &Schema) -> Result<Typed<'a>, Memory>
+fn typed_over(alloc: Global, stmt: &Stmt, schema: &Schema) -> Result<Typed, Memory>
     requires formed { IsFormed (stmt_tree stmt.now) }
     requires accepted { check_refusal (stmt_tree stmt.now) schema.now ≡ None }
-    ensures statement { IfOk result (λ typed. stmt_tree typed.stmt.now ≡ stmt_tree stmt.now) }
+    ensures statement { IfOk result (λ typed. stmt_tree typed.stmt ≡ stmt_tree stmt.now) }
     ensures sources { IfOk result (λ typed. typed.sources ≡ sources_named_of (tables_of (stmt_tree stmt.now)) schema.now) }
 {
     let sources = sources_of(alloc, stmt, schema)?;
-    Typed::new(stmt, sources)
+    let copy = stmt.copy(alloc)?;
+    Typed::new(copy, sources)
 }
 
 /// The statement with the tables that it speaks of, if the check accepts it over the schema, and
 /// else its first refusal. A schema with a table of 2^32 columns or more is answered as want of
 /// memory.
-pub fn check<'a>(alloc: Global, stmt: &'a Stmt, schema: &Schema) -> Result<Typed<'a>, CheckError>
+pub fn check(alloc: Global, stmt: &Stmt, schema: &Schema) -> Result<Typed, CheckError>
     requires formed { IsFormed (stmt_tree stmt.now) }
     ensures accepted { IfOk result (λ typed. check_refusal (stmt_tree stmt.now) schema.now ≡ None) }
-    ensures statement { IfOk result (λ typed. stmt_tree typed.stmt.now ≡ stmt_tree stmt.now) }
+    ensures statement { IfOk result (λ typed. stmt_tree typed.stmt ≡ stmt_tree stmt.now) }
     ensures sources { IfOk result (λ typed. typed.sources ≡ sources_named_of (tables_of (stmt_tree stmt.now)) schema.now) }
     ensures refused { (refusal : RefusalSeen) → result ≡ Err (Refused refusal) → check_refusal (stmt_tree stmt.now) schema.now ≡ Some refusal }
 {

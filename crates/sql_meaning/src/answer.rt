@@ -154,14 +154,14 @@ fn answer_over(
 /// for a kept choice of rows. The statement is a SELECT or an EXPLAIN.
 pub fn slow_answer(
     alloc: Global,
-    query: &Typed<'_>,
+    query: &Typed,
     db: &Db,
 ) -> Result<Sequence<Sequence<Cell>>, RunError>
-    requires { IsSome (query_of (stmt_tree query.now.stmt.now)) }
-    ensures rows { IfOk result (λ rows. answer_of_stmt (stmt_tree query.now.stmt.now) db.now ≡ Some rows) }
-    ensures overflow { result ≡ Err RunError.Overflow → answer_of_stmt (stmt_tree query.now.stmt.now) db.now ≡ None }
+    requires { IsSome (query_of (stmt_tree query.now.stmt)) }
+    ensures rows { IfOk result (λ rows. answer_of_stmt (stmt_tree query.now.stmt) db.now ≡ Some rows) }
+    ensures overflow { result ≡ Err RunError.Overflow → answer_of_stmt (stmt_tree query.now.stmt) db.now ≡ None }
 {
-    match query.stmt {
+    match &query.stmt {
         Stmt::Query(query) => rows_or_overflow(answer_of_query(alloc, query, db)?),
         Stmt::Explain(query) => rows_or_overflow(answer_of_query(alloc, query, db)?),
         Stmt::Create { .. }

@@ -56,8 +56,8 @@ fn looked_at(alloc: Global, plan: Plan) -> Result<Plan, Memory>
 }
 
 /// The plan by which a checked query is run.
-fn compiled(alloc: Global, typed: &Typed<'_>) -> Result<Plan, Memory>
-    requires { IsSome (query_of (stmt_tree typed.now.stmt.now)) }
+fn compiled(alloc: Global, typed: &Typed) -> Result<Plan, Memory>
+    requires { IsSome (query_of (stmt_tree typed.now.stmt)) }
     ensures { IfOk result (λ plan. plan_fault plan ≡ None) }
 {
     let plan = looked_at(alloc, compile_query(alloc, typed)?)?;

@@ -49,16 +49,16 @@ pub(crate) fn schema_of(alloc: Global, db: &Db) -> Result<Schema, Memory> {
 }
 
 /// The rows of a query's plan.
-fn planned(alloc: Global, typed: &Typed<'_>, db: &Db) -> Result<Sequence<Sequence<Cell>>, RunError>
-    requires { IsSome (query_of (stmt_tree typed.now.stmt.now)) }
+fn planned(alloc: Global, typed: &Typed, db: &Db) -> Result<Sequence<Sequence<Cell>>, RunError>
+    requires { IsSome (query_of (stmt_tree typed.now.stmt)) }
 {
     let plan = compile_query(alloc, typed)?;
     slow_run(alloc, &plan, db)
 }
 
 /// What a query answers.
-fn answered(alloc: Global, way: Way, typed: &Typed<'_>, db: &Db) -> Result<Shown, Memory>
-    requires { IsSome (query_of (stmt_tree typed.now.stmt.now)) }
+fn answered(alloc: Global, way: Way, typed: &Typed, db: &Db) -> Result<Shown, Memory>
+    requires { IsSome (query_of (stmt_tree typed.now.stmt)) }
 {
     let rows = match way {
         Way::Meaning => slow_answer(alloc, typed, db),
@@ -93,8 +93,8 @@ fn shown(reply: Reply) -> Shown {
 }
 
 /// What a DELETE or an UPDATE shows by its plan: the number of the rows that it keeps, or an overflow.
-fn written(alloc: Global, typed: &Typed<'_>, db: &Db) -> Result<Shown, Memory>
-    requires { is_write (stmt_tree typed.now.stmt.now) ≡ true }
+fn written(alloc: Global, typed: &Typed, db: &Db) -> Result<Shown, Memory>
+    requires { is_write (stmt_tree typed.now.stmt) ≡ true }
 {
     let plan = compile_write(alloc, typed)?;
     match slow_run(alloc, &plan, db) {
@@ -105,16 +105,16 @@ fn written(alloc: Global, typed: &Typed<'_>, db: &Db) -> Result<Shown, Memory>
 }
 
 /// The number of instructions that give the rows which a statement keeps.
-fn steps_to_rows(alloc: Global, typed: &Typed<'_>) -> Result<usize, Memory>
-    requires { keeps_rows (stmt_tree typed.now.stmt.now) ≡ true }
+fn steps_to_rows(alloc: Global, typed: &Typed) -> Result<usize, Memory>
+    requires { keeps_rows (stmt_tree typed.now.stmt) ≡ true }
 {
     Ok(compile_rows(alloc, typed)?.instrs.len())
 }
 
 /// Whether what is shown of a DELETE or an UPDATE is what its plan tells: where something else than an
 /// overflow refuses it, that is not looked for.
-fn is_planned(alloc: Global, typed: &Typed<'_>, db: &Db, shown: &Shown) -> Result<bool, Memory> {
-    match typed.stmt {
+fn is_planned(alloc: Global, typed: &Typed, db: &Db, shown: &Shown) -> Result<bool, Memory> {
+    match &typed.stmt {
         Stmt::Delete { .. } | Stmt::Update { .. } => match (shown, &written(alloc, typed, db)?) {
             (Shown::Count(done), Shown::Count(kept)) => {
                 Ok(done == kept && steps_to_rows(alloc, typed)? > 0)

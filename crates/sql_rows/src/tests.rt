@@ -134,8 +134,8 @@ fn source(alloc: Global) -> Result<Source, Memory> {
 }
 
 /// The place of a column in the table of a DELETE, where it has one.
-fn place_in_delete(typed: &Typed<'_>, column: &Word) -> Option<(u32, u32)> {
-    let Stmt::Delete { table, .. } = typed.stmt else {
+fn place_in_delete(typed: &Typed, column: &Word) -> Option<(u32, u32)> {
+    let Stmt::Delete { table, .. } = &typed.stmt else {
         return None;
     };
     let [source, ..] = typed.sources.as_slice() else {
@@ -147,20 +147,35 @@ fn place_in_delete(typed: &Typed<'_>, column: &Word) -> Option<(u32, u32)> {
 }
 
 /// A statement as the check accepts it over the table.
-fn checked(alloc: Global, stmt: &Stmt) -> Result<Typed<'_>, CheckError>
+fn checked(alloc: Global, stmt: &Stmt) -> Result<Typed, CheckError>
     requires { IsFormed (stmt_tree stmt.now) }
 {
     let tables = one(alloc, source(alloc)?)?;
     check(alloc, stmt, &Schema { tables })
 }
 
+/// The same of a DELETE that is handed over.
+fn checked_once(alloc: Global, stmt: Stmt) -> Result<Typed, CheckError>
+    requires { IsFormed (stmt_tree stmt) }
+{
+    match &stmt {
+        Stmt::Delete { .. } => checked(alloc, &stmt),
+        _ => Err(CheckError::Memory),
+    }
+}
+
+/// A DELETE from the table, as the check accepts it.
+fn checked_delete(alloc: Global) -> Result<Typed, CheckError> {
+    match parse(alloc, "DELETE FROM t WHERE NOT a = 1") {
+        Ok(stmt) => checked_once(alloc, stmt),
+        Err(_) => Err(CheckError::Memory),
+    }
+}
+
 #[test]
 fn columns_have_places(rt: HostRuntime) -> Result<(), Fail> {
     let alloc = rt.alloc();
-    let Ok(stmt) = parse(alloc, "DELETE FROM t WHERE NOT a = 1") else {
-        return Err(Fail::from("a DELETE isn't read"));
-    };
-    let Ok(typed) = checked(alloc, &stmt) else {
+    let Ok(typed) = checked_delete(alloc) else {
         return Err(Fail::from("the check refuses a DELETE"));
     };
     for (name, want) in [("a", Some((0, 0))), ("b", Some((0, 1))), ("c", None)] {

@@ -6,4 +6,4 @@ use Rattle.sql_semantics.specs.Sources.{NamedSource}
 use Rattle.sql_semantics.specs.Check.{sources_called}
 
 abbrev pub typed_sources : Typed → List NamedSource
-typed_sources typed = sources_called (stmt_tree typed.stmt.now) typed.sources
+typed_sources typed = sources_called (stmt_tree typed.stmt) typed.sources

@@ -14,18 +14,18 @@ use sql_tree::{FromItem, Stmt};
 
 /// A statement that reading may give and the check accepts, with the tables that it speaks of. Contracts
 /// see the statement's tree as a formed one, which the check has no refusal of over these tables.
-pub struct Typed<'a> {
-    /// The statement, which is lent.
-    pub stmt: &'a Stmt,
+pub struct Typed {
+    /// The statement.
+    pub stmt: Stmt,
     /// The tables of FROM in its order, the one table of another statement, or none for CREATE.
     pub sources: Sequence<Source>,
     ghost small: { IsTrue (are_small sources) },
-    ghost formed: { ∥ IsFormed (stmt_tree stmt.now) ∥₁ },
-    ghost accepted: { check_refusal (stmt_tree stmt.now) (record { tables = sources }) ≡ None },
+    ghost formed: { ∥ IsFormed (stmt_tree stmt) ∥₁ },
+    ghost accepted: { check_refusal (stmt_tree stmt) (record { tables = sources }) ≡ None },
 }
 
 // By a call of its own, so that proofs needn't go through its forms where one is let go.
-impl Drop for Typed<'_> {
+impl Drop for Typed {
     fn drop(self) {
         let Typed {
             stmt: _,
@@ -90,15 +90,15 @@ fn find_in_own(own: &Word, sources: &[Source], table: Option<&Word>, name: &Word
     find_column(&[called], table, name)
 }
 
-impl<'a> Typed<'a> {
+impl Typed {
     ghost use Rattle.sql_semantics.specs.Typed.{typed_sources};
 
     /// A formed statement with these tables, over which the check accepts it. Tables or columns whose numbers don't fit 32 bits are
     /// answered as want of memory.
-    pub fn new(stmt: &'a Stmt, sources: Sequence<Source>) -> Result<Typed<'a>, Memory>
-        requires formed { IsFormed (stmt_tree stmt.now) }
-        requires accepted { check_refusal (stmt_tree stmt.now) (record { tables = sources }) ≡ None }
-        ensures stmt { IfOk result (λ typed. typed.stmt.now ≡ stmt.now) }
+    pub fn new(stmt: Stmt, sources: Sequence<Source>) -> Result<Typed, Memory>
+        requires formed { IsFormed (stmt_tree stmt) }
+        requires accepted { check_refusal (stmt_tree stmt) (record { tables = sources }) ≡ None }
+        ensures stmt { IfOk result (λ typed. typed.stmt ≡ stmt) }
         ensures sources { IfOk result (λ typed. typed.sources ≡ sources) }
     {
         if is_small(sources.as_slice()) {
@@ -113,7 +113,7 @@ impl<'a> Typed<'a> {
         ensures { result ≡ found_of (places (typed_sources self.now) (record { table = option_copied table.entry; column = name.now })) }
     {
         let sources = self.sources.as_slice();
-        match self.stmt {
+        match &self.stmt {
             Stmt::Query(query) | Stmt::Explain(query) => {
                 find_in_from(query.froms.as_slice(), sources, table, name)
             }

@@ -5,7 +5,7 @@
 //! script is cut (`Pieces`), how a text is cut into tokens with their places (`Tokens`), which words
 //! are reserved (`Words`, over the two lists of `words.rt`), how the code's statements are seen as
 //! plain trees (`Tree`) and its digits as their bytes (`Kept`), and how a name is printed (`Names`). It
-//! promises that `Expr::copy` gives an equal tree. Pieces and tokens are found by `sql_tokens`; statements are
+//! promises that `copy` gives an equal tree. Pieces and tokens are found by `sql_tokens`; statements are
 //! printed by `sql_print`.
 #![tactic(auto)]
 

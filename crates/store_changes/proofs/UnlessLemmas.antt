@@ -17,12 +17,12 @@ use Rattle.store_changes.proofs.DefineLemmas.{check_comes}
 module _ (s : StmtTree) (content : Content) (w : is_write s ≡ true) (before after : ℕ) (outcome : Outcome) where
   -- what the check gives, and what follows from it
   pub record IsChecked (found : Result Typed Refusal) : Type 0 where
-    pub statement : IfOk found (λ (typed : Typed). stmt_tree typed.stmt.now ≡ s)
+    pub statement : IfOk found (λ (typed : Typed). stmt_tree typed.stmt ≡ s)
     pub accepted : IfOk found (λ (typed : Typed). check_refusal s (schema_of content.db) ≡ None)
     pub refused : (refusal : Refusal) → found ≡ Err refusal → check_refusal s (schema_of content.db) ≡ Some refusal
-    pub comes : IfOk found (λ (typed : Typed). ComesTo (stmt_tree typed.stmt.now) content outcome.ready)
-    pub work : IfOk found (λ (typed : Typed). outcome.work ≡ change_load (stmt_tree typed.stmt.now) content.db)
-    pub counted : IfOk found (λ (typed : Typed). Counts before after outcome.work (change_lost (stmt_tree typed.stmt.now) content.db))
+    pub comes : IfOk found (λ (typed : Typed). ComesTo (stmt_tree typed.stmt) content outcome.ready)
+    pub work : IfOk found (λ (typed : Typed). outcome.work ≡ change_load (stmt_tree typed.stmt) content.db)
+    pub counted : IfOk found (λ (typed : Typed). Counts before after outcome.work (change_lost (stmt_tree typed.stmt) content.db))
     pub idle : (refusal : Refusal) → found ≡ Err refusal → (outcome.ready ≡ Err refusal) × (outcome.work ≡ 0) × (after ≡ before)
 
   pub comes_unless : (found : Result Typed Refusal) → IsChecked found → ComesTo s content outcome.ready

@@ -2,14 +2,10 @@
 use Rattle.std.specs.Prelude.{◌≡◌, ℕ, zero, suc, ◌+◌, ◌==◌, List, [], ◌∷◌, length, Bool, false, ◌&&◌, if◌then◌else◌, Some, None, IfOk, Result}
 use Rattle.std.specs.List.{list_all}
 use Rattle.cell_core.specs.declared.cell.Cell.{Cell}
-use Rattle.cell_core.specs.declared.table.Db.{Db}
 use Rattle.cell_core.specs.Relations.{column_cells}
-use Rattle.mal_meaning.specs.Meaning.{plan_rows}
-use Rattle.rows_to_mal.specs.Writes.{write_plan}
 use Rattle.sql_tree.specs.Tree.{StmtTree}
 use Rattle.sql_semantics.specs.Effect.{effect}
 use Rattle.sql_semantics.specs.declared.refusal.Refusal.{Refusal}
-use Rattle.sql_semantics.specs.declared.source.Source.{Source}
 use Rattle.change_plans.specs.Decisions.{rises, rows_with, rows_without}
 use Rattle.run_log.specs.Touches.{touched_by}
 use Rattle.table_columns.specs.Changed.{NewCells}
@@ -47,10 +43,6 @@ abbrev pub are_placed : ℕ → List (List ℕ) → List ℕ → List (List Cell
 are_placed count names places cells = rises 0 count places && (length cells == length places) && list_all (λ (row : List Cell). length row == length names) cells
 
 -- ## What a change comes to
-
--- these are the rows of the plan of a DELETE or an UPDATE; a record, so that no check computes the plan
-pub record ArePlanned (stmt : StmtTree) (sources : List Source) (db : Db) (rows : List (List Cell)) : Type 0 where
-  pub is : plan_rows (write_plan stmt sources) db ≡ Some rows
 
 -- the rows at these places go
 pub record Removes (table places : List ℕ) (content : Content) (ready : Ready) : Type 0 where

@@ -90,13 +90,9 @@ fn prepare_whole(
 }
 
 /// The statement with its tables, or its refusal by them.
-fn checked<'a>(
-    alloc: Global,
-    stmt: &'a Stmt,
-    schema: &Schema,
-) -> Result<Result<Typed<'a>, Refusal>, Memory>
+fn checked(alloc: Global, stmt: &Stmt, schema: &Schema) -> Result<Result<Typed, Refusal>, Memory>
     requires { IsFormed (stmt_tree stmt.now) }
-    ensures statement { IfOk result (λ checked. IfOk checked (λ typed. stmt_tree typed.stmt.now ≡ stmt_tree stmt.now)) }
+    ensures statement { IfOk result (λ checked. IfOk checked (λ typed. stmt_tree typed.stmt ≡ stmt_tree stmt.now)) }
     ensures sources { IfOk result (λ checked. IfOk checked (λ typed. typed.sources ≡ sources_named (tables_of (stmt_tree stmt.now)) schema.now)) }
     ensures accepted { IfOk result (λ checked. IfOk checked (λ typed. check_refusal (stmt_tree stmt.now) schema.now ≡ None)) }
     ensures refused { (refusal : RefusalSeen) → result ≡ Ok (Err refusal) → check_refusal (stmt_tree stmt.now) schema.now ≡ Some refusal }
@@ -112,16 +108,16 @@ fn checked<'a>(
 fn rewrite_unless<E: Operate, L: Ledger>(
     alloc: Global,
     store: &Store,
-    found: Result<Typed<'_>, Refusal>,
+    found: Result<Typed, Refusal>,
     kernel: &E,
     steps: &mut Steps<L>,
 ) -> Result<Outcome, Memory>
-    requires write { IfOk found (λ typed. is_write (stmt_tree typed.stmt.now) ≡ true) }
-    requires held { IfOk found (λ typed. HoldsTables (stmt_tree typed.stmt.now) typed.sources store.now.db) }
-    ensures comes { IfOk result (λ outcome. IfOk found.entry (λ typed. ComesTo (stmt_tree typed.stmt.now) store.now outcome.ready)) }
-    ensures work { IfOk result (λ outcome. IfOk found.entry (λ typed. outcome.work ≡ change_load (stmt_tree typed.stmt.now) store.now.db)) }
-    ensures counted { IfOk result (λ outcome. IfOk found.entry (λ typed. Counts steps.old steps.new outcome.work (change_lost (stmt_tree typed.stmt.now) store.now.db))) }
-    ensures refused { (refusal : RefusalSeen) → found.entry ≡ Err refusal → IfOk result (λ outcome. (outcome.ready ≡ Err refusal) × (outcome.work ≡ 0) × (steps.new ≡ steps.old)) }
+    requires write { IfOk found (λ typed. is_write (stmt_tree typed.stmt) ≡ true) }
+    requires held { IfOk found (λ typed. HoldsTables (stmt_tree typed.stmt) typed.sources store.now.db) }
+    ensures comes { IfOk result (λ outcome. IfOk found (λ typed. ComesTo (stmt_tree typed.stmt) store.now outcome.ready)) }
+    ensures work { IfOk result (λ outcome. IfOk found (λ typed. outcome.work ≡ change_load (stmt_tree typed.stmt) store.now.db)) }
+    ensures counted { IfOk result (λ outcome. IfOk found (λ typed. Counts steps.old steps.new outcome.work (change_lost (stmt_tree typed.stmt) store.now.db))) }
+    ensures refused { (refusal : RefusalSeen) → found ≡ Err refusal → IfOk result (λ outcome. (outcome.ready ≡ Err refusal) × (outcome.work ≡ 0) × (steps.new ≡ steps.old)) }
 {
     match found {
         Ok(typed) => {

@@ -1,5 +1,5 @@
 //! DELETE and UPDATE, by their plans.
-ghost use Rattle.std.specs.Prelude.{◌≡◌, true, None, IfOk};
+ghost use Rattle.std.specs.Prelude.{◌≡◌, true, Some, None, IfOk};
 ghost use Rattle.cell_core.specs.declared.table.Db.{Db as DbSeen};
 ghost use Rattle.mal_meaning.specs.Meaning.{plan_rows};
 ghost use Rattle.mal_meaning.specs.Runs.{Runs};
@@ -14,7 +14,7 @@ ghost use Rattle.change_plans.specs.Decisions.{rises};
 ghost use Rattle.change_plans.specs.Hits.{changed_table};
 ghost use Rattle.table_store.specs.Changes.{NamesDiffer};
 ghost use Rattle.table_store.specs.Touches.{row_count};
-ghost use Rattle.store_changes.specs.Rewrites.{ArePlanned, ComesTo, Removes, Sets, are_placed};
+ghost use Rattle.store_changes.specs.Rewrites.{ComesTo, Removes, Sets, are_placed};
 ghost use Rattle.store_changes.specs.Work.{Counts, change_lost};
 
 use crate::flags::{flags_of, sets_of};
@@ -46,12 +46,12 @@ fn table_of(stmt: &Stmt) -> &Word
 }
 
 /// The plan by which a checked DELETE or UPDATE is done: its translation, optimised.
-fn plan_write(alloc: Global, typed: &Typed<'_>) -> Result<Plan, Memory>
-    requires write { is_write (stmt_tree typed.now.stmt.now) ≡ true }
-    requires held { (db : DbSeen) × HoldsTables (stmt_tree typed.now.stmt.now) typed.now.sources db }
-    ensures plan { IfOk result (λ plan. plan ≡ optimised (write_plan (stmt_tree typed.now.stmt.now) typed.now.sources)) }
-    ensures meaning { IfOk result (λ plan. (db : DbSeen) → plan_rows plan db ≡ plan_rows (write_plan (stmt_tree typed.now.stmt.now) typed.now.sources) db) }
-    ensures runs { IfOk result (λ plan. (db : DbSeen) → HoldsTables (stmt_tree typed.now.stmt.now) typed.now.sources db → Runs plan db) }
+fn plan_write(alloc: Global, typed: &Typed) -> Result<Plan, Memory>
+    requires write { is_write (stmt_tree typed.now.stmt) ≡ true }
+    requires held { (db : DbSeen) × HoldsTables (stmt_tree typed.now.stmt) typed.now.sources db }
+    ensures plan { IfOk result (λ plan. plan ≡ optimised (write_plan (stmt_tree typed.now.stmt) typed.now.sources)) }
+    ensures meaning { IfOk result (λ plan. (db : DbSeen) → plan_rows plan db ≡ plan_rows (write_plan (stmt_tree typed.now.stmt) typed.now.sources) db) }
+    ensures runs { IfOk result (λ plan. (db : DbSeen) → HoldsTables (stmt_tree typed.now.stmt) typed.now.sources db → Runs plan db) }
 {
     checked_plans_run();
     let plan = compile_write(alloc, typed)?;
@@ -99,15 +99,15 @@ fn set(
 fn carry_out(
     alloc: Global,
     store: &Store,
-    typed: &Typed<'_>,
+    typed: &Typed,
     rows: &[Sequence<Cell>],
 ) -> Result<Result<Ready, Refusal>, Memory>
-    requires write { is_write (stmt_tree typed.now.stmt.now) ≡ true }
-    requires held { HoldsTables (stmt_tree typed.now.stmt.now) typed.now.sources store.now.db }
-    requires rows { ArePlanned (stmt_tree typed.now.stmt.now) typed.now.sources store.now.db rows.now }
-    ensures { IfOk result (ComesTo (stmt_tree typed.now.stmt.now) store.now) }
+    requires write { is_write (stmt_tree typed.now.stmt) ≡ true }
+    requires held { HoldsTables (stmt_tree typed.now.stmt) typed.now.sources store.now.db }
+    requires rows { plan_rows (write_plan (stmt_tree typed.now.stmt) typed.now.sources) store.now.db ≡ Some rows.now }
+    ensures { IfOk result (ComesTo (stmt_tree typed.now.stmt) store.now) }
 {
-    let table = table_of(typed.stmt);
+    let table = table_of(&typed.stmt);
     match decide(alloc, typed, rows)? {
         Decided::Refused(refusal) => Ok(Err(refusal)),
         Decided::Gone { places } => Ok(Ok(remove(alloc, store, table, places.as_slice())?)),
@@ -127,13 +127,13 @@ fn carry_out(
 }
 
 /// Why a DELETE or an UPDATE is refused whose plan overflows.
-fn refusal_behind(alloc: Global, store: &Store, typed: &Typed<'_>) -> Result<Refusal, Memory>
-    requires write { is_write (stmt_tree typed.now.stmt.now) ≡ true }
-    requires held { HoldsTables (stmt_tree typed.now.stmt.now) typed.now.sources store.now.db }
-    requires overflows { plan_rows (write_plan (stmt_tree typed.now.stmt.now) typed.now.sources) store.now.db ≡ None }
-    ensures { IfOk result (λ refusal. effect (stmt_tree typed.now.stmt.now) store.now.db ≡ (store.now.db, Refused refusal)) }
+fn refusal_behind(alloc: Global, store: &Store, typed: &Typed) -> Result<Refusal, Memory>
+    requires write { is_write (stmt_tree typed.now.stmt) ≡ true }
+    requires held { HoldsTables (stmt_tree typed.now.stmt) typed.now.sources store.now.db }
+    requires overflows { plan_rows (write_plan (stmt_tree typed.now.stmt) typed.now.sources) store.now.db ≡ None }
+    ensures { IfOk result (λ refusal. effect (stmt_tree typed.now.stmt) store.now.db ≡ (store.now.db, Refused refusal)) }
 {
-    let name = table_of(typed.stmt);
+    let name = table_of(&typed.stmt);
     let Some(heading) = find_heading(store.schema(), name) else {
         unreachable!();
     };
@@ -151,15 +151,15 @@ fn refusal_behind(alloc: Global, store: &Store, typed: &Typed<'_>) -> Result<Ref
 pub(crate) fn rewrite<E: Operate, L: Ledger>(
     alloc: Global,
     store: &Store,
-    typed: &Typed<'_>,
+    typed: &Typed,
     kernel: &E,
     steps: &mut Steps<L>,
 ) -> Result<Outcome, Memory>
-    requires write { is_write (stmt_tree typed.now.stmt.now) ≡ true }
-    requires held { HoldsTables (stmt_tree typed.now.stmt.now) typed.now.sources store.now.db }
-    ensures comes { IfOk result (λ outcome. ComesTo (stmt_tree typed.now.stmt.now) store.now outcome.ready) }
-    ensures work { IfOk result (λ outcome. outcome.work ≡ change_load (stmt_tree typed.now.stmt.now) store.now.db) }
-    ensures counted { IfOk result (λ outcome. Counts steps.old steps.new outcome.work (change_lost (stmt_tree typed.now.stmt.now) store.now.db)) }
+    requires write { is_write (stmt_tree typed.now.stmt) ≡ true }
+    requires held { HoldsTables (stmt_tree typed.now.stmt) typed.now.sources store.now.db }
+    ensures comes { IfOk result (λ outcome. ComesTo (stmt_tree typed.now.stmt) store.now outcome.ready) }
+    ensures work { IfOk result (λ outcome. outcome.work ≡ change_load (stmt_tree typed.now.stmt) store.now.db) }
+    ensures counted { IfOk result (λ outcome. Counts steps.old steps.new outcome.work (change_lost (stmt_tree typed.now.stmt) store.now.db)) }
 {
     let plan = plan_write(alloc, typed)?;
     let snap = store.snapshot(alloc)?;

@@ -6,4 +6,4 @@ use Rattle.plan_queries.proofs.plan.plan_query.Goals as goal
 
 pub returns-clause-plan : goal.returns-clause-plan
 returns-clause-plan c = IfOk-weaker c.optimise.result _ _
-    (λ made is. optimised_is (stmt_tree c.args.typed.now.stmt.now) c.args.typed.now.sources c.in_ok-plan.plan made c.in_ok-plan.ensures.plan is) c.optimise.ensures.plan
+    (λ made is. optimised_is (stmt_tree c.args.typed.now.stmt) c.args.typed.now.sources c.in_ok-plan.plan made c.in_ok-plan.ensures.plan is) c.optimise.ensures.plan

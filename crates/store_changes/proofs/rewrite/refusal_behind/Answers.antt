@@ -9,14 +9,14 @@ use Rattle.store_changes.proofs.rewrite.refusal_behind.Goals as goal
 
 pub unreachable-requires : goal.unreachable-requires
 unreachable-requires c =
-    let s = stmt_tree c.args.typed.now.stmt.now in
+    let s = stmt_tree c.args.typed.now.stmt in
     let h = here s c.args.typed.now.sources c.args.store.now c.requires.write c.requires.held c.args.typed.now.accepted in
     not_missing _ c.args.store.now.db h.table h.found (option_copied c.find_heading.result)
     (c.find_heading.ensures ∙ (λ i. find (has_name (c.table_of-name.ensures i)) (c.schema.ensures i))) (ap option_copied c.in_default.is)
 
 pub refusal_over-requires-clause-overflows : goal.refusal_over-requires-clause-overflows
 refusal_over-requires-clause-overflows c =
-    let s = stmt_tree c.args.typed.now.stmt.now in
+    let s = stmt_tree c.args.typed.now.stmt in
     let h = here s c.args.typed.now.sources c.args.store.now c.requires.write c.requires.held c.args.typed.now.accepted in
     let told = told_heading _ c.args.store.now.db h.table h.found (option_copied c.find_heading.result)
     (c.find_heading.ensures ∙ (λ i. find (has_name (c.table_of-name.ensures i)) (c.schema.ensures i))) c.in-Some.heading.now (ap option_copied c.in-Some.is) in
@@ -26,7 +26,7 @@ refusal_over-requires-clause-overflows c =
 
 pub returns : goal.returns
 returns c =
-    let s = stmt_tree c.args.typed.now.stmt.now in
+    let s = stmt_tree c.args.typed.now.stmt in
     let h = here s c.args.typed.now.sources c.args.store.now c.requires.write c.requires.held c.args.typed.now.accepted in
     let told = told_heading _ c.args.store.now.db h.table h.found (option_copied c.find_heading.result)
     (c.find_heading.ensures ∙ (λ i. find (has_name (c.table_of-name.ensures i)) (c.schema.ensures i))) c.in-Some.heading.now (ap option_copied c.in-Some.is) in

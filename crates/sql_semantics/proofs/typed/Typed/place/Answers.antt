@@ -8,7 +8,7 @@ pub overflow_cast-result : goal.overflow_cast-result
 overflow_cast-result c =
     let typed = c.args.self.now in
     let small : (c.in-At.source < 2 ^ 32) × (c.in-At.column < 2 ^ 32) =
-    small_place _ (called_in (stmt_tree typed.stmt.now)) typed.sources _ _ typed.small (sym c.find.ensures ∙ c.in-At.is) in
+    small_place _ (called_in (stmt_tree typed.stmt)) typed.sources _ _ typed.small (sym c.find.ensures ∙ c.in-At.is) in
     let fits : c.in-At.source < 2 ^ 32 = small.0 in
     omega arith
 
@@ -16,6 +16,6 @@ pub overflow_cast-result-in-At : goal.overflow_cast-result-in-At
 overflow_cast-result-in-At c =
     let typed = c.args.self.now in
     let small : (c.in-At.source < 2 ^ 32) × (c.in-At.column < 2 ^ 32) =
-    small_place _ (called_in (stmt_tree typed.stmt.now)) typed.sources _ _ typed.small (sym c.find.ensures ∙ c.in-At.is) in
+    small_place _ (called_in (stmt_tree typed.stmt)) typed.sources _ _ typed.small (sym c.find.ensures ∙ c.in-At.is) in
     let fits : c.in-At.column < 2 ^ 32 = small.1 in
     omega arith
