@@ -14,7 +14,7 @@ use std::alloc::Global;
 use std::marker::Model;
 
 /// A binary association table, which contracts see as its list of pairs (head, tail). It has fewer
-/// than 2^60 pairs and fewer than 2^62 stated bytes; one that would grow past its limit answers
+/// than 2^60 pairs, with fewer than 2^62 stated bytes; one that would grow past its limit answers
 /// `Memory`.
 pub struct Bat {
     heads: Cells,

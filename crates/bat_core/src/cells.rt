@@ -194,7 +194,7 @@ impl Cells {
         self.facts.rises
     }
 
-    /// Whether the cells are oids that rise by one each.
+    /// Whether the cells are dense: oids that rise by one each.
     pub fn is_dense(&self) -> bool
         ensures { result ≡ is_dense self.now }
     {

@@ -3,8 +3,8 @@
 //! It stands on `cell_core` for words. A source (`Scripts`) and a sink (`Sink`) count their faults,
 //! and a call fails only where that count rose in it, or for want of memory. `read_all` gives the
 //! whole text of a script or says why not; `write_all` adds exactly a text, or a prefix of it.
-//! `MemScripts`, `SureScripts` and `MemSink` are in memory and tell their bytes; `FileScripts` and
-//! `OutSink` are the few lines over real files and standard output.
+//! `MemScripts`, `SureScripts` and `MemSink` are in memory and tell their bytes; `FileScripts` reads
+//! the system's files, `OutSink` writes to standard output, and neither tells any.
 #![tactic(auto)]
 
 mod error;

@@ -13,7 +13,7 @@ use std::marker::Model;
 
 /// Files in memory that fail at chosen calls.
 ///
-/// The calls of `start` and `read` are numbered together from 1. A listed call fails, and so does
+/// Each call of `start` or `read` has the next number, from 1 on. A listed call fails, and so does
 /// the start of an unknown name. Of two files with one name the first counts.
 #[derive(Drop)]
 pub struct MemScripts {

@@ -12,7 +12,7 @@ use std::marker::Model;
 /// A sink in memory that fails at chosen calls, and where it is full.
 ///
 /// The calls of `write` are numbered from 1. A call takes at most `per_call` bytes, and all calls
-/// together at most `room`. It takes no memory after it is made.
+/// together at most `room`. Only making it takes memory.
 #[derive(Drop)]
 pub struct MemSink {
     held: Vec<u8>,

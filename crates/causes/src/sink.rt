@@ -6,8 +6,8 @@ use crate::error::Failed;
 
 /// Where written bytes go.
 ///
-/// A call answers `Failed` only where the count of faults rose in it. The count never falls, and
-/// one that stands at 2^64 - 1 is taken as one that rose.
+/// `Failed` says that the count of faults rose in that call. The count never falls, and at 2^64 - 1,
+/// where it stays, it is held to have risen.
 pub trait Sink {
     // The bytes that the sink holds, where they are told.
     ghost contents: { Self → Option (List ℕ) };

@@ -7,8 +7,8 @@ use crate::error::Failed;
 
 /// Where the bytes of named scripts come from, one script at a time.
 ///
-/// A call answers `Failed` only where the count of faults rose in it. The count never falls, and
-/// one that stands at 2^64 - 1 is taken as one that rose.
+/// `Failed` says that the count of faults rose in that call. The count never falls, and at 2^64 - 1,
+/// where it stays, it is held to have risen.
 pub trait Scripts {
     // The bytes of each name, where they are told.
     ghost bytes_of: { Self → List ℕ → Option (List ℕ) };
@@ -22,7 +22,7 @@ pub trait Scripts {
     // How many faults were counted.
     ghost faults: { Self → ℕ };
 
-    /// Sets the reading at the first byte of that name. `Failed` leaves it where it was.
+    /// Begins with the script of that name. `Failed` leaves the reading where it was.
     fn start(&mut self, name: &str) -> Result<(), Failed>
         ensures started { OnOk result (is_started self.new) }
         ensures begins { OnOk result (remaining self.new ≡ bytes_of self.old name.now) }

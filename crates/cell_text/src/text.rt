@@ -8,10 +8,10 @@ use itoa::{Buffer, Integer};
 
 /// Appends the text of a cell.
 ///
-/// Numbers stand in decimal. A day stands as `YYYY-MM-DD`, or as its number where its date is of
-/// no year from 0001 to 9999. No value stands as `\N`, and a text as its bytes with each backslash
-/// doubled. Truth values stand as `true` and `false`, and the identifier `n` as `n@0`. Where memory
-/// runs out, `out` stays as it was.
+/// Numbers stand in decimal. A day stands as its date, `YYYY-MM-DD`, and where that is of no year
+/// from 0001 to 9999, as its number. No value stands as `\N`, and a text as itself with two
+/// backslashes for one. Truth values stand as `true` and `false`, and the identifier `n` as `n@0`.
+/// Where memory runs out, `out` stays as it was.
 pub fn write_cell(cell: &Cell, out: &mut Vec<u8>) -> Result<(), Memory>
     ensures ok { OnOk result (out.new.items ≡ out.old.items ++ cell_text cell.now) }
     ensures err { OnErr result (out.new.items ≡ out.old.items) }

@@ -18,7 +18,7 @@ use Rattle.change_plans.specs.declared.decided.Decided.TheVariants.{Refused, Gon
 use Rattle.change_plans.specs.Hits.{rows_written}
 use Rattle.change_plans.specs.Decisions.{left_by, is_in_place, decided_by}
 
--- CREATE TABLE t (a INT, s TEXT(2) NOT NULL)
+-- CREATE TABLE t (a INT, s VARCHAR(2) NOT NULL)
 abbrev row : ℕ → List ℕ → List Cell
 row a s = int a ∷ cell.Text s ∷ []
 

@@ -43,7 +43,7 @@ new_cells sets table row = map (λ (set : List ℕ × ExprTree). cell_over (own_
 abbrev pub written : List (List ℕ × ExprTree) → Table → ℕ × List Cell → List Cell
 written sets table at = Oid at.0 ∷ new_cells sets table at.1
 
--- an operator without a column below it leaves the range, or an expression does over a row of which the condition is true
+-- arithmetic over constants alone leaves the range, or an expression does over a row of which the condition is true
 abbrev pub overflows_on : List (List ℕ × ExprTree) → Option CondTree → Table → Bool
 overflows_on sets condition table =
     list_any constant_overflows (map (λ (set : List ℕ × ExprTree). set.1) sets) || cond_overflows condition

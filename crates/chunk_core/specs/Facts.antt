@@ -31,7 +31,7 @@ abbrev pub rises : List Cell → Bool
 rises [] = true
 rises (x ∷ xs) = neighbours_from is_below x xs
 
--- the cells are oids that rise by one each
+-- the cells are dense: oids that rise by one each
 abbrev pub is_dense : List Cell → Bool
 is_dense [] = true
 is_dense (x ∷ xs) = is_oid x && neighbours_from is_next_oid x xs

@@ -20,7 +20,7 @@ pub struct Facts {
     pub bytes: u64,
     /// Whether each stands strictly before the next.
     pub rises: bool,
-    /// Whether they are oids that rise by one each.
+    /// Whether they are dense: oids that rise by one each.
     pub dense: bool,
 }
 

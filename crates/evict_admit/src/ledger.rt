@@ -21,7 +21,7 @@ impl Model for Ledger {
 }
 
 impl Ledger {
-    /// No shape yet, and each later one starts with this credit. Takes no memory.
+    /// Without shapes; those to come start with this credit. Takes no memory.
     pub fn new(alloc: Global, credits: u64) -> Ledger
         ensures start { result.start ≡ credits }
         ensures none { result.each ≡ [] }
@@ -32,7 +32,7 @@ impl Ledger {
         }
     }
 
-    /// Afterwards at least so many shapes can be added. Memory leaves all as it was.
+    /// Makes room for so many further shapes at least. Memory leaves all as it was.
     pub fn reserve(&mut self, shapes: u64) -> Result<(), Memory>
         ensures room { OnOk result (shapes ≤ self.new.room) }
         ensures start { self.new.start ≡ self.old.start }

@@ -23,7 +23,7 @@ pub struct Row {
     pub id: u64,
     /// Its stated bytes.
     pub bytes: u64,
-    /// That it has no pins, and is no parent of the entry that is to be admitted.
+    /// That nothing pins it, and that the entry to be admitted wasn't computed from it.
     pub free: bool,
     /// The ids of the entries that it was computed from, where 0 is none.
     pub parents: [u64; 2],

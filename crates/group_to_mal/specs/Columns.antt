@@ -28,7 +28,7 @@ abbrev pub with_bat : List Bool → List Bool
 with_bat [] = []
 with_bat (bat ∷ bats) = (bat || not (any_bat bats)) ∷ bats
 
--- where none is a BAT, the first becomes one, with these heads
+-- where no column is a BAT, the first becomes one, with these heads
 abbrev pub spread_first : Arg → List Bool → List Arg → Emitter (List Arg)
 spread_first heads (bat ∷ bats) (v ∷ vs) = followed (spread_by heads (bat || any_bat bats) v) (λ w. gives (w ∷ vs))
 spread_first heads _ vs = gives vs

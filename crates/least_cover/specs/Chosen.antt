@@ -38,7 +38,7 @@ entry_of selection = (selection.0, selection.1.1)
 abbrev pub entry_at : List Selection → ℕ → Entry
 entry_at selections place = entry_of (slice_index_or selections place (0, (0, record { low = Low; high = Low })))
 
--- the pieces of a chain from a cut on: each has its selection's id, and goes to its span's high or the target's, whichever is less
+-- the pieces of a chain from a cut on: each has its selection's id, and goes on until its span ends or the target does
 abbrev pub pieces_from : Span → List Selection → Cut → List ℕ → List Entry
 pieces_from target selections cut [] = []
 pieces_from target selections cut (place ∷ places) =
@@ -51,7 +51,7 @@ cheapest_of target selections =
 
 -- ## Laws
 
--- a chain is what the function gives exactly where it is the chosen one and the target isn't empty; and it gives none exactly where the spans don't cover the target
+-- a chain is what the function gives exactly where it is the chosen one and the target isn't empty; and it gives none where the target isn't covered, and nowhere else
 abbrev pub ChosenIsFunction : Type 0
 ChosenIsFunction = (spans : List Priced) (target : Span)
     → ((chain : List ℕ) → (chain_of target spans ≡ Some chain) ↔ ((is_cut_below target.low target.high ≡ true) × IsChosen spans target target.low chain))

@@ -28,7 +28,7 @@ span_at spans place = (priced_at spans place).1
 abbrev pub cost_of : List Priced → List ℕ → ℕ
 cost_of spans places = sum_by (rows_at spans) places
 
--- distinct places whose spans cover the target
+-- places that differ, and whose spans cover the target
 pub record IsCover (spans : List Priced) (target : Span) (places : List ℕ) : Type 0 where
   pub within : All (λ place. place < length spans) places
   pub distinct : IsDistinct nat_eq places
@@ -40,7 +40,7 @@ IsLeastCost spans target cost = (places : List ℕ) → IsCover spans target pla
 
 -- ## Chains
 
--- from a cut on each span holds the place that is reached so far, and goes on at its high; the last high alone reaches the target's high
+-- from a cut on each span holds the place that is reached so far, and moves it to its high, until that isn't below the target's
 abbrev pub IsChain : List Priced → Span → Cut → List ℕ → Type 0
 IsChain spans target cut [] = is_cut_below cut target.high ≡ false
 IsChain spans target cut (place ∷ places) =

@@ -16,7 +16,7 @@ pub fn one_chosen()
 {}
 
 /// The chain that is chosen is a function of the spans, which lists all chains and takes the least;
-/// there is none exactly where the spans don't cover the target.
+/// where the target isn't covered, and nowhere else, it gives none.
 pub fn chosen_is_function()
     ensures { ChosenIsFunction }
 {}

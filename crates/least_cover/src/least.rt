@@ -14,7 +14,7 @@ use cell_core::Span;
 pub const MOST_SPANS: usize = 1024;
 
 /// The cheapest cover of a target by spans that each cost a number of rows below 2^41: its cost. None
-/// exactly where the spans don't cover the target; then both lists stay empty.
+/// where the target isn't covered, and nowhere else; then both lists stay empty.
 ///
 /// `chain` gets the places of the chosen chain, in order. `labels` gets its certificate: the number of
 /// the target's low, then for each span that of its high, 0 where this is no stop within the target,

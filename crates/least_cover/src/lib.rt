@@ -1,9 +1,9 @@
 //! The cheapest way to cover a range by the ranges of pooled selections.
 //!
-//! It stands on `cell_core` for cuts and spans, and on `subsume` for pieces. A cover is a list of
-//! distinct places whose spans leave nothing of a target out, and its cost is their rows. A chain goes
-//! from a target's low to its high, span by span; the chain that is chosen is the least by cost, then
-//! by length, then by its places.
+//! It stands on `cell_core` for cuts and spans, and on `subsume` for pieces. A cover is some of the
+//! spans, which leave nothing of a target out, and its cost is their rows. A chain goes from a target's
+//! low to its high, span by span. The chosen one costs least; of several such it is the shortest, and
+//! of several of these the one whose places come first.
 //!
 //! `cheapest` finds it, with a certificate: numbers which show that no cover costs less, as
 //! `certificates_bound` says. `one_chosen` says that one chain is chosen and that chains are covers.

@@ -77,7 +77,7 @@ fn onward(
 }
 
 /// Finds how the least chain goes on that begins with each span that ends behind the target's low.
-/// False where the spans don't cover the target.
+/// False where the target isn't covered.
 pub(crate) fn solve(
     bests: &mut [Option<Best>],
     order: &[u64],

@@ -25,14 +25,14 @@ impl Drop for KeyArg {
 }
 
 /// What names the result of an instruction: the operator, its arguments with results by their ids,
-/// and the version of the table that a bind reads (other operators have version 0).
+/// and the version of the column that a bind reads (other operators have version 0).
 #[derive(Drop)]
 pub struct Key {
     /// The operator.
     pub op: Op,
     /// Its arguments, in order.
     pub args: Sequence<KeyArg>,
-    /// The version of the table that is read.
+    /// The version of the column that is read.
     pub version: u64,
 }
 

@@ -12,7 +12,7 @@ pub struct Shape {
     pub table: Word,
     /// The column that a bind names; empty for other operators.
     pub column: Word,
-    /// For each argument the number of its result's shape, and 0 for a constant or no argument.
+    /// For each argument the number of its result's shape; 0 where a constant stands, or nothing.
     pub args: [u32; 5],
 }
 

@@ -7,7 +7,7 @@ use thiserror::Error;
 /// by the number of instructions.
 #[derive(Clone, Copy, Debug, PartialEq, Eq, Drop, Error)]
 pub enum PlanError {
-    /// An argument names an instruction that isn't earlier.
+    /// An argument is a result, but of no earlier instruction.
     #[error("instruction {0} uses a result that isn't there")]
     UnknownVar(u32),
     /// The kinds of the arguments don't fit the operator, or `keep` is no bit.

@@ -34,7 +34,7 @@ limited limit rows = option_map_or (λ n. take n rows) limit rows
 abbrev pub arranged : Out → List (List Cell) → List (List Cell)
 arranged out rows = limited out.limit (sorted_by (is_keyed_below out.order) rows)
 
--- as many rows as the shortest BAT has pairs, or one; row i has the i-th tails, and each scalar
+-- as many rows as the shortest BAT has pairs, or one; in a row the tails at its place, and each scalar
 abbrev pub unordered : List Value → List (List Cell)
 unordered columns = rows_of columns (unwrap_or (shortest columns) 1)
 

@@ -15,7 +15,7 @@ use Rattle.mal_meaning.specs.Meaning.{arg_values, bind_value, instr_value, value
 use Rattle.mal_meaning.specs.Output.{output_rows}
 use Rattle.mal_meaning.specs.declared.plan.Plan.{Plan}
 
--- the arguments of an instruction are there and fit it; those of a bind name a column of the database
+-- the arguments of an instruction are there and fit it; those of a bind are three texts, whose column needn't be there
 abbrev pub FitsHere : Db → Op → Option (List Value) → Type 0
 FitsHere db operator None = ⊥
 FitsHere db op.Bind (Some args) = IsSome (bind_value db args)

@@ -8,7 +8,7 @@ use std::alloc::Global;
 pub struct Out {
     /// The columns: a BAT gives its tails, a scalar stands in every row.
     pub cols: Sequence<Arg>,
-    /// Where it is present and isn't true, there is no row.
+    /// If there is one, it has to be true, or no row is shown.
     pub keep: Option<Arg>,
     /// The keys of the order: places among the columns, counted from 0, each ascending (true) or
     /// descending.
@@ -31,7 +31,7 @@ impl Drop for Out {
 
 /// A plan: instructions in order, each of which may use the results of earlier ones, and an output.
 pub struct Plan {
-    /// The instructions; `Arg::Var(n)` is the result of instruction n, counted from 0.
+    /// The instructions; `Arg::Var(0)` is the result of the first one, and so on.
     pub instrs: Sequence<Instr>,
     /// What the plan answers.
     pub out: Out,

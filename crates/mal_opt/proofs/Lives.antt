@@ -1,4 +1,4 @@
--- What is alive: exactly what leads to the output, to `keep`, or to a plus, minus or times.
+-- What is alive: exactly that from which a path leads to what is shown, or to what may overflow.
 use Rattle.std.proofs.Common.{◌≡◌, ◌+◌, ◌-◌, ◌<◌, ◌≤◌, ℕ, suc, zero, Bool, true, false, List, [], ◌∷◌, ◌++◌, length, Some, None, refl, ap, sym, ◌∙◌, subst, arith}
 use Rattle.std.specs.Prelude.{◌||◌, ◌&&◌, get_or, slice_get}
 use Rattle.std.specs.Option.{option_map_or}

@@ -24,7 +24,7 @@ NoneFolds plan = (n : ℕ) (instr : Instr) → slice_get plan.instrs n ≡ Some 
 abbrev pub AllDiffer : Plan → Type 0
 AllDiffer plan = (m n : ℕ) (instr : Instr) → slice_get plan.instrs m ≡ Some instr → slice_get plan.instrs n ≡ Some instr → m ≡ n
 
--- a path leads from each instruction to the output, to `keep`, or to a plus, minus or times
+-- from each instruction a path leads to one that is shown or may overflow
 abbrev pub AllLead : Plan → Type 0
 AllLead plan = (n : ℕ) → n < length plan.instrs → Leads plan n
 

@@ -38,7 +38,7 @@ alive_from out n (instr ∷ instrs) = alive_before out n instr instrs (alive_fro
 abbrev pub is_alive : Plan → ℕ → Bool
 is_alive plan n = get_or (alive_from plan.out 0 plan.instrs) n false
 
--- a path from an instruction to the output, to `keep`, or to a plus, minus or times
+-- a path from an instruction to one that is shown or may overflow
 pub data Leads (plan : Plan) : ℕ → Type 0 where
   Shown : (n : ℕ) → n < length plan.instrs → is_shown n plan.out ≡ true → Leads plan n
   Overflows : (n : ℕ) (instr : Instr) → slice_get plan.instrs n ≡ Some instr → may_overflow instr.op ≡ true → Leads plan n

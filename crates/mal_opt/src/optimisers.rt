@@ -122,8 +122,8 @@ pub fn fold_constants(alloc: Global, plan: &Plan) -> Result<Plan, Memory>
     folded(alloc, plan)
 }
 
-/// Replaces each instruction that equals an earlier one (same operator, same arguments) by that one,
-/// once its own arguments are replaced. The plan has to be checked (`check_plan`).
+/// Puts the first of equal instructions (same operator, same arguments) in place of the others, where
+/// arguments are compared once they are replaced. The plan has to be checked (`check_plan`).
 pub fn share_terms(alloc: Global, plan: &Plan) -> Result<Plan, Memory>
     requires { plan_fault plan.now ≡ None }
     ensures plan { IfOk result (λ made. made ≡ optimisers.share_terms plan.now) }
@@ -135,8 +135,8 @@ pub fn share_terms(alloc: Global, plan: &Plan) -> Result<Plan, Memory>
     shared(alloc, plan)
 }
 
-/// Drops each instruction from which no path leads to the output, to its `keep`, or to a plus, minus
-/// or times, which may overflow. The plan has to be checked (`check_plan`).
+/// Drops what isn't alive, and so keeps what is shown, what may overflow, and what these are made of.
+/// The plan has to be checked (`check_plan`).
 pub fn drop_dead(alloc: Global, plan: &Plan) -> Result<Plan, Memory>
     requires { plan_fault plan.now ≡ None }
     ensures plan { IfOk result (λ made. made ≡ optimisers.drop_dead plan.now) }

@@ -1,4 +1,4 @@
--- The canonical text of a plan: one line each, four spaces before the inner lines.
+-- The canonical text of a plan: each instruction and each part of the output has a line, indented by four spaces.
 use Rattle.std.specs.Prelude.{ℕ, ◌+◌, List, [], ◌∷◌, ◌++◌, length, map, flat_map, Bool, true, false, ◌&&◌, if◌then◌else◌, Option, Some, None, codes, decimal, slice_index_or}
 use Rattle.std.specs.Fmt.{signed_decimal}
 use Rattle.std.specs.List.{list_any}

@@ -79,7 +79,7 @@ evictions_for now offer pool =
 abbrev pub left_without : List ℕ → List PoolEntry → List PoolEntry
 left_without gone entries = filter (λ (e : PoolEntry). not (is_one_of gone e.id)) entries
 
--- an entry that leaves, used by another session and not paid back, pays its credit back
+-- an entry that leaves gives its credit back where another session used it and it hasn't done so before
 abbrev pub pays_at_end : PoolEntry → Bool
 pays_at_end e = e.is_foreign && not e.is_paid
 

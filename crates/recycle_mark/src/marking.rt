@@ -31,8 +31,8 @@ fn mark_next(
     Ok(())
 }
 
-/// Whether each instruction of a plan is marked, in the plan's order: its result is a BAT, and each
-/// result among its arguments is that of a marked instruction.
+/// Whether each instruction of a plan is marked, in the plan's order: it gives a BAT, and takes no
+/// results but those of marked instructions.
 pub fn marks(alloc: Global, plan: &Plan) -> Result<Vec<bool>, Memory>
     ensures { IfOk result (λ marks. marks.items ≡ marks_of plan.now) }
 {

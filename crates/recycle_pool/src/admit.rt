@@ -16,7 +16,7 @@ use pool_policy::{Admitted, Who};
 use score_hook::Scorer;
 
 impl Pool {
-    /// Afterwards at least so many shapes can be added. Nothing else changes.
+    /// Makes room for so many further shapes at least. Nothing else changes.
     pub fn reserve(&mut self, shapes: u64) -> Result<(), Memory>
         ensures { self.new ≡ self.old }
     {

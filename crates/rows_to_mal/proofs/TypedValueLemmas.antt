@@ -43,7 +43,7 @@ use Rattle.sql_semantics.specs.Sources.{place_of, places}
 use Rattle.sql_semantics.specs.References.{references}
 use Rattle.sql_semantics.specs.Kinds.{kind_of_expr, is_misfit, compares, is_cond_misfit}
 
--- a scalar of a kind, or a BAT with such a cell for each row so far
+-- a cell of a kind, or a BAT with such a cell for each row so far
 abbrev pub value_type : Bool → Option Kind → ValueType
 value_type true k = OneOf k
 value_type false k = BatOf (Some kind.Oid) k

@@ -118,7 +118,7 @@ fn statement_kept(alloc: Global, typed: &Typed) -> Result<Rows, Memory>
     Ok(Rows { instrs, rows })
 }
 
-/// The instructions of the rows that a query, an EXPLAIN, a DELETE or an UPDATE keeps.
+/// The instructions of the rows that a SELECT, EXPLAIN, DELETE or UPDATE keeps.
 ///
 /// Over every valid database that has the statement's tables, they give for each table the oids
 /// of its rows in the choices that the condition keeps, in order; they have no value exactly where the

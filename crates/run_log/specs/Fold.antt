@@ -37,7 +37,7 @@ use Rattle.run_log.specs.Touches.{has_column, touched_by}
 pub record LogState : Type 0 where
   pub at : ℕ  -- the position of the last event
   pub db : Db
-  pub versions : Versions  -- of each column: the position of the last accepted write that touched it, 0 where it isn't there
+  pub versions : Versions  -- of each column: the position at which an accepted write last touched it, 0 where it isn't there
   pub pool : PoolState
   pub given : List Face  -- every id that was given out, with its key and its value
   pub totals : Totals  -- of their work the part of writes alone

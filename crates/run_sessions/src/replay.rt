@@ -27,9 +27,9 @@ use std::sync::ledger::Ledger;
 /// No log has so many events: a `Book` has no memory for them.
 const MANY_EVENTS: u32 = 1 << 30;
 
-/// Runs sessions, one for each script, by turns: each turn lets a session do its next event, if it has one,
-/// and behind the last turn session 1 runs to its end, then session 2, and so on. The counter rises by the
-/// work of the totals; where plans overflow, by at most their loads more.
+/// Runs sessions, one for each script, by turns: at each turn a session does its next event, if it has one,
+/// and behind the last turn the sessions run to their ends, from the first to the last. The counter rises
+/// by the work of the totals; where plans overflow, by at most their loads more.
 pub fn play_sessions<E: Operate, L: Ledger>(
     alloc: Global,
     scripts: Vec<Sequence<Word>>,

@@ -26,7 +26,7 @@ pub struct Scorer {
 
 impl Scorer {
     /// Keeps a closure that may be called, and answers the formula of this kind, which isn't the
-    /// weighted one, for all stats and moments in range. Takes no memory.
+    /// weighted one, wherever stats and moment are in range. Takes no memory.
     pub fn new(alloc: Global, kind: Evict, call: ScoreCall) -> Scorer
         requires plain { kind ≢ Weighted }
         requires may { (stats : Bor StatsValue) (now : ℕ) → IsInRange stats.now now
@@ -44,9 +44,9 @@ impl Scorer {
         }
     }
 
-    /// Keeps a closure that may be called, and answers the weighted score of these weights, of which
-    /// it has a list of its own, for all stats and moments in range. There are 35 weights, each from
-    /// 1 to 1,000. Takes no memory.
+    /// Keeps a closure that may be called, and answers the weighted score by these weights, of which
+    /// it has a list of its own, wherever stats and moment are in range. Each of the 35 operators has a
+    /// weight, of 1 at least and 1,000 at most. Takes no memory.
     pub fn weighted(weights: Vec<u64>, call: ScoreCall) -> Scorer
         requires weights { AreWeights weights.items }
         requires may { (stats : Bor StatsValue) (now : ℕ) → IsInRange stats.now now

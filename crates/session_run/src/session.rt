@@ -139,9 +139,9 @@ impl Session {
         Ok(())
     }
 
-    /// Does the next event. After Memory the book is as before, and nothing is said of the session. The
-    /// counter rises by what a write adds to the work of the totals; where its plan overflows, by at most
-    /// its load more.
+    /// Does the next event. Where memory runs out, the book stays as it was, and nothing is said of the
+    /// session. The counter rises by what a write adds to the work of the totals; where its plan overflows,
+    /// by at most its load more.
     pub fn inside<E: Operate, L: Ledger>(
         &mut self,
         alloc: Global,

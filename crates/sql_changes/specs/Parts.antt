@@ -32,7 +32,7 @@ set_at sets table row at = set_cell (own_table table) row (find (λ (set : List 
 abbrev pub set_cells : List (List ℕ × ExprTree) → Table → List Cell → List Column → List Cell → List Cell
 set_cells sets table row columns cells = map (set_at sets table row) (zip columns cells)
 
--- an operator without a column below it leaves the range in a SET or in the condition
+-- arithmetic over constants alone leaves the range in a SET or in the condition
 abbrev pub constants_overflow : List (List ℕ × ExprTree) → Option CondTree → Bool
 constants_overflow sets cond = list_any constant_overflows (map (λ (set : List ℕ × ExprTree). set.1) sets) || cond_overflows cond
 

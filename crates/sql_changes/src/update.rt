@@ -18,7 +18,7 @@ use sql_semantics::Refusal;
 use sql_tree::{Cond, Expr};
 use std::alloc::Global;
 
-/// Whether an operator without a column below it leaves the range in one of the expressions.
+/// Whether arithmetic over constants alone leaves the range in one of the expressions.
 fn do_constants_overflow(sets: &[(Word, Expr)]) -> Result<bool, Memory>
     ensures { IfOk result (λ overflows. overflows ≡ list_any constant_overflows_of (map (λ (set : List ℕ × ExprTree). set.1) (map set_tree sets.now))) }
 {
@@ -115,7 +115,7 @@ fn set_cells(
     Ok(new)
 }
 
-/// A row with its set cells replaced, every expression taken over the old row.
+/// A row with its set cells replaced by their expressions' values over the row as it was.
 #[tactic(auto, unfolding(crate::specs::Parts::set_at))]
 fn updated_row(
     alloc: Global,

@@ -2,9 +2,9 @@
 //!
 //! It stands on `sql_semantics` for what statements do and for which databases are valid: names of tables
 //! and of a table's columns differ, a table has at least one column, columns are of the kinds that tables
-//! store, each default is Nil or of its column's kind, and so is each cell of a row, which has one for
-//! each column. Its one public call states a law and runs nothing: every statement that reading may give,
-//! accepted or refused, keeps that.
+//! store, a row has a cell for each column, and cells and defaults are Nil or of their column's kind. Its
+//! one public call states a law and runs nothing: every statement that reading may give, accepted or
+//! refused, keeps that.
 #![tactic(auto)]
 
 ghost use Rattle.std.specs.Prelude.{[]};

@@ -150,8 +150,8 @@ fn answer_over(
 }
 
 /// What a query answers over a database, computed row by row as its meaning says. `Overflow` comes
-/// where an arithmetic operator without a column leaves the signed 64-bit range, or another one does
-/// for a kept choice of rows. The statement is a SELECT or an EXPLAIN.
+/// where arithmetic over constants alone leaves 64 bits, or that of an item or of HAVING does for a
+/// kept choice of rows. The statement is a SELECT or an EXPLAIN.
 pub fn slow_answer(
     alloc: Global,
     query: &Typed,

@@ -15,7 +15,7 @@ use cell_core::{Memory, Sequence};
 use sql_semantics::Called;
 use sql_tree::{Cond, Expr, Item};
 
-/// Whether an operator without a column below it leaves the range in an item.
+/// Whether arithmetic over constants alone leaves the range in an item.
 fn items_overflow(items: &[Item]) -> Result<bool, Memory>
     ensures { IfOk result (λ overflows. overflows ≡ list_any constant_overflows_of (exprs_of items.now)) }
 {

@@ -103,7 +103,7 @@ fn is_constant(expr: &Expr) -> bool
     }
 }
 
-/// Whether an operator without a column below it leaves the range somewhere in an expression.
+/// Whether arithmetic over constants alone leaves the range somewhere in an expression.
 pub fn constant_overflows(expr: &Expr) -> Result<bool, Memory>
     ensures { IfOk result (λ overflows. overflows ≡ constant_overflows_of (expr_tree expr.now)) }
 {

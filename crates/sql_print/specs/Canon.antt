@@ -1,4 +1,4 @@
--- The canonical text of a statement: words in upper case, one space between tokens.
+-- The canonical text of a statement, which is how it is printed.
 use Rattle.std.specs.Prelude.{ℕ, ◌==◌, List, [], ◌∷◌, ◌++◌, Bool, ◌&&◌, map, flat_map, if◌then◌else◌, Option, Some, None, codes, decimal, ℤ, pos, negsuc, int_le}
 use Rattle.cell_core.specs.Day.{day_text}
 use Rattle.cell_core.specs.CellText.{cell_text}
@@ -126,7 +126,7 @@ abbrev mutual
   expr_text (AggregateAll f) = aggregate_text f ++ codes "(*)"
   expr_text (Aggregate f of) = aggregate_text f ++ enclosed (expr_text of)
 
-  -- an operand that is itself an operator stands in parentheses
+  -- as an operand, an operator is put in parentheses
   pub operand_text : ExprTree → List ℕ
   operand_text (Literal literal) = literal_text literal
   operand_text (ColumnOf column) = reference_text column
@@ -152,7 +152,7 @@ abbrev mutual
   cond_text (Both left right) = part_text left ++ codes " AND " ++ part_text right
   cond_text (Either left right) = enclosed (cond_text left) ++ codes " OR " ++ enclosed (cond_text right)
 
-  -- an operand of AND or NOT that is itself AND, OR or NOT stands in parentheses, and each operand of OR
+  -- a part of AND or of NOT, where only a test stands bare; a side of OR never does
   pub part_text : CondTree → List ℕ
   part_text (Compare op left right) = compared_text op left right
   part_text (Within of low high) = within_text of low high

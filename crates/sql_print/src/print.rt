@@ -13,8 +13,8 @@ use cell_core::{Cell, Column, Memory, Sequence, Word};
 use sql_tree::{Cond, Expr, FromItem, Item, Place, Query, SortKey, Stmt, write_name};
 use std::alloc::Global;
 
-/// The canonical text of a statement, for every tree: words in upper case, one space between tokens,
-/// names in quotes where they need them, parentheses round operands that are operators.
+/// The canonical text of a statement, for every tree: upper-case words and single spaces, names in
+/// quotes where they need them, parentheses round operands that are operators.
 pub fn print_stmt(alloc: Global, stmt: &Stmt) -> Result<Vec<u8>, Memory>
     ensures { IfOk result (λ text. text.items ≡ canon.canonical (stmt_tree stmt.now)) }
 {

@@ -203,7 +203,7 @@ module _ {E : Type 0} (P : ExprTree → Type 0) (canon : (e : ExprTree) → P e 
     canon_cond (Both left right) is = both_rule (canon_part left is.0) (canon_part right is.1)
     canon_cond (Either left right) is = either_rule (CondUnit (canon_cond left is.0)) (CondUnit (canon_cond right is.1))
 
-    -- an operand of AND or NOT that is itself AND, OR or NOT stands in parentheses
+    -- a part of AND or of NOT, where only a test stands bare
     pub canon_part : (c : CondTree) → IsPrintableCond P c → UnitRule E
     canon_part (Compare op left right) is = compared_unit op left right is
     canon_part (Within of low high) is = within_unit of low high is

@@ -202,7 +202,7 @@ check_refusal stmt schema = slice_get (refusals_of stmt schema) 0
 abbrev pub sources_named : List (List ℕ) → Schema → List Source
 sources_named names schema = filter_map (λ name. source_named name schema) names
 
--- the tables that a statement speaks of: those of FROM in its order, the one table of another statement, or none for CREATE
+-- the tables that a statement speaks of: of a query those of FROM, in order, of CREATE none, and of any other its own
 abbrev pub tables_of : StmtTree → List (List ℕ)
 tables_of (CreateTable table columns) = []
 tables_of (DropTable table) = table ∷ []

@@ -95,7 +95,7 @@ abbrev pub set_cell : List NamedSource → List Cell → Option (List ℕ × Exp
 set_cell sources row None cell = cell
 set_cell sources row (Some set) cell = cell_over sources (row ∷ []) set.1
 
--- a row with its set cells replaced, every expression taken over the old row
+-- a row with its set cells replaced by their expressions' values over the row as it was
 abbrev pub updated_row : List (List ℕ × ExprTree) → Table → List Cell → List Cell
 updated_row sets table row =
     map (λ (at : Column × Cell). set_cell (own_table table) row (find (λ (set : List ℕ × ExprTree). bytes_eq set.0 at.0.name) sets) at.1) (zip table.columns row)

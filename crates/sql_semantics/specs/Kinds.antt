@@ -54,7 +54,7 @@ is_misfit sources (Operator op left right) =
 is_misfit sources (AggregateAll f) = false
 is_misfit sources (Aggregate f of) = is_misfit sources of || refuses f (kind_of_expr sources of)
 
--- a test compares numbers with numbers, texts with texts and days with days
+-- the two sides of a test are of kinds that can be compared
 abbrev pub compares : List NamedSource → ExprTree → ExprTree → Bool
 compares sources left right = are_comparable (kind_of_expr sources left) (kind_of_expr sources right)
 

@@ -58,7 +58,7 @@ items_of sources query = if length query.items == 0 then all_columns sources els
 abbrev pub item_exprs : List NamedSource → QueryTree → List ExprTree
 item_exprs sources query = map (λ (item : ItemTree). item.expr) (items_of sources query)
 
--- a query is grouped where it has GROUP BY, HAVING or an aggregate
+-- GROUP BY, HAVING and aggregates make a query grouped
 abbrev pub is_grouped : QueryTree → Bool
 is_grouped query =
     not (length query.groups == 0) || is_some query.having || list_any (λ (item : ItemTree). has_aggregate item.expr) query.items

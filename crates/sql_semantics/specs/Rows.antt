@@ -32,7 +32,7 @@ group_key sources refs choice = map (column_cell sources choice) refs
 abbrev pub groups_by : (Choice → List Cell) → List Choice → List (List Choice)
 groups_by key choices = map (λ cells. filter (λ choice. same_cells (key choice) cells) choices) (distinct same_cells (map key choices))
 
--- the groups of a grouped query; without GROUP BY all choices are one group, also where there are none
+-- the groups of a grouped query; without GROUP BY all choices make one group, and so do none
 abbrev pub groups_of : List NamedSource → List ColRef → List Choice → List (List Choice)
 groups_of sources refs choices = if length refs == 0 then choices ∷ [] else groups_by (group_key sources refs) choices
 
@@ -66,7 +66,7 @@ shown_exprs sources query = item_exprs sources query ++ exprs_of_cond query.havi
 abbrev pub overflows_for : List NamedSource → List Choice → ExprTree → Bool
 overflows_for sources choices expr = list_any (λ choice. is_none (value sources choice expr)) choices
 
--- a query overflows where an operator without a column below it leaves the range, or another one does for some kept choice
+-- a query overflows where arithmetic over constants alone leaves the range, or an expression that it shows does for some kept choice
 abbrev pub query_overflows : List NamedTable → QueryTree → Bool
 query_overflows tables query =
     list_any constant_overflows (shown_exprs (map source_of tables) query ++ exprs_of_cond query.cond)

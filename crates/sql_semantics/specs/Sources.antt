@@ -38,7 +38,7 @@ source_named name schema = find (λ (source : Source). bytes_eq source.table nam
 abbrev pub schema_of : Db → Schema
 schema_of db = record { tables = map (λ (table : Table). record { table = table.name; columns = table.columns }) db.tables }
 
--- a FROM name is the alias, or else the table's name
+-- the FROM name of a table, which is its own where it has no alias
 abbrev pub from_name : FromItem → List ℕ
 from_name from = unwrap_or from.alias from.table
 

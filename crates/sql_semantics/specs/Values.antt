@@ -71,7 +71,7 @@ group_cell sources group (Aggregate f of) = aggregated f (map (λ choice. cell_o
 
 -- ## Overflow
 
--- an operator without a column below it leaves the range, wherever it stands in the expression
+-- arithmetic over constants alone leaves the range somewhere in the expression
 abbrev pub constant_overflows : ExprTree → Bool
 constant_overflows (Literal cell) = false
 constant_overflows (ColumnOf ref) = false

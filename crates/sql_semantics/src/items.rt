@@ -21,7 +21,7 @@ pub fn has_aggregate(expr: &Expr) -> bool
     }
 }
 
-/// Whether a query is grouped: it has GROUP BY, HAVING or an aggregate.
+/// Whether a query is grouped: GROUP BY, HAVING and aggregates make it so.
 pub fn is_grouped(query: &Query) -> bool
     ensures { result ≡ is_grouped_of (query_tree query.now) }
 {

@@ -17,7 +17,7 @@ use sql_tree::{FromItem, Stmt};
 pub struct Typed {
     /// The statement.
     pub stmt: Stmt,
-    /// The tables of FROM in its order, the one table of another statement, or none for CREATE.
+    /// The tables: of a query those of FROM, in order, of CREATE none, and of any other its own.
     pub sources: Sequence<Source>,
     ghost small: { IsTrue (are_small sources) },
     ghost formed: { ∥ IsFormed (stmt_tree stmt) ∥₁ },
@@ -126,7 +126,7 @@ impl Typed {
         }
     }
 
-    /// The table and its column, both counted from 0, that a column reference means.
+    /// The places, from 0, of the table and of the column in it that a column reference means.
     pub fn place(&self, table: Option<&Word>, column: &Word) -> (u32, u32)
         requires { IsSome (place_of (typed_sources self.now) (record { table = option_copied table; column = column.now })) }
         ensures { place_of (typed_sources self.now) (record { table = option_copied table.entry; column = column.now }) ≡ Some result }

@@ -36,7 +36,7 @@ AreAllRead [] [] = Unit {0}
 AreAllRead (pieces ∷ scripts) (readings ∷ others) = AreReadings pieces readings × AreAllRead scripts others
 AreAllRead _ _ = ⊥
 
--- a run of scripts with these names and statements has this log, and this is what is printed of it: the log has each statement once and in its session's order, each reply is the meaning of its statement over the tables after exactly the commits before its place, the history is the commits, and the pool, its totals and each event are those of this log
+-- a run of scripts with these names and statements has this log, and this is what is printed of it: the log has each statement once and in its session's order, each reply is what its statement means over the tables as the commits before its place leave them, the history is the commits, and the pool, its totals and each event are those of this log
 pub record IsServed (options : RunOptions) (names : List (List ℕ)) (scripts : List (List (List ℕ))) (text : List ℕ) (log : List EventTree) (work : ℕ) : Type 0 where
   pub readings : List (List (Result StmtTree Refusal))
   pub read : AreAllRead scripts readings

@@ -6,7 +6,7 @@
 //! schedule, on `sample_scripts` for those of `generate`, on `thread_sessions` for sessions in threads and on
 //! `run_sessions` for those that take turns on one thread, and on `answer_text` for the layouts.
 //! Its clause `served` is the project's headline: the log has each statement once and in its session's
-//! order, under `replay` it is the log of the schedule, each reply is the meaning of its statement over the
+//! order, under `replay` it is the log of the schedule, each reply is what its statement means over the
 //! tables at its place, and the totals and the work are those that the log says.
 #![tactic(auto)]
 

@@ -3,7 +3,7 @@ use Rattle.std.specs.Prelude.{◌≡◌, ℕ, List}
 use Rattle.sql_tree.specs.Tokens.{AreTokens}
 use Rattle.sql_tree.specs.declared.token.Placed.{Placed}
 
--- the text can't be cut into tokens: a character begins none, or a string, a quoted name or a `/*` isn't closed
+-- the text can't be cut into tokens: some character begins none, or begins a quoted name, a string or a `/*` that never ends
 abbrev pub HasNoTokens : List ℕ → Type 0
 HasNoTokens text = (tokens : List Placed) → AreTokens text tokens → ⊥
 

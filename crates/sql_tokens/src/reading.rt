@@ -12,7 +12,7 @@ use thiserror::Error;
 /// Why a text has no tokens.
 #[derive(Clone, Copy, Debug, PartialEq, Eq, Drop, Error)]
 pub enum TokensError {
-    /// A character begins no token, or a string, a quoted name or a `/*` isn't closed.
+    /// Some character begins no token, or begins a quoted name, a string or a `/*` that never ends.
     #[error("no tokens")]
     Syntax,
     /// Memory ran out.

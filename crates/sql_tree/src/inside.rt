@@ -7,7 +7,7 @@ pub enum Inside {
     InText,
     /// A quoted name.
     InName,
-    /// A comment up to the end of the line.
+    /// A comment that ends with its line.
     InLine,
     /// The second byte of `/*`.
     OpensBlock,

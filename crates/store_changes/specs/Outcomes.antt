@@ -8,7 +8,7 @@ use Rattle.sql_semantics.specs.declared.refusal.Reply.{Reply}
 use Rattle.sql_semantics.specs.declared.refusal.Reply.TheVariants.{Done, Rows, Refused}
 use Rattle.store_changes.specs.declared.outcome.Ready.{Ready}
 
--- a statement that is neither a query nor an EXPLAIN
+-- the statement is no query and no EXPLAIN
 abbrev pub is_change : StmtTree → Bool
 is_change (Select query) = false
 is_change (ExplainSelect query) = false

@@ -86,7 +86,7 @@ impl CutIndex {
     }
 
     /// How many items have a parent below the given one, or, with `after`, at most the given one.
-    /// Among n items it takes s steps, one for each comparison, where 2^s is at most 2n + 1.
+    /// Each comparison counts a step: for n items s of them, where 2^s is at most 2n + 1.
     pub fn bound<L: Ledger>(&self, parent: u64, after: bool, steps: &mut Steps<L>) -> u64
         ensures count { result ≡ count_by (is_counted parent after) self.now.items }
         ensures steps { (s : ℕ) × (steps.new ≡ steps.old + s) × (2 ^ s ≤ 2 * length self.now.items + 1) }

@@ -78,7 +78,7 @@ impl<K: RunOptions> Kept<K> {
         let _ = self.book.log();
     }
 
-    /// Does the next event of a session. After Memory the book is as before.
+    /// Does the next event of a session. Where memory runs out, the book stays as it was.
     pub fn next<E: Operate, L: Ledger>(
         &mut self,
         alloc: Global,

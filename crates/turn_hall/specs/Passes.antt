@@ -14,7 +14,7 @@ module _ {V E : Type 0} where
   abbrev pub pass_number : Pass V E → ℕ
   pass_number pass = pass.seat.me.0.number
 
-  -- the list that the pass has seen
+  -- what the pass has seen of the list
   abbrev pub seen_by : Pass V E → List E
   seen_by pass = pass.seat.me.0.seen
 

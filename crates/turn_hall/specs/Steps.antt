@@ -12,7 +12,7 @@ slot_entries entries [] = []
 slot_entries entries ((k, None) ∷ held) = []
 slot_entries entries ((k, Some x) ∷ held) = entries x
 
--- at its ticket a pass has the turn and the slot, with a value whose list begins with what the pass had seen, and whose entries by the pass are its own
+-- at its ticket a pass has the turn and the slot, with a value whose list goes on from what the pass had seen, and whose entries by the pass are its own
 pub record Begins {V E : Type 0} (entries : V → List E) (author : E → ℕ) (before after : Me (Option V) (View E)) : Type 0 where
   pub value : V
   pub seen : StartsWith (entries value) before.0.seen
