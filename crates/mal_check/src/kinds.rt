@@ -1,17 +1,18 @@
 //! The kinds of values, and what kind an operator makes of those of its arguments.
-ghost use Rattle.std.specs.Prelude.{◌≡◌, ◌∷◌, [], slice_get, IsTrue};
+ghost use Rattle.std.specs.Prelude.{◌≡◌, ◌∷◌, [], slice_get};
 ghost use Rattle.std.specs.Bool.{then_some};
 ghost use Rattle.std.specs.Option.{option_map};
 ghost use Rattle.cell_core.specs.declared.cell.Kind.TheVariants as kind;
 ghost use Rattle.cell_core.specs.declared.operator.Op.TheVariants as operator;
+ghost use Rattle.cell_core.specs.declared.form.Form.TheVariants as form;
+ghost use Rattle.cell_core.specs.Forms.{form_of};
 ghost use Rattle.cell_core.specs.Kinds as kinds;
 ghost use Rattle.cell_core.specs.Kinds.{OneOf, BatOf, result_type, bind_type, from_one, from_any, from_two, from_range};
-ghost use Rattle.mal_meaning.specs.Slow.{takes_bat, takes_bats, takes_cell};
 ghost use Rattle.mal_check.specs.Checked.{arg_type};
 ghost use Rattle.mal_check.specs.Types.{type_of, types_of};
 
 use cell_calc::{agrees, are_comparable, both_are, kind_of};
-use cell_core::{Arg, Cell, Kind, Op, Word};
+use cell_core::{Arg, Cell, Form, Kind, Op, Word};
 
 /// What is known of a value before its plan is run. A kind `None` is that of Nil.
 #[derive(Clone, Copy, PartialEq, Eq)]
@@ -134,6 +135,31 @@ fn nil_test_kind(args: &[ValueKind]) -> Option<ValueKind>
     }
 }
 
+/// What a function of two cells gives.
+fn kind_from_two(op: Op, args: &[ValueKind]) -> Option<ValueKind>
+    requires { form_of op ≡ form.TwoCells }
+    ensures { option_map type_of result ≡ result_type op (types_of args.now) }
+{
+    match op {
+        Op::Plus | Op::Minus | Op::Times => arithmetic_kind(args),
+        Op::Eq | Op::Ne | Op::Lt | Op::Le | Op::Gt | Op::Ge => comparison_kind(args),
+        Op::And | Op::Or => junction_kind(args),
+        _ => unreachable!(),
+    }
+}
+
+/// What a function of one cell gives.
+fn kind_from_one(op: Op, args: &[ValueKind]) -> Option<ValueKind>
+    requires { form_of op ≡ form.OneCell }
+    ensures { option_map type_of result ≡ result_type op (types_of args.now) }
+{
+    match op {
+        Op::Not => negation_kind(args),
+        Op::IsNil => nil_test_kind(args),
+        _ => unreachable!(),
+    }
+}
+
 /// The kind, where a test is passed.
 fn given(test: bool, kind: ValueKind) -> Option<ValueKind>
     ensures { option_map type_of result ≡ then_some test (type_of kind) }
@@ -141,9 +167,9 @@ fn given(test: bool, kind: ValueKind) -> Option<ValueKind>
     if test { Some(kind) } else { None }
 }
 
-/// What an operator of one BAT gives.
+/// What an operator makes of a BAT as a BAT.
 fn kind_from_bat(op: Op, b: BatKind) -> Option<ValueKind>
-    requires { IsTrue (takes_bat op) }
+    requires { form_of op ≡ form.OneBat }
     ensures { option_map type_of result ≡ result_type op (BatOf b.head b.tail ∷ []) }
 {
     match op {
@@ -151,6 +177,16 @@ fn kind_from_bat(op: Op, b: BatKind) -> Option<ValueKind>
         Op::Mirror => Some(bat(b.head, b.head)),
         Op::GroupNew => Some(bat(b.head, OID)),
         Op::GroupHeads => given(agrees(b.tail, OID), bat(OID, b.head)),
+        _ => unreachable!(),
+    }
+}
+
+/// What an operator makes of a BAT as a scalar.
+fn total_kind(op: Op, b: BatKind) -> Option<ValueKind>
+    requires { form_of op ≡ form.Total }
+    ensures { option_map type_of result ≡ result_type op (BatOf b.head b.tail ∷ []) }
+{
+    match op {
         Op::Count => Some(ValueKind::One(INT)),
         Op::Sum => given(agrees(b.tail, INT), ValueKind::One(HUGE)),
         Op::Min | Op::Max => Some(ValueKind::One(b.tail)),
@@ -160,7 +196,7 @@ fn kind_from_bat(op: Op, b: BatKind) -> Option<ValueKind>
 
 /// What an operator of a BAT and a cell gives.
 fn kind_from_cell(op: Op, b: BatKind, cell: Option<Kind>) -> Option<ValueKind>
-    requires { IsTrue (takes_cell op) }
+    requires { form_of op ≡ form.BatAndCell }
     ensures { option_map type_of result ≡ result_type op (BatOf b.head b.tail ∷ OneOf cell ∷ []) }
 {
     match op {
@@ -172,7 +208,7 @@ fn kind_from_cell(op: Op, b: BatKind, cell: Option<Kind>) -> Option<ValueKind>
 
 /// What an operator of two BATs gives.
 fn kind_from_bats(op: Op, l: BatKind, r: BatKind) -> Option<ValueKind>
-    requires { IsTrue (takes_bats op) }
+    requires { form_of op ≡ form.TwoBats }
     ensures { option_map type_of result ≡ result_type op (BatOf l.head l.tail ∷ BatOf r.head r.tail ∷ []) }
 {
     match op {
@@ -214,48 +250,35 @@ fn range_kind(args: &[ValueKind]) -> Option<ValueKind>
 pub(crate) fn result_kind(op: Op, args: &[ValueKind]) -> Option<ValueKind>
     ensures { option_map type_of result ≡ result_type op (types_of args.now) }
 {
-    match op {
-        Op::Bind => None,
-        Op::Select => range_kind(args),
-        Op::Reverse
-        | Op::Mirror
-        | Op::GroupNew
-        | Op::GroupHeads
-        | Op::Count
-        | Op::Sum
-        | Op::Min
-        | Op::Max => {
+    match op.form() {
+        Form::Bind => None,
+        Form::Range => range_kind(args),
+        Form::OneBat => {
             let [ValueKind::Bat(b)] = args else {
                 return None;
             };
             kind_from_bat(op, *b)
         }
-        Op::MarkT | Op::Project => {
+        Form::Total => {
+            let [ValueKind::Bat(b)] = args else {
+                return None;
+            };
+            total_kind(op, *b)
+        }
+        Form::BatAndCell => {
             let [ValueKind::Bat(b), ValueKind::One(cell)] = args else {
                 return None;
             };
             kind_from_cell(op, *b, *cell)
         }
-        Op::Semijoin
-        | Op::Kdifference
-        | Op::Kunion
-        | Op::Cross
-        | Op::Join
-        | Op::GroupDerive
-        | Op::Subcount
-        | Op::Subsum
-        | Op::Submin
-        | Op::Submax => {
+        Form::TwoBats => {
             let [ValueKind::Bat(l), ValueKind::Bat(r)] = args else {
                 return None;
             };
             kind_from_bats(op, *l, *r)
         }
-        Op::Plus | Op::Minus | Op::Times => arithmetic_kind(args),
-        Op::Eq | Op::Ne | Op::Lt | Op::Le | Op::Gt | Op::Ge => comparison_kind(args),
-        Op::And | Op::Or => junction_kind(args),
-        Op::Not => negation_kind(args),
-        Op::IsNil => nil_test_kind(args),
+        Form::TwoCells => kind_from_two(op, args),
+        Form::OneCell => kind_from_one(op, args),
     }
 }
 

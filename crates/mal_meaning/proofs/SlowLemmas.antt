@@ -13,6 +13,7 @@ use Rattle.cell_core.specs.Same.{same_cell}
 use Rattle.cell_core.specs.Pairs.{Pairs, heads_of, tails_of, numbered, shortest, row_at, rows_of}
 use Rattle.cell_core.specs.Calc.{calculated}
 use Rattle.cell_core.specs.Operators.{operate}
+use Rattle.cell_core.specs.Forms.{form_of}
 use Rattle.cell_core.specs.declared.operator.Op.{Op}
 use Rattle.cell_core.specs.declared.operator.Op.TheVariants as op
 use Rattle.cell_core.specs.Groups.{distinct, group_number, grouped, derived, paired_tails, least, by_group}
@@ -87,7 +88,7 @@ pub rows_more : (values : List Value) (count : ℕ) → rows_of values (count + 
 rows_more values count = map-range_with_len_more (row_at values) 0 count count (grind arith)
 
 -- the functions of cells are what the table says
-pub function_is : (operator : Op) (args : List Value) → IsTrue (is_function operator) → calculated (row_function operator) args ≡ operate operator args
+pub function_is : (operator : Op) (args : List Value) → IsTrue (is_function (form_of operator)) → calculated (row_function operator) args ≡ operate operator args
 function_is op.Plus args h = refl
 function_is op.Minus args h = refl
 function_is op.Times args h = refl

@@ -8,6 +8,8 @@ use Rattle.cell_core.specs.declared.cell.Cell.TheVariants.{Oid}
 use Rattle.cell_core.specs.declared.operator.Op.{Op}
 use Rattle.cell_core.specs.declared.operator.Op.TheVariants as op
 use Rattle.cell_core.specs.declared.operator.Value.{Value}
+use Rattle.cell_core.specs.declared.form.Form.{Form}
+use Rattle.cell_core.specs.declared.form.Form.TheVariants as form
 use Rattle.cell_core.specs.declared.operator.Value.TheVariants.{Bat, One}
 use Rattle.cell_core.specs.Same.{same_cell}
 use Rattle.cell_core.specs.Pairs.{Pairs, heads_of}
@@ -70,51 +72,8 @@ abbrev pub shorter_of : Option ℕ → Value → Option ℕ
 shorter_of least (One cell) = least
 shorter_of least (Bat b) = Some (min_of least (length b))
 
--- the operators of one BAT
-abbrev pub takes_bat : Op → Bool
-takes_bat op.Reverse = true
-takes_bat op.Mirror = true
-takes_bat op.GroupNew = true
-takes_bat op.GroupHeads = true
-takes_bat op.Count = true
-takes_bat op.Sum = true
-takes_bat op.Min = true
-takes_bat op.Max = true
-takes_bat _ = false
-
--- the operators of two BATs
-abbrev pub takes_bats : Op → Bool
-takes_bats op.Semijoin = true
-takes_bats op.Kdifference = true
-takes_bats op.Kunion = true
-takes_bats op.Cross = true
-takes_bats op.Join = true
-takes_bats op.GroupDerive = true
-takes_bats op.Subcount = true
-takes_bats op.Subsum = true
-takes_bats op.Submin = true
-takes_bats op.Submax = true
-takes_bats _ = false
-
--- the operators of a BAT and a scalar
-abbrev pub takes_cell : Op → Bool
-takes_cell op.MarkT = true
-takes_cell op.Project = true
-takes_cell _ = false
-
--- the functions of cells
-abbrev pub is_function : Op → Bool
-is_function op.Plus = true
-is_function op.Minus = true
-is_function op.Times = true
-is_function op.Eq = true
-is_function op.Ne = true
-is_function op.Lt = true
-is_function op.Le = true
-is_function op.Gt = true
-is_function op.Ge = true
-is_function op.And = true
-is_function op.Or = true
-is_function op.Not = true
-is_function op.IsNil = true
+-- a form of functions of cells
+abbrev pub is_function : Form → Bool
+is_function form.TwoCells = true
+is_function form.OneCell = true
 is_function _ = false

@@ -1,11 +1,13 @@
 //! The operators by name, over plain values.
 ghost use Rattle.std.specs.Prelude.{◌≡◌, ◌∷◌, [], Some, IfOk, IsTrue};
+ghost use Rattle.cell_core.specs.declared.form.Form.TheVariants as form;
+ghost use Rattle.cell_core.specs.Forms.{form_of};
 ghost use Rattle.cell_core.specs.declared.operator.Value.TheVariants as value;
 ghost use Rattle.cell_core.specs.Operators.{operate};
 ghost use Rattle.cell_core.specs.declared.operator.Op.TheVariants as operator;
 ghost use Rattle.cell_core.specs.Pairs.{tails_of, is_true};
 ghost use Rattle.cell_calc.specs.Aggregates.{aggregate_of};
-ghost use Rattle.mal_meaning.specs.Slow.{takes_bat, takes_bats, takes_cell, is_function};
+ghost use Rattle.mal_meaning.specs.Slow.{is_function};
 
 use crate::calc::calculate;
 use crate::columns::tails;
@@ -14,19 +16,29 @@ use crate::relations::{
     cross, join, kdifference, kunion, mark_t, mirror, project, reverse, select, semijoin,
 };
 use cell_calc::{Aggregate, aggregate_cells};
-use cell_core::{Cell, Memory, Op, Sequence, Value};
+use cell_core::{Cell, Form, Memory, Op, Sequence, Value};
 use std::alloc::Global;
 
-/// An operator of one BAT.
-fn run_on_bat(alloc: Global, op: Op, b: &[(Cell, Cell)]) -> Result<Value, Memory>
-    requires { IsTrue (takes_bat op) }
-    ensures { IfOk result (λ out. Some out ≡ operate op (value.Bat b.now ∷ [])) }
+/// An operator that makes a BAT of one.
+fn run_on_bat(alloc: Global, op: Op, b: &[(Cell, Cell)]) -> Result<Sequence<(Cell, Cell)>, Memory>
+    requires { form_of op ≡ form.OneBat }
+    ensures { IfOk result (λ out. Some (value.Bat out) ≡ operate op (value.Bat b.now ∷ [])) }
 {
     match op {
-        Op::Reverse => reverse(alloc, b).map(Value::Bat),
-        Op::Mirror => mirror(alloc, b).map(Value::Bat),
-        Op::GroupNew => group_new(alloc, b).map(Value::Bat),
-        Op::GroupHeads => group_heads(alloc, b).map(Value::Bat),
+        Op::Reverse => reverse(alloc, b),
+        Op::Mirror => mirror(alloc, b),
+        Op::GroupNew => group_new(alloc, b),
+        Op::GroupHeads => group_heads(alloc, b),
+        _ => unreachable!(),
+    }
+}
+
+/// An operator that makes a scalar of a BAT.
+fn run_total(alloc: Global, op: Op, b: &[(Cell, Cell)]) -> Result<Cell, Memory>
+    requires { form_of op ≡ form.Total }
+    ensures { IfOk result (λ out. Some (value.One out) ≡ operate op (value.Bat b.now ∷ [])) }
+{
+    match op {
         Op::Count => fold_tails(alloc, Aggregate::Count, b),
         Op::Sum => fold_tails(alloc, Aggregate::Sum, b),
         Op::Min => fold_tails(alloc, Aggregate::Min, b),
@@ -36,11 +48,11 @@ fn run_on_bat(alloc: Global, op: Op, b: &[(Cell, Cell)]) -> Result<Value, Memory
 }
 
 /// An aggregate over the tails of a BAT.
-fn fold_tails(alloc: Global, which: Aggregate, b: &[(Cell, Cell)]) -> Result<Value, Memory>
-    ensures { IfOk result (λ out. out ≡ value.One (aggregate_of which (tails_of b.now))) }
+fn fold_tails(alloc: Global, which: Aggregate, b: &[(Cell, Cell)]) -> Result<Cell, Memory>
+    ensures { IfOk result (λ out. out ≡ aggregate_of which (tails_of b.now)) }
 {
     let cells = tails(alloc, b)?;
-    Ok(Value::One(aggregate_cells(which, cells.as_slice())?))
+    aggregate_cells(which, cells.as_slice())
 }
 
 /// An operator of two BATs.
@@ -50,7 +62,7 @@ fn run_on_bats(
     l: &[(Cell, Cell)],
     r: &[(Cell, Cell)],
 ) -> Result<Sequence<(Cell, Cell)>, Memory>
-    requires { IsTrue (takes_bats op) }
+    requires { form_of op ≡ form.TwoBats }
     ensures { IfOk result (λ out. Some (value.Bat out) ≡ operate op (value.Bat l.now ∷ value.Bat r.now ∷ [])) }
 {
     match op {
@@ -75,7 +87,7 @@ fn run_on_cell(
     b: &[(Cell, Cell)],
     cell: &Cell,
 ) -> Result<Sequence<(Cell, Cell)>, Memory>
-    requires { IsTrue (takes_cell op) }
+    requires { form_of op ≡ form.BatAndCell }
     ensures { IfOk result (λ out. Some (value.Bat out) ≡ operate op (value.Bat b.now ∷ value.One cell.now ∷ [])) }
 {
     match op {
@@ -112,26 +124,39 @@ fn run_select(alloc: Global, args: &[Value]) -> Result<Option<Value>, Memory>
 
 /// A function of cells, over scalars or by position.
 fn run_function(alloc: Global, op: Op, args: &[Value]) -> Result<Option<Value>, Memory>
-    requires { IsTrue (is_function op) }
+    requires { IsTrue (is_function (form_of op)) }
     ensures { IfOk result (λ out. out ≡ operate op args.now) }
 {
     calculate(alloc, op, args)
 }
 
-/// An operator of one BAT, over arguments that may be others.
+/// An operator that makes a BAT of one, over arguments that may be others.
 fn on_bat(alloc: Global, op: Op, args: &[Value]) -> Result<Option<Value>, Memory>
-    requires { IsTrue (takes_bat op) }
+    requires { form_of op ≡ form.OneBat }
     ensures { IfOk result (λ out. out ≡ operate op args.now) }
 {
     let [Value::Bat(b)] = args else {
         return Ok(None);
     };
-    Ok(Some(run_on_bat(alloc, op, b.as_slice())?))
+    let pairs = run_on_bat(alloc, op, b.as_slice())?;
+    Ok(Some(Value::Bat(pairs)))
+}
+
+/// An operator that makes a scalar of a BAT, over arguments that may be others.
+fn on_total(alloc: Global, op: Op, args: &[Value]) -> Result<Option<Value>, Memory>
+    requires { form_of op ≡ form.Total }
+    ensures { IfOk result (λ out. out ≡ operate op args.now) }
+{
+    let [Value::Bat(b)] = args else {
+        return Ok(None);
+    };
+    let cell = run_total(alloc, op, b.as_slice())?;
+    Ok(Some(Value::One(cell)))
 }
 
 /// An operator of two BATs, over arguments that may be others.
 fn on_bats(alloc: Global, op: Op, args: &[Value]) -> Result<Option<Value>, Memory>
-    requires { IsTrue (takes_bats op) }
+    requires { form_of op ≡ form.TwoBats }
     ensures { IfOk result (λ out. out ≡ operate op args.now) }
 {
     let [Value::Bat(l), Value::Bat(r)] = args else {
@@ -143,7 +168,7 @@ fn on_bats(alloc: Global, op: Op, args: &[Value]) -> Result<Option<Value>, Memor
 
 /// An operator of a BAT and a cell, over arguments that may be others.
 fn on_cell(alloc: Global, op: Op, args: &[Value]) -> Result<Option<Value>, Memory>
-    requires { IsTrue (takes_cell op) }
+    requires { form_of op ≡ form.BatAndCell }
     ensures { IfOk result (λ out. out ≡ operate op args.now) }
 {
     let [Value::Bat(b), Value::One(cell)] = args else {
@@ -158,40 +183,13 @@ fn on_cell(alloc: Global, op: Op, args: &[Value]) -> Result<Option<Value>, Memor
 pub(crate) fn run(alloc: Global, op: Op, args: &[Value]) -> Result<Option<Value>, Memory>
     ensures { IfOk result (λ out. out ≡ operate op args.now) }
 {
-    match op {
-        Op::Bind => Ok(None),
-        Op::Select => run_select(alloc, args),
-        Op::Reverse
-        | Op::Mirror
-        | Op::GroupNew
-        | Op::GroupHeads
-        | Op::Count
-        | Op::Sum
-        | Op::Min
-        | Op::Max => on_bat(alloc, op, args),
-        Op::MarkT | Op::Project => on_cell(alloc, op, args),
-        Op::Semijoin
-        | Op::Kdifference
-        | Op::Kunion
-        | Op::Cross
-        | Op::Join
-        | Op::GroupDerive
-        | Op::Subcount
-        | Op::Subsum
-        | Op::Submin
-        | Op::Submax => on_bats(alloc, op, args),
-        Op::Plus
-        | Op::Minus
-        | Op::Times
-        | Op::Eq
-        | Op::Ne
-        | Op::Lt
-        | Op::Le
-        | Op::Gt
-        | Op::Ge
-        | Op::And
-        | Op::Or
-        | Op::Not
-        | Op::IsNil => run_function(alloc, op, args),
+    match op.form() {
+        Form::Bind => Ok(None),
+        Form::Range => run_select(alloc, args),
+        Form::OneBat => on_bat(alloc, op, args),
+        Form::Total => on_total(alloc, op, args),
+        Form::BatAndCell => on_cell(alloc, op, args),
+        Form::TwoBats => on_bats(alloc, op, args),
+        Form::TwoCells | Form::OneCell => run_function(alloc, op, args),
     }
 }
