@@ -1,19 +1,18 @@
 -- Limits of a statement as it is read. A reader can't keep a number of more than 64 bits as a literal,
 -- and gives a Huge in its place, which no literal is.
-use Rattle.std.specs.Prelude.{ℕ, List, [], ◌∷◌, map, pos, Bool, true, false, ◌||◌, if◌then◌else◌}
+use Rattle.std.specs.Prelude.{ℕ, List, [], ◌∷◌, pos, Bool, true, false, ◌||◌, if◌then◌else◌}
 use Rattle.std.specs.List.{list_any}
-use Rattle.std.specs.Option.{option_map}
 use Rattle.cell_core.specs.declared.cell.Cell.{Cell}
 use Rattle.cell_core.specs.declared.cell.Cell.TheVariants as cell
 use Rattle.cell_core.specs.declared.table.Column.{Column}
 use Rattle.sql_grammar.specs.Refused.{is_out_of_range, is_wide_cell, has_wide_number, stmt_exprs, passed_limits}
+use Rattle.sql_tree.specs.Mapped.{column_mapped, place_mapped, key_mapped, item_mapped, set_mapped, query_mapped, stmt_mapped}
 use Rattle.sql_tree.specs.Tree.{ExprTree, CondTree, ItemTree, QueryTree, StmtTree}
 use Rattle.sql_tree.specs.Tree.ExprTree.{Literal, ColumnOf, Operator, AggregateAll, Aggregate}
 use Rattle.sql_tree.specs.Tree.CondTree.{Compare, Within, IsNull, Negation, Both, Either}
-use Rattle.sql_tree.specs.Tree.StmtTree.{CreateTable, DropTable, AlterTable, InsertInto, DeleteFrom, UpdateTable, Select, ExplainSelect}
+use Rattle.sql_tree.specs.Tree.StmtTree.{CreateTable, AlterTable, InsertInto, Select, ExplainSelect}
 use Rattle.sql_tree.specs.declared.token.Token.{Token}
 use Rattle.sql_tree.specs.declared.tree.Place.{Place}
-use Rattle.sql_tree.specs.declared.tree.Place.TheVariants.{Position, Named}
 use Rattle.sql_tree.specs.declared.tree.SortKey.{SortKey}
 
 -- what stands for a number outside the signed 64-bit range
@@ -84,10 +83,10 @@ cond_as_read (Both left right) = Both (cond_as_read left) (cond_as_read right)
 cond_as_read (Either left right) = Either (cond_as_read left) (cond_as_read right)
 
 abbrev pub item_as_read : ItemTree → ItemTree
-item_as_read item = record { expr = expr_as_read item.expr; alias = item.alias }
+item_as_read = item_mapped expr_as_read
 
 abbrev pub set_as_read : List ℕ × ExprTree → List ℕ × ExprTree
-set_as_read set = (set.0, expr_as_read set.1)
+set_as_read = set_mapped expr_as_read
 
 -- how a reader keeps a position or LIMIT, and the length of a VARCHAR, in its types of 64 and 32 bits
 pub record Kept : Type 0 where
@@ -95,40 +94,17 @@ pub record Kept : Type 0 where
   pub width : ℕ → ℕ
 
 abbrev pub place_as_read : Kept → Place → Place
-place_as_read kept (Position n) = Position (kept.number n)
-place_as_read kept (Named column) = Named column
+place_as_read kept = place_mapped kept.number
 
 abbrev pub key_as_read : Kept → SortKey → SortKey
-key_as_read kept key = record { at = place_as_read kept key.at; ascending = key.ascending }
+key_as_read kept = key_mapped kept.number
 
 abbrev pub column_as_read : Kept → Column → Column
-column_as_read kept column = record {
-  name = column.name;
-  kind = column.kind;
-  width = kept.width column.width;
-  not_null = column.not_null;
-  default = cell_as_read column.default;
-}
+column_as_read kept = column_mapped cell_as_read kept.width
 
 abbrev pub query_as_read : Kept → QueryTree → QueryTree
-query_as_read kept query = record {
-  distinct = query.distinct;
-  items = map item_as_read query.items;
-  froms = query.froms;
-  cond = option_map cond_as_read query.cond;
-  groups = query.groups;
-  having = option_map cond_as_read query.having;
-  keys = map (key_as_read kept) query.keys;
-  limit = option_map kept.number query.limit;
-}
+query_as_read kept = query_mapped expr_as_read cond_as_read kept.number
 
 -- a statement as it is read: its literals by `cell_as_read`, its other numbers as they are kept
 abbrev pub stmt_as_read : Kept → StmtTree → StmtTree
-stmt_as_read kept (CreateTable table columns) = CreateTable table (map (column_as_read kept) columns)
-stmt_as_read kept (DropTable table) = DropTable table
-stmt_as_read kept (AlterTable table column) = AlterTable table (column_as_read kept column)
-stmt_as_read kept (InsertInto table columns rows) = InsertInto table columns (map (map cell_as_read) rows)
-stmt_as_read kept (DeleteFrom table cond) = DeleteFrom table (option_map cond_as_read cond)
-stmt_as_read kept (UpdateTable table sets cond) = UpdateTable table (map set_as_read sets) (option_map cond_as_read cond)
-stmt_as_read kept (Select query) = Select (query_as_read kept query)
-stmt_as_read kept (ExplainSelect query) = ExplainSelect (query_as_read kept query)
+stmt_as_read kept = stmt_mapped cell_as_read expr_as_read cond_as_read kept.number kept.width

@@ -6,3 +6,4 @@ pub mod Pieces
 pub mod Tokens
 pub mod Tree
 pub mod Exprs
+pub mod Mapped
