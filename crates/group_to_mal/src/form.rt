@@ -5,15 +5,14 @@ ghost use Rattle.sql_tree.specs.Tree.{expr_tree, cond_tree};
 ghost use Rattle.sql_tree.specs.Tree.CondTree.{Within, IsNull};
 ghost use Rattle.mal_emit.specs.Emitters.{emits, followed};
 ghost use Rattle.mal_emit.specs.Phrases.{variables};
-ghost use Rattle.rows_to_mal.specs.Conjuncts.{comparison_of};
 ghost use Rattle.group_to_mal.specs.Values.{total_of, sub_of, first_of, argument as argument_of, whole_value as whole_value_of, group_value as group_value_of, of_first, is_grouped as is_grouped_tree, both_by, test_by, test_bat};
 ghost use Rattle.group_to_mal.specs.Forms.{value_over, is_bat_over};
 
 use crate::columns::{ItemValue, spread};
-use crate::operators::{one, two};
 use cell_core::{Arg, Cell, Instr, Memory, Op, Sequence};
-use rows_to_mal::{Tables, is_alone};
-use sql_tree::{AggOp, CmpOp, Cond, Expr};
+use mal_emit::{one, two};
+use rows_to_mal::{Tables, comparison, is_alone};
+use sql_tree::{AggOp, Cond, Expr};
 use std::alloc::Global;
 
 /// What values are over.
@@ -66,20 +65,6 @@ fn sub(f: AggOp) -> Op
         AggOp::Sum => Op::Subsum,
         AggOp::Min => Op::Submin,
         AggOp::Max => Op::Submax,
-    }
-}
-
-/// The operator that compares two values.
-fn comparison(operator: CmpOp) -> Op
-    ensures { result ≡ comparison_of operator }
-{
-    match operator {
-        CmpOp::Eq => Op::Eq,
-        CmpOp::Ne => Op::Ne,
-        CmpOp::Lt => Op::Lt,
-        CmpOp::Le => Op::Le,
-        CmpOp::Gt => Op::Gt,
-        CmpOp::Ge => Op::Ge,
     }
 }
 

@@ -13,7 +13,6 @@ mod compile;
 mod form;
 mod items;
 mod laws;
-mod operators;
 mod plan;
 mod shown;
 

@@ -36,7 +36,8 @@ module _ (db : Db) where
   unfolding instr_value
   result_is values instr = ap (λ os. option_and_then (value_over db instr.op) (all_or_none os)) (args_are values instr.args)
 
-  ran_is : (values : List Value) (instrs : List Instr) → ran (over db) values instrs ≡ run_from db values instrs
+  -- what instructions give behind values, by the machine and as the meaning of plans runs them
+  pub ran_is : (values : List Value) (instrs : List Instr) → ran (over db) values instrs ≡ run_from db values instrs
   ran_is values [] = refl
   ran_is values (i ∷ is) =
       ap (option_and_then (λ v. ran (over db) (values ++ v ∷ []) is)) (result_is values i)

@@ -8,7 +8,9 @@
 #![tactic(auto)]
 
 mod instruction;
+mod operators;
 mod phrases;
 
 pub use instruction::emit;
+pub use operators::{one, two};
 pub use phrases::{counted, gather, keep, selects};

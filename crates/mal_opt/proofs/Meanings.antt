@@ -29,6 +29,7 @@ use Rattle.mal_check.specs.Pointwise.{may_overflow}
 use Rattle.mal_emit.specs.Emitters.{Grown}
 use Rattle.mal_emit.specs.Machines.{Machine, over, typing, arg_in, args_in, result, ran}
 use Rattle.mal_emit.proofs.MachineLemmas.{none_after}
+use Rattle.mal_emit.proofs.PlanLemmas.{ran_is}
 use Rattle.mal_opt.specs.Live.{is_result, uses, is_shown}
 use Rattle.mal_opt.specs.Passes.{Passed, Step, renamed, renamed_instr, renamed_out, keeping, replaced, as_cell, constant_value, folding, sharing, dropping, passed, nothing, plan_of, through}
 use Rattle.mal_opt.proofs.Runs.{both_found, both_from, was_given, get_more, get_front, ran_no_more, ran_long, result_from}
@@ -141,35 +142,8 @@ module _ (db : Db) where
 
   -- ## Rows
 
-  arg_is : (values : List Value) (arg : Arg) → arg_in (over db) values arg ≡ arg_value (map Some values) arg
-  arg_is values (Const cell) = refl
-  arg_is values (Var n) = sym (ap (λ o. unwrap_or o None) (slice_get-map Some values n) ∙ again (slice_get values n))
-    where
-      again : (o : Option Value) → unwrap_or (option_map Some o) None ≡ o
-      again None = refl
-      again (Some v) = refl
-
-  args_are : (values : List Value) (args : List Arg) → map (arg_in (over db) values) args ≡ map (arg_value (map Some values)) args
-  args_are values [] = refl
-  args_are values (arg ∷ args) = ap (λ o. o ∷ map (arg_in (over db) values) args) (arg_is values arg) ∙ ap (λ r. arg_value (map Some values) arg ∷ r) (args_are values args)
-
-  result_is : (values : List Value) (instr : Instr) → result (over db) values instr ≡ instr_value db (map Some values) instr
-  unfolding instr_value
-  result_is values instr = ap (λ os. option_and_then (value_over db instr.op) (all_or_none os)) (args_are values instr.args)
-
-  ran_is : (values : List Value) (instrs : List Instr) → ran (over db) values instrs ≡ run_from db values instrs
-  ran_is values [] = refl
-  ran_is values (i ∷ is) =
-      ap (option_and_then (λ v. ran (over db) (values ++ v ∷ []) is)) (result_is values i)
-      ∙ again (instr_value db (map Some values) i) (λ v. ran_is (values ++ v ∷ []) is)
-    where
-      again : (o : Option Value) → ((v : Value) → ran (over db) (values ++ v ∷ []) is ≡ run_from db (values ++ v ∷ []) is)
-          → option_and_then (λ v. ran (over db) (values ++ v ∷ []) is) o ≡ option_and_then (λ v. run_from db (values ++ v ∷ []) is) o
-      again None h = refl
-      again (Some v) h = h v
-
   pub rows_are : (plan : Plan) → plan_rows plan db ≡ option_map (output_rows plan.out) (ran (over db) [] plan.instrs)
-  rows_are plan = sym (rows_of_run plan db) ∙ sym (ap (option_map (output_rows plan.out)) (ran_is [] plan.instrs))
+  rows_are plan = sym (rows_of_run plan db) ∙ sym (ap (option_map (output_rows plan.out)) (ran_is db [] plan.instrs))
 
   value_found : (values : List Value) (arg : Arg) (v : Value) → arg_in (over db) values arg ≡ Some v → value_in values arg ≡ v
   value_found values (Const cell) v e = same_Some (One cell) v e

@@ -205,7 +205,7 @@ impl<'a> Tables<'a> {
     }
 
     /// The place of the column that a conjunct is a condition of, where that is one of this table.
-    pub(crate) fn place_in(&self, table: usize, cond: &Cond) -> Option<usize>
+    pub(crate) fn place_for(&self, table: usize, cond: &Cond) -> Option<usize>
         ensures { result ≡ option_and_then (λ at. if at.0.0 == table then Some at.0.1 else None) (read_cond self.now.called (cond_tree cond.now)) }
     {
         match self.cond_place(cond) {
@@ -284,7 +284,7 @@ impl<'a> Tables<'a> {
     ) -> Result<Option<u32>, Memory>
         ensures { IfOk result (λ next. (more : List CondTree) → (candidates_from source.now next (conds_of self.now table more)).run instrs.new ≡ (candidates_from source.now so_far (conds_of self.now table (cond_tree cond.now ∷ more))).run instrs.old) }
     {
-        let Some(place) = self.place_in(table, cond) else {
+        let Some(place) = self.place_for(table, cond) else {
             return Ok(so_far);
         };
         let next = match so_far {

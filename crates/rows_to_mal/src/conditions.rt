@@ -8,15 +8,14 @@ ghost use Rattle.mal_emit.specs.Emitters.{emits, followed};
 ghost use Rattle.mal_emit.specs.Phrases.{variables, selects, keep as keep_of};
 ghost use Rattle.rows_to_mal.specs.Conjuncts.{expr_value, comparison_of, cond_value as cond_value_of, is_cond_alone as is_cond_alone_tree, spread_value as spread_value_of, keep_true as keep_true_of};
 
-use crate::operators::{one, two};
 use crate::tables::{Tables, is_alone, row_at};
 use cell_core::{Arg, Cell, Instr, Memory, Op, Sequence};
-use mal_emit::{counted, emit, gather};
+use mal_emit::{counted, emit, gather, one, two};
 use sql_tree::{CmpOp, Cond, Expr};
 use std::alloc::Global;
 
 /// The operator that computes a comparison.
-fn comparison(operator: CmpOp) -> Op
+pub fn comparison(operator: CmpOp) -> Op
     ensures { result ≡ comparison_of operator }
 {
     match operator {

@@ -14,14 +14,13 @@ mod compile;
 mod conditions;
 mod joins;
 mod laws;
-mod operators;
 mod parts;
 mod reading;
 mod rows;
 mod tables;
 
 pub use compile::{Rows, called_in_from, called_tables, compile_rows, compile_write};
-pub use conditions::is_cond_alone;
+pub use conditions::{comparison, is_cond_alone};
 pub use joins::{all_rows, constant, spread_rows};
 pub use laws::{
     numbers_are_choices, statements_keep_rows, updates_overflow, write_plans_run, writes_are_meant,

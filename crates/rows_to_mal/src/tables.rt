@@ -13,9 +13,8 @@ ghost use Rattle.rows_to_mal.specs.Candidates.{kind_word, bind as bind_of, calc_
 ghost use Rattle.rows_to_mal.specs.Joins.{column_value as column_value_of};
 ghost use Rattle.rows_to_mal.specs.Conjuncts.{no_source, place_value as place_value_of, expr_value as expr_value_of, is_alone as is_alone_tree};
 
-use crate::operators::two;
 use cell_core::{Arg, Cell, Column, Instr, Kind, Memory, Op, Sequence, Word, word_of};
-use mal_emit::emit;
+use mal_emit::{emit, two};
 use sql_semantics::{Called, Found, Source, find_column};
 use sql_tree::{ArithOp, ColRef, Expr};
 use std::alloc::Global;

@@ -1,9 +1,9 @@
-//! Operators of values.
+//! Operators whose results are arguments of others.
 ghost use Rattle.std.specs.Prelude.{◌≡◌, [], ◌∷◌, IfOk};
 ghost use Rattle.mal_emit.specs.Emitters.{emits};
 
+use crate::instruction::emit;
 use cell_core::{Arg, Instr, Memory, Op, Sequence};
-use mal_emit::emit;
 use std::alloc::Global;
 
 /// Adds an operator, and answers its result as an argument of others.
@@ -14,20 +14,15 @@ fn add(instrs: &mut Sequence<Instr>, op: Op, args: Vec<Arg>) -> Result<Arg, Memo
     Ok(Arg::Var(number))
 }
 
-/// Adds an operator of one value.
-pub(crate) fn one(
-    alloc: Global,
-    instrs: &mut Sequence<Instr>,
-    op: Op,
-    of: Arg,
-) -> Result<Arg, Memory>
+/// Adds an operator of one value, and answers its result as an argument.
+pub fn one(alloc: Global, instrs: &mut Sequence<Instr>, op: Op, of: Arg) -> Result<Arg, Memory>
     ensures { IfOk result (λ arg. (instrs.new, arg) ≡ (emits op (of ∷ [])).run instrs.old) }
 {
     add(instrs, op, vec![in alloc; of]?)
 }
 
-/// Adds an operator of two values.
-pub(crate) fn two(
+/// Adds an operator of two values, and answers its result as an argument.
+pub fn two(
     alloc: Global,
     instrs: &mut Sequence<Instr>,
     op: Op,
