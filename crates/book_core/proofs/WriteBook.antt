@@ -1,6 +1,6 @@
 -- A write leaves a book.
 use Rattle.std.proofs.Common.{◌≡◌, ℕ, ◌+◌, ◌≤◌, ◌<◌, ◌^◌, List, ◌∷◌, ◌++◌, [], map, Bool, true, false, cond, refl, ap, sym, ◌∙◌, subst, arith, length}
-use Rattle.std.specs.Prelude.{◌==◌, Some, Result, Ok, Err, IfOk}
+use Rattle.std.specs.Prelude.{◌==◌, None, Some, Result, Ok, Err, IfOk}
 use Rattle.std.specs.List.{AllByRecursion}
 use Rattle.std.specs.Vec.{vec_capacity}
 use Rattle.std.proofs.lemmas.Bool.{eq-eqb}
@@ -12,6 +12,8 @@ use Rattle.sql_grammar.specs.Formed.{IsFormed}
 use Rattle.sql_semantics.specs.Effect.{effect}
 use Rattle.sql_semantics.specs.declared.refusal.Refusal.{Refusal}
 use Rattle.sql_semantics.specs.declared.refusal.Reply.{Reply}
+use Rattle.sql_semantics.specs.declared.refusal.Reply.TheVariants.{Refused}
+use Rattle.sql_semantics.specs.Refusals.{refusal_number}
 use Rattle.pool_policy.specs.declared.entry.PoolEntry.{PoolEntry}
 use Rattle.pool_policy.specs.declared.entry.Who.{Who}
 use Rattle.pool_policy.specs.declared.options.PoolOptions.{PoolOptions}
@@ -28,7 +30,7 @@ use Rattle.run_log.specs.declared.event.Event.{Event}
 use Rattle.run_log.specs.declared.event.Act.TheVariants as act
 use Rattle.run_log.specs.declared.event.Totals.{Totals}
 use Rattle.run_log.specs.Events.{event_tree, log_tree}
-use Rattle.run_log.specs.Fold.{LogState, after_commit, backs_of, moved, run_of, write_load}
+use Rattle.run_log.specs.Fold.{LogState, after, after_commit, backs_of, moved, run_of, write_load}
 use Rattle.run_log.specs.Laws.{IsCommit}
 use Rattle.run_log.specs.Totals.{AreSmall, with_pool, with_work, with_write, with_written}
 use Rattle.run_log.specs.Touches.{touched_by}
@@ -39,9 +41,9 @@ use Rattle.store_changes.specs.declared.outcome.Ready.{Ready}
 use Rattle.book_core.specs.declared.book.Book.TheInside.{Inside}
 use Rattle.book_core.specs.BookView.{BookView, event_of, state_of}
 use Rattle.book_core.specs.Kept.{IsBook, book_shown}
-use Rattle.book_core.specs.Writes.{IsOutcome, reply_code, reply_count, return_work, write_work, written_by}
+use Rattle.book_core.specs.Writes.{IsOutcome, IsUntouched, reply_code, reply_count, return_work, write_work, written_by}
 use Rattle.book_core.proofs.BookLemmas.{IsQuiet, at_of, later_of, next_state, plain_state, quiet_book, still_book}
-use Rattle.book_core.proofs.WriteLemmas.{absent_version, commit_fits, few_written, never_refused, short_back}
+use Rattle.book_core.proofs.WriteLemmas.{absent_version, commit_fits, few_written, never_refused, refused_code, short_back}
 
 -- what is prepared over a store comes to this over the state of its book
 pub outcome_of : (b : Inside) → IsBook b → {seen : BookView} → book_shown b ≡ seen → (stmt : StmtTree) (ready : Result Ready Refusal) (load : ℕ) → IsFormed stmt → effect stmt b.store.db ≡ outcome_over ready b.store.db
@@ -286,10 +288,31 @@ module _ (s : LogState) (stmt : StmtTree) where
       work_by (reply_code reply == 0)
       ∙ ap (λ (r : Reply). s.totals.work + (write_load stmt s.db + cond (reply_code r == 0) (write_of (touched_by stmt s.db) (s.at + 1) s.pool).work 0)) is
 
+-- the state behind one event more
+state_behind : (old new : BookView) (event : Event) → new.options ≡ old.options → new.log ≡ old.log ++ event ∷ [] → state_of new ≡ after (state_of old) (event_tree event)
+state_behind old new event options log =
+    ap (λ (o : PoolOptions). run_of o (log_tree new.log)) options ∙ ap (run_of old.options) (logged_tree old.log new.log event log) ∙ run_more old.options (log_tree old.log) (event_tree event)
+
+-- the state behind a text that is refused
+pub text_keeps : (old new : BookView) (who : Who) (code : ℕ) → new.options ≡ old.options → new.log ≡ old.log ++ event_of who (act.Write None code 0) ∷ [] → IsUntouched (state_of old) (state_of new)
+text_keeps old new who code options log =
+    subst (λ (s : LogState). IsUntouched (state_of old) s) (sym (state_behind old new (event_of who (act.Write None code 0)) options log)) (record { db = refl; versions = refl; pool = refl })
+
 -- a write adds its work to the totals
 pub work_added : (old new : BookView) (who : Who) (stmt : Stmt) (reply : Reply) → new.options ≡ old.options → new.log ≡ old.log ++ written_by who stmt reply ∷ [] → reply ≡ (effect (stmt_tree stmt) (state_of old).db).1
     → (state_of new).totals.work ≡ (state_of old).totals.work + write_work (stmt_tree stmt) (state_of old)
 work_added old new who stmt reply options log is =
-    let event : Event = written_by who stmt reply in
-    ap (λ (s : LogState). s.totals.work) (ap (λ (o : PoolOptions). run_of o (log_tree new.log)) options ∙ ap (run_of old.options) (logged_tree old.log new.log event log) ∙ run_more old.options (log_tree old.log) (event_tree event))
-    ∙ work_after (state_of old) (stmt_tree stmt) reply is
+    ap (λ (s : LogState). s.totals.work) (state_behind old new (written_by who stmt reply) options log) ∙ work_after (state_of old) (stmt_tree stmt) reply is
+
+-- ## What a refused write leaves
+
+module _ (s : LogState) (stmt : StmtTree) where
+  untouched_by : (b : Bool) → b ≡ false → IsUntouched s (cond b (committed s stmt) (loaded s stmt))
+  untouched_by true accepted = cc
+  untouched_by false refused = record { db = refl; versions = refl; pool = refl }
+
+pub refused_keeps : (old new : BookView) (who : Who) (stmt : Stmt) (refusal : Refusal) → new.options ≡ old.options → new.log ≡ old.log ++ written_by who stmt (Refused refusal) ∷ []
+    → IsUntouched (state_of old) (state_of new)
+refused_keeps old new who stmt refusal options log =
+    let kept = untouched_by (state_of old) (stmt_tree stmt) (refusal_number refusal == 0) (refused_code refusal) in
+    subst (λ (s : LogState). IsUntouched (state_of old) s) (sym (state_behind old new (written_by who stmt (Refused refusal)) options log)) (record { db = kept.db; versions = kept.versions; pool = kept.pool })

@@ -46,6 +46,14 @@ return_work stmt s = if reply_code (effect stmt s.db).1 == 0 then (write_of (tou
 abbrev pub write_work : StmtTree → LogState → ℕ
 write_work stmt s = write_load stmt s.db + return_work stmt s
 
+-- ## What stays
+
+-- tables, versions and pool are as they were
+pub record IsUntouched (before after : LogState) : Type 0 where
+  pub db : after.db ≡ before.db
+  pub versions : after.versions ≡ before.versions
+  pub pool : after.pool ≡ before.pool
+
 -- ## What a statement comes to over the tables of a state
 
 -- its effect and its load; and what is prepared touches what the write does, and leaves other columns the versions that they have

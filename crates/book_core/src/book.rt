@@ -6,6 +6,7 @@ ghost use Rattle.run_log.specs.declared.event.Act.TheVariants as act;
 ghost use Rattle.run_log.specs.Events.{log_tree, looked_of};
 ghost use Rattle.book_core.specs.BookView.{event_of, is_open, state_of};
 ghost use Rattle.book_core.specs.Lawful.{IsLawful};
+ghost use Rattle.book_core.specs.Writes.{IsUntouched};
 
 use crate::events::{SESSIONS, count_event, event, looked, make_room, push_event};
 use cell_core::Memory;
@@ -120,11 +121,12 @@ impl Book {
         let _ = push_event(&mut self.log, event(who, Act::End { code }));
     }
 
-    /// A text that is refused.
+    /// A text that is refused. Tables, versions and pool stay as they were.
     pub fn refuse(&mut self, who: Who, refusal: &Refusal) -> Result<(), Memory>
         requires { who.session < 17 }
         ensures options { self.new.options ≡ self.old.options }
         ensures logged { OnOk result (self.new.log ≡ self.old.log ++ event_of who (act.Write None (refusal_number refusal.now) 0) ∷ []) }
+        ensures refused { OnOk result (IsUntouched (state_of self.old) (state_of self.new)) }
         ensures same { OnErr result (self.new ≡ self.old) }
     {
         make_room(&mut self.log)?;

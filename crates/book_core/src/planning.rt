@@ -15,6 +15,7 @@ use cell_core::Memory;
 use mal_meaning::Plan;
 use plan_queries::plan_query;
 use recycle_mark::marks;
+use run_log::ACCEPTED;
 use sql_check::{CheckError, check};
 use sql_semantics::Refusal;
 use sql_tree::{Query, Stmt};
@@ -79,7 +80,7 @@ pub(crate) fn code_of(outcome: &Result<Plan, Refusal>) -> u8
     ensures { result ≡ code_in outcome.now }
 {
     match outcome {
-        Ok(_) => 0,
+        Ok(_) => ACCEPTED,
         Err(refusal) => refusal.number(),
     }
 }

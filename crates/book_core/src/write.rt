@@ -7,19 +7,20 @@ ghost use Rattle.run_log.specs.Totals.{AreSmall, with_work, with_written};
 ghost use Rattle.run_log.specs.Touches.{touched_by};
 ghost use Rattle.sql_grammar.specs.Formed.{IsFormed};
 ghost use Rattle.sql_semantics.specs.Effect.{effect};
+ghost use Rattle.sql_semantics.specs.declared.refusal.Refusal.{Refusal as RefusalSeen};
 ghost use Rattle.sql_semantics.specs.declared.refusal.Reply.TheVariants as answer;
 ghost use Rattle.sql_tree.specs.Tree.{stmt_tree};
 ghost use Rattle.store_changes.specs.Outcomes.{is_change, reply_with};
 ghost use Rattle.store_changes.specs.Work.{Counts, write_lost};
 ghost use Rattle.book_core.specs.BookView.{state_of};
-ghost use Rattle.book_core.specs.Writes.{IsOutcome, reply_code, reply_count, return_work, write_work, written_by};
+ghost use Rattle.book_core.specs.Writes.{IsOutcome, IsUntouched, reply_code, reply_count, return_work, write_work, written_by};
 
 use crate::book::Book;
 use crate::events::{count_event, event, make_room, push_event};
 use bat_core::Operate;
 use cell_core::{Memory, Steps};
 use pool_policy::{PoolEntry, Who};
-use run_log::{Act, StmtText, Totals};
+use run_log::{ACCEPTED, Act, StmtText, Totals};
 use score_hook::Scorer;
 use sql_semantics::{Refusal, Reply};
 use sql_tree::Stmt;
@@ -34,7 +35,7 @@ fn code_of(reply: &Reply) -> u8
 {
     match reply {
         Reply::Refused(refusal) => refusal.number(),
-        Reply::Done | Reply::Rows(_) => 0,
+        Reply::Done | Reply::Rows(_) => ACCEPTED,
     }
 }
 
@@ -114,7 +115,8 @@ impl Book {
     /// comes back with the new rows; what goes to make room is scored by the scorer that is lent, which
     /// is of the kind of the options. One event. The counter rises by the work that the write adds to the
     /// totals, in pairs of cells; where the plan of a DELETE or an UPDATE overflows, by at most its load
-    /// more. The log keeps the statement's text. Where memory runs out, nothing is done.
+    /// more. The log keeps the statement's text. A refused statement leaves tables, versions and pool as
+    /// they were. Where memory runs out, nothing is done.
     pub fn write<E: Operate, L: Ledger>(
         &mut self,
         alloc: Global,
@@ -134,6 +136,7 @@ impl Book {
         ensures logged { IfOk result (λ reply. self.new.log ≡ self.old.log ++ written_by who stmt.now reply ∷ []) }
         ensures work { OnOk result ((state_of self.new).totals.work ≡ (state_of self.old).totals.work + write_work (stmt_tree stmt.now) (state_of self.old)) }
         ensures counted { IfOk result (λ reply. Counts steps.old steps.new (write_work (stmt_tree stmt.now) (state_of self.old)) (write_lost (stmt_tree stmt.now) (state_of self.old).db)) }
+        ensures refused { (refusal : RefusalSeen) → result ≡ Ok (answer.Refused refusal) → IsUntouched (state_of self.old) (state_of self.new) }
         ensures same { OnErr result (self.new ≡ self.old) }
     {
         let outcome = prepare(alloc, &self.store, stmt, kernel, steps)?;

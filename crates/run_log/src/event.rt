@@ -97,6 +97,9 @@ impl Drop for Act {
     }
 }
 
+/// The code of what isn't refused. Any other is the number of a refusal.
+pub const ACCEPTED: u8 = 0;
+
 /// What a look finds, as it is logged.
 #[derive(Clone, Copy, PartialEq, Eq)]
 pub enum Looked {
@@ -116,7 +119,11 @@ impl Act {
         ensures { option_map stmt_tree (option_copied result) ≡ committed (act_tree self.now) }
     {
         match self {
-            Act::Write { stmt, code: 0, .. } => stmt.as_ref(),
+            Act::Write {
+                stmt,
+                code: ACCEPTED,
+                ..
+            } => stmt.as_ref(),
             _ => None,
         }
     }

@@ -13,6 +13,6 @@ mod laws;
 mod stmt_text;
 mod totals;
 
-pub use event::{Act, Event, Looked, Totals};
+pub use event::{ACCEPTED, Act, Event, Looked, Totals};
 pub use laws::{logs_tell, steps_keep};
 pub use stmt_text::StmtText;

@@ -15,6 +15,7 @@ use book_core::Book;
 use cell_core::Memory;
 use lineage_key::Key;
 use query_run::{Offer, Query, Step};
+use run_log::ACCEPTED;
 use score_hook::Scorer;
 use std::alloc::Global;
 
@@ -143,6 +144,6 @@ fn code_of(shown: &Shown) -> u8
 {
     match shown {
         Shown::Refused(refusal) => refusal.number(),
-        _ => 0,
+        _ => ACCEPTED,
     }
 }

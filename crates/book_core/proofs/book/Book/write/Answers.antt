@@ -7,7 +7,7 @@ use Rattle.sql_semantics.specs.Effect.{effect}
 use Rattle.sql_semantics.specs.declared.refusal.Reply.{Reply}
 use Rattle.book_core.specs.BookView.{state_of}
 use Rattle.book_core.specs.Writes.{IsOutcome, return_work, written_by}
-use Rattle.book_core.proofs.WriteBook.{both_ok, outcome_of, work_added, write_counted}
+use Rattle.book_core.proofs.WriteBook.{both_ok, outcome_of, refused_keeps, work_added, write_counted}
 use Rattle.book_core.proofs.book.Book.write.Goals as goal
 
 pub settle-requires-clause-outcome : goal.settle-requires-clause-outcome
@@ -28,3 +28,9 @@ returns-clause-counted g c =
     on_ok_weaker c.settle.result
     (λ more. write_counted c.self.inside c.self.invariant c.self.view_is (stmt_tree c.args.stmt.now) c.in_ok-outcome.outcome.work c.args.steps.now c.prepare.new.steps c.settle.new.steps c.in_ok-outcome.ensures.work c.in_ok-outcome.ensures.counted more)
     (subst (λ (s : Stmt). OnOk c.settle.result (c.settle.new.steps ≡ c.prepare.new.steps + return_work (stmt_tree s) (state_of c.args.self.now))) c.in_ok-text.ensures c.settle.ensures.counted)
+
+pub returns-clause-refused : goal.returns-clause-refused
+returns-clause-refused g c refusal is =
+    refused_keeps c.args.self.now c.settle.new.self c.args.who c.args.stmt.now refusal c.settle.ensures.options
+    (subst (λ r. IfOk r (λ (reply : Reply). c.settle.new.self.log ≡ c.args.self.now.log ++ written_by c.args.who c.args.stmt.now reply ∷ [])) is
+    (subst (λ (s : Stmt). IfOk c.settle.result (λ (reply : Reply). c.settle.new.self.log ≡ c.args.self.now.log ++ written_by c.args.who s reply ∷ [])) c.in_ok-text.ensures c.settle.ensures.logged))
