@@ -1,5 +1,5 @@
 -- A day is read as it was printed.
-use Rattle.std.proofs.Common.{◌≡◌, inl, inr, ℕ, zero, suc, ◌+◌, ◌-◌, ◌<◌, ◌≤◌, true, false, List, refl, sym, ap, ◌∙◌, subst, arith, rules, ℤ, pos, negsuc, ◌+ℤ◌, ◌-ℤ◌, ◌≤ℤ◌, unsigned_abs, ◌*ℤ◌, int_div, FitsSigned, w8, w16, w64, to_z, of_z, to_z-of_z}
+use Rattle.std.proofs.Common.{◌≡◌, inl, inr, ℕ, zero, suc, ◌+◌, ◌-◌, ◌<◌, ◌≤◌, Bool, true, false, ◌↔◌, IsTrue, List, refl, sym, ap, ◌∙◌, subst, arith, rules, ℤ, pos, negsuc, ◌+ℤ◌, ◌-ℤ◌, ◌≤ℤ◌, unsigned_abs, ◌*ℤ◌, int_div, FitsSigned, w8, w16, w64, to_z, of_z, to_z-of_z}
 use Rattle.std.proofs.lemmas.Int.{by_lt_z, to_z_pos}
 use Rattle.std.proofs.lemmas.Bool.{cases_lt, lt-ltb, le-ltb}
 use Rattle.jiff_core.specs.declared.civil.date.Date.{Date}
@@ -180,6 +180,11 @@ is_printed_day-true n h = search rules
 is_printed_day-false : (n : ℤ) → ¬ IsPrintedDay n → is_printed_day n ≡ false
 is_printed_day-false n h = search rules
 
+-- what tells whether it is one is the test
+pub is_printed_day-told : (b : Bool) (n : ℤ) → (IsTrue b ↔ IsPrintedDay n) → b ≡ is_printed_day n
+is_printed_day-told true n h = sym (is_printed_day-true n (h.0 refl))
+is_printed_day-told false n h = sym (is_printed_day-false n (λ printed. let yes = h.1 printed in cc))
+
 -- the text of a day of the years 1 to 9999 is that of the date that was counted off
 day_text-found : (n : ℤ) → IsPrintedDay n → day_text n ≡ date_text (place_of_year n).period (place_of_month (place_of_year n)).period ((place_of_month (place_of_year n)).before + 1)
 unfolding day_text
@@ -325,6 +330,10 @@ day_in-day_text n h =
 printed_date : (text : List ℕ) → IsDayText text → IsPrintedDate (year_in text) (month_in text) (day_of_month_in text)
 printed_date text h =
     record { year_in_range = omega (arith, signed_arith, h.after_year_zero, h.date.0); month_in_range = h.date.1; day_in_range = h.date.2 }
+
+-- the day that a text names is a printed one
+pub day_in-printed : (text : List ℕ) → IsDayText text → is_printed_day (day_in text) ≡ true
+day_in-printed text h = is_printed_day-true (day_in text) (days_from_civil-printed (year_in text) (month_in text) (day_of_month_in text) (printed_date text h))
 
 -- a text that names a date is the text of that date
 date_text-parts : (text : List ℕ) → IsDayText text → date_text (year_in text) (month_in text) (day_of_month_in text) ≡ text

@@ -1,7 +1,7 @@
 ghost use Rattle.std.specs.Prelude.{◌≡◌, ◌↔◌, ℕ, ◌+◌, ◌-◌, ◌*◌, ◌<◌, ℤ, pos, ◌≤ℤ◌, unsigned_abs, List, length, IsTrue, OnSome, IfSome, IfNone};
 ghost use Rattle.jiff.specs.Words.{epoch_day};
 ghost use Rattle.jiff_core.specs.Calendar.{IsCivilDate, days_from_civil};
-ghost use Rattle.cell_core.specs.Day.{HasTwoDigits, number_at, IsDayText, day_in, IsPrintedDay, IsPrintedDate, day_text, date_text, two_digits};
+ghost use Rattle.cell_core.specs.Day.{HasTwoDigits, number_at, IsDayText, day_in, IsPrintedDay, is_printed_day, IsPrintedDate, day_text, date_text, two_digits};
 
 use jiff::ToSpan;
 use jiff::civil::{Date, date};
@@ -80,9 +80,11 @@ const FIRST_PRINTED_DAY: i32 = -719_162;
 /// The last one, 9999-12-31.
 const LAST_PRINTED_DAY: i32 = 2_932_896;
 
-/// Whether the date of a day lies in the years 0001 to 9999.
-pub(crate) fn is_printed_day(day: i32) -> bool
-    ensures { IsTrue result ↔ IsPrintedDay day }
+/// Whether a day prints as its date, which lies in the years 0001 to 9999. Any other day prints as its
+/// number, and no text of a date names it.
+pub fn is_printed_day(day: i32) -> bool
+    ensures test { result ≡ is_printed_day day }
+    ensures day { IsTrue result ↔ IsPrintedDay day }
 {
     (FIRST_PRINTED_DAY..=LAST_PRINTED_DAY).contains(&day)
 }

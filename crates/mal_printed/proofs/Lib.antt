@@ -6,6 +6,5 @@ pub mod NamedLemmas
 pub mod PlanPrinted
 pub mod StandsLemmas
 pub mod ReadAgain
-pub mod DayTests
 pub mod Utf8Lemmas
 pub mod AgainLemmas

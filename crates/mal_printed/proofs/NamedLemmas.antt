@@ -8,6 +8,7 @@ use Rattle.std.proofs.lemmas.Bool.Decides.{nat_tests}
 use Rattle.std.proofs.lemmas.Option.{slice_get_within}
 use Rattle.std.proofs.lemmas.Str.{IsUtf8-from_is_utf8}
 use Rattle.jiff_core.specs.Calendar.{days_from_civil}
+use Rattle.cell_core.specs.Calc.{fits_int}
 use Rattle.cell_core.specs.Day.{is_printed_day, IsPrintedDay}
 use Rattle.cell_core.specs.Kinds.{ValueType}
 use Rattle.cell_core.specs.declared.cell.Cell.{Cell}
@@ -21,7 +22,7 @@ use Rattle.mal_check.proofs.RunLemmas.{types_given}
 use Rattle.mal_check.specs.Checked.{arg_type, arg_types, instr_type, fault_or_else, types_from, instr_types, passes, is_known, is_bit, are_below, is_empty, out_fault, fault_with, plan_fault}
 use Rattle.mal_check.specs.declared.error.PlanError.{PlanError}
 use Rattle.mal_check.specs.declared.error.PlanError.TheVariants.{UnknownVar, KindsDiffer, WrongCount, NoOutput}
-use Rattle.mal_printed.specs.PrintedReads.{each_arg, is_dated, days_have_text, is_within, fits_kind, counts_fit, values_fit}
+use Rattle.mal_printed.specs.PrintedReads.{each_arg, is_dated, days_have_text, is_below_limit, fits_kind, counts_fit, values_fit}
 
 -- ## Tests and what they tell
 
@@ -56,9 +57,13 @@ pub record IsNamedPlan (plan : Plan) : Type 0 where
 below_limit : (n limit : ℕ) → nat_lt n limit ≡ true → n < limit
 below_limit n limit h = grind (arith, nat_tests)
 
-within_limit : (limit : ℕ) (z : ℤ) → is_within limit z ≡ true → IsWithin limit z
+within_limit : (limit : ℕ) (z : ℤ) → is_below_limit limit z ≡ true → IsWithin limit z
 within_limit limit (pos n) h = below_limit n limit h
 within_limit limit (negsuc n) h = below_limit n limit h
+
+within_int : (z : ℤ) → fits_int z ≡ true → IsWithin (2 ^ 63) z
+within_int (pos n) h = grind (arith, nat_tests)
+within_int (negsuc n) h = grind (arith, nat_tests)
 
 printed_day : (day : ℤ) → is_printed_day day ≡ true → IsPrintedDay day
 printed_day day h =
@@ -69,7 +74,7 @@ printed_day day h =
 
 constant_has : (c : Cell) → fits_kind (Const c) ≡ true → is_dated (Const c) ≡ true → HasText c
 constant_has cell.Nil fits dated = tt
-constant_has (cell.Int n) fits dated = within_limit (2 ^ 63) n fits
+constant_has (cell.Int n) fits dated = within_int n fits
 constant_has (cell.Huge n) fits dated = within_limit (2 ^ 127) n fits
 constant_has (cell.Text text) fits dated = IsUtf8-from_is_utf8 text fits
 constant_has (cell.Day day) fits dated = printed_day day dated

@@ -4,7 +4,7 @@ use Rattle.std.specs.Prelude.{IfSome, IsUtf8, IsAscii}
 use Rattle.std.specs.Char.{IsAsciiDigit}
 use Rattle.std.specs.Fmt.{signed_decimal}
 use Rattle.std.specs.List.{list_all, list_any, AllByRecursion}
-use Rattle.std.proofs.lemmas.Bool.{and_parts, cases_lt}
+use Rattle.std.proofs.lemmas.Bool.{and_parts, cases_lt, and_from}
 use Rattle.std.proofs.lemmas.Bool.Decides.{nat_tests}
 use Rattle.std.proofs.lemmas.Fmt.{IsAscii-decimal_wide}
 use Rattle.std.proofs.lemmas.Str.{IsUtf8-append, IsUtf8-from_ascii, IsUtf8-nil}
@@ -16,7 +16,6 @@ use Rattle.cell_core.specs.declared.cell.Cell.TheVariants as cell
 use Rattle.cell_core.specs.declared.operator.Arg.{Arg}
 use Rattle.cell_core.specs.declared.operator.Arg.TheVariants.{Const, Var}
 use Rattle.cell_core.specs.declared.operator.Instr.{Instr}
-use Rattle.mal_check.proofs.ListTests.{and_both}
 use Rattle.mal_meaning.specs.declared.plan.Plan.{Plan}
 use Rattle.mal_print.specs.Canon.{quoted, constant_text, variable, arg_text, further_text, args_text, ending, is_bat, instr_gives_bat, module_of, start_text, line_text, lines_text, keep_text, key_text, limit_text, cols_text, plan_text}
 use Rattle.mal_tokens.specs.Operators.{function_word}
@@ -49,7 +48,7 @@ word : (bs : List ℕ) → is_word bs ≡ true → IsUtf8 bs
 word [] h = cc
 word (b ∷ bs) h =
     let parts = and_parts (is_letter b) (list_all is_word_byte bs) h in
-    IsUtf8-from_ascii (b ∷ bs) (ascii_word_bytes (b ∷ bs) (and_both (is_word_byte b) (list_all is_word_byte bs) (letter_word_byte b parts.0) parts.1))
+    IsUtf8-from_ascii (b ∷ bs) (ascii_word_bytes (b ∷ bs) (and_from (is_word_byte b) (list_all is_word_byte bs) (letter_word_byte b parts.0) parts.1))
 
 number : (n : ℕ) → n < 10 ^ 64 → IsUtf8 (decimal n)
 number n h = IsUtf8-from_ascii (decimal n) (IsAscii-decimal_wide n h)
@@ -116,7 +115,7 @@ day_small (a ∷ b ∷ c ∷ d ∷ e ∷ f ∷ g ∷ h ∷ i ∷ j ∷ []) is =
     (small h (i ∷ j ∷ []) (dash h is.dash_before_day) (small i (j ∷ []) (digit i is.day_digits.0) (small j [] (digit j is.day_digits.1) refl)))))))))
   where
     small : (b : ℕ) (bs : List ℕ) → nat_lt b 128 ≡ true → are_small bs ≡ true → are_small (b ∷ bs) ≡ true
-    small b bs h more = and_both (nat_lt b 128) (are_small bs) h more
+    small b bs h more = and_from (nat_lt b 128) (are_small bs) h more
 
     digit : (b : ℕ) → IsAsciiDigit b → nat_lt b 128 ≡ true
     digit b h = grind (arith, nat_tests)

@@ -6,9 +6,9 @@ use Rattle.std.specs.Str.Parse.{AllDigits, IsNumeral, digits_value}
 use Rattle.std.proofs.lemmas.Bool.Decides.{nat_tests}
 use Rattle.std.proofs.lemmas.Fmt.{decimal_digit, decimal_is_IsNumeral_wide}
 use Rattle.std.proofs.lemmas.Str.Parse.{digit_from_value}
+use Rattle.std.proofs.lemmas.Bool.{and_from}
 use Rattle.text_bytes.specs.Classes.{is_letter, is_digit, is_word_byte, begins}
 use Rattle.text_bytes.proofs.ByteLemmas.{digits_word_bytes}
-use Rattle.mal_check.proofs.ListTests.{and_both}
 use Rattle.mal_print.specs.Canon.{quoted, variable}
 use Rattle.mal_tokens.specs.Tokens.{AreTokens, spelled}
 use Rattle.mal_tokens.specs.Tokens.Part.{Letters, Number, Quoted, Sign}
@@ -25,7 +25,7 @@ is_word (b ∷ bs) = is_letter b && list_all is_word_byte bs
 
 pub word_printed : (word : List ℕ) → is_word word ≡ true → Printed word (λ ts. Name word ∷ ts)
 word_printed [] is = cc
-word_printed (b ∷ bs) is = record { printed = λ rest ts cut h. put (Letters b bs) rest ts (and_both (is_letter b && list_all is_word_byte bs) (ends rest) is h) cut }
+word_printed (b ∷ bs) is = record { printed = λ rest ts cut h. put (Letters b bs) rest ts (and_from (is_letter b && list_all is_word_byte bs) (ends rest) is h) cut }
 
 -- ## Numbers
 
@@ -34,7 +34,7 @@ digit_is b h = grind (arith, nat_tests)
 
 digits_are : (bs : List ℕ) → AllDigits 10 bs → list_all is_digit bs ≡ true
 digits_are [] h = refl
-digits_are (b ∷ bs) h = and_both (is_digit b) (list_all is_digit bs) (digit_is b (digit_from_value b h.0)) (digits_are bs h.1)
+digits_are (b ∷ bs) h = and_from (is_digit b) (list_all is_digit bs) (digit_is b (digit_from_value b h.0)) (digits_are bs h.1)
 
 -- where no byte of a word begins the rest, no digit does
 ends_digits : (rest : List ℕ) → ends rest ≡ true → not (begins is_digit rest) ≡ true
@@ -48,7 +48,7 @@ ends_digits (b ∷ rest) h = no_digit (is_letter b) (is_digit b) h
 -- digits that write a number
 pub numeral_printed : (ds : List ℕ) → IsNumeral 10 ds → Printed ds (λ ts. Digits ds ∷ ts)
 numeral_printed [] is = absurd (omega (arith, is.0))
-numeral_printed (b ∷ bs) is = record { printed = λ rest ts cut h. put (Number b bs) rest ts (and_both (is_digit b && list_all is_digit bs) (not (begins is_digit rest)) (digits_are (b ∷ bs) is.1) (ends_digits rest h)) cut }
+numeral_printed (b ∷ bs) is = record { printed = λ rest ts cut h. put (Number b bs) rest ts (and_from (is_digit b && list_all is_digit bs) (not (begins is_digit rest)) (digits_are (b ∷ bs) is.1) (ends_digits rest h)) cut }
 
 pub decimal_printed : (n : ℕ) → n < 10 ^ 64 → Printed (decimal n) (λ ts. Digits (decimal n) ∷ ts)
 decimal_printed n h = numeral_printed (decimal n) (decimal_is_IsNumeral_wide n h).0

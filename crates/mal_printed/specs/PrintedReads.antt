@@ -3,6 +3,7 @@ use Rattle.std.specs.Prelude.{◌≡◌, ℕ, ◌^◌, length, Bool, true, ◌&&
 use Rattle.std.specs.List.{list_all}
 use Rattle.std.specs.Option.{option_map_or}
 use Rattle.std.specs.Str.{is_utf8}
+use Rattle.cell_core.specs.Calc.{fits_int}
 use Rattle.cell_core.specs.Day.{is_printed_day}
 use Rattle.cell_core.specs.declared.cell.Cell.TheVariants as cell
 use Rattle.cell_core.specs.declared.operator.Arg.{Arg}
@@ -31,14 +32,14 @@ days_have_text plan = each_arg is_dated plan
 -- ## Values that the program can hold
 
 -- a number from the negative of the limit up to below the limit
-abbrev pub is_within : ℕ → ℤ → Bool
-is_within limit (pos n) = nat_lt n limit
-is_within limit (negsuc n) = nat_lt n limit
+abbrev pub is_below_limit : ℕ → ℤ → Bool
+is_below_limit limit (pos n) = nat_lt n limit
+is_below_limit limit (negsuc n) = nat_lt n limit
 
 -- a number in the range of its kind, a text of characters, or another argument
 abbrev pub fits_kind : Arg → Bool
-fits_kind (Const (cell.Int n)) = is_within (2 ^ 63) n
-fits_kind (Const (cell.Huge n)) = is_within (2 ^ 127) n
+fits_kind (Const (cell.Int n)) = fits_int n
+fits_kind (Const (cell.Huge n)) = is_below_limit (2 ^ 127) n
 fits_kind (Const (cell.Text text)) = is_utf8 text
 fits_kind (Const (cell.Oid n)) = nat_lt n (2 ^ 64)
 fits_kind other = true

@@ -2,7 +2,7 @@ ghost use Rattle.std.specs.Prelude.{◌≡◌, ℕ, ◌^◌, ◌&&◌, Bool, Non
 ghost use Rattle.std.specs.List.{list_all};
 ghost use Rattle.std.specs.Option.{option_map_or};
 ghost use Rattle.std.specs.Str.{is_utf8};
-ghost use Rattle.cell_core.specs.Day.{is_printed_day};
+ghost use Rattle.cell_core.specs.Calc.{fits_int};
 ghost use Rattle.cell_core.specs.declared.operator.Arg.TheVariants.{Const};
 ghost use Rattle.cell_core.specs.declared.operator.Instr.{Instr as InstrSeen};
 ghost use Rattle.mal_check.specs.Checked.{plan_fault};
@@ -11,6 +11,7 @@ ghost use Rattle.mal_printed.specs.PrintedReads as printed;
 ghost use Rattle.mal_text.specs.Reads.{ReadsAs};
 
 use cell_core::{Arg, Cell, Instr, Word};
+use cell_text::is_printed_day;
 use mal_meaning::Plan;
 
 /// Whether each day of a plan is one from 0001-01-01 to 9999-12-31, and so has a text. Where it is, and
@@ -90,7 +91,7 @@ fn cell_has_text(cell: &Cell) -> bool
     ensures fits { printed.fits_kind (Const cell.now) ≡ true }
 {
     match cell {
-        Cell::Day(day) => day_has_text(*day),
+        Cell::Day(day) => is_printed_day(*day),
         Cell::Int(number) => {
             known_int(*number);
             true
@@ -111,18 +112,6 @@ fn cell_has_text(cell: &Cell) -> bool
     }
 }
 
-/// The first day of the years that a text of a date can name, 0001-01-01.
-const FIRST_DAY: i32 = -719_162;
-
-/// The last one, 9999-12-31.
-const LAST_DAY: i32 = 2_932_896;
-
-fn day_has_text(day: i32) -> bool
-    ensures { result ≡ is_printed_day day }
-{
-    FIRST_DAY <= day && day <= LAST_DAY
-}
-
 /// A text is one of characters. The calls of this kind compute nothing: they tell what is known of the
 /// values of a type.
 fn known_text(text: &Word)
@@ -132,13 +121,13 @@ fn known_text(text: &Word)
 }
 
 fn known_int(number: i64)
-    ensures { printed.is_within (2 ^ 63) number ≡ true }
+    ensures { fits_int number ≡ true }
 {
     let _ = number;
 }
 
 fn known_huge(number: i128)
-    ensures { printed.is_within (2 ^ 127) number ≡ true }
+    ensures { printed.is_below_limit (2 ^ 127) number ≡ true }
 {
     let _ = number;
 }

@@ -1,5 +1,5 @@
 -- What the grammar says of small statements: a derivation, its tokens and its tree.
-use Rattle.std.proofs.Common.{◌≡◌, ℕ, ◌+◌, [], ◌∷◌, true, false, Some, None, pos, negsuc, codes, refl, lit<}
+use Rattle.std.proofs.Common.{◌≡◌, ℕ, ◌+◌, [], ◌∷◌, true, false, Some, None, pos, negsuc, codes, refl}
 use Rattle.cell_core.specs.declared.cell.Cell.TheVariants as cell
 use Rattle.cell_core.specs.declared.cell.Kind.TheVariants as kind
 use Rattle.sql_grammar.specs.Grammar.{sign, ExprRule, FactorRule, OperandRule, expr_of, write_expr}
@@ -80,7 +80,7 @@ deletion_stands_for = refl
 
 -- it is formed, and with an aggregate for a it isn't
 deletion_is_formed : IsFormed (stmt_of deletion)
-deletion_is_formed = record { shaped = (((tt, lit< tt), (tt, lit< tt)), (tt, lit< tt)); kept = refl; within = refl }
+deletion_is_formed = record { shaped = (((tt, refl), (tt, refl)), (tt, refl)); kept = refl; within = refl }
 
 aggregates_are_not_formed : IsFormed (DeleteFrom (codes "t") (Some (Compare compare.Eq (AggregateAll aggregate.Count) (number 1)))) → ⊥
 aggregates_are_not_formed formed = formed.shaped.0

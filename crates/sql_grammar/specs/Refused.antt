@@ -1,8 +1,9 @@
 -- What is refused in SQL text, step by step. A text without tokens is a syntax error first of all. Then
 -- comes the first token to which a rule of the profile applies, then levels past the limit or a text
 -- that no derivation gives, then what the profile leaves out of derived statements, then the limits.
-use Rattle.std.specs.Prelude.{◌≡◌, ℕ, zero, suc, ◌+◌, ◌-◌, ◌<◌, ◌==◌, ◌^◌, List, [], ◌∷◌, ◌++◌, length, map, sum, take, Bool, true, false, not, ◌&&◌, ◌||◌, nat_le, nat_lt, if◌then◌else◌, bytes_eq, slice_get, codes, Option, Some, None, ℤ, pos, neg_ℤ, int_le}
+use Rattle.std.specs.Prelude.{◌≡◌, ℕ, zero, suc, ◌+◌, ◌-◌, ◌<◌, ◌==◌, List, [], ◌∷◌, ◌++◌, length, map, sum, take, Bool, true, false, not, ◌&&◌, ◌||◌, nat_le, nat_lt, if◌then◌else◌, bytes_eq, slice_get, codes, Option, Some, None, ℤ, pos}
 use Rattle.std.specs.List.{list_any}
+use Rattle.cell_core.specs.Calc.{fits_int}
 use Rattle.cell_core.specs.declared.cell.Cell.{Cell}
 use Rattle.cell_core.specs.declared.cell.Cell.TheVariants as cell
 use Rattle.cell_core.specs.declared.table.Column.{Column}
@@ -179,7 +180,7 @@ stmt_exprs other = []
 
 -- a number outside the signed 64-bit range
 abbrev pub is_out_of_range : ℤ → Bool
-is_out_of_range z = not (int_le (neg_ℤ (pos (2 ^ 63))) z && int_le z (pos (2 ^ 63 - 1)))
+is_out_of_range z = not (fits_int z)
 
 abbrev pub is_wide_cell : Cell → Bool
 is_wide_cell (cell.Int number) = is_out_of_range number

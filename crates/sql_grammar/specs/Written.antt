@@ -1,5 +1,6 @@
 -- Plain expressions, which hold no aggregate and whose cells literals give, and what is made of them.
-use Rattle.std.specs.Prelude.{◌≡◌, ℕ, ◌<◌, ◌^◌, List, pos, negsuc}
+use Rattle.std.specs.Prelude.{◌≡◌, ℕ, List, IsTrue}
+use Rattle.cell_core.specs.Calc.{fits_int}
 use Rattle.cell_core.specs.Day.{IsDayText, day_in}
 use Rattle.cell_core.specs.declared.cell.Cell.{Cell}
 use Rattle.cell_core.specs.declared.cell.Cell.TheVariants as cell
@@ -11,8 +12,7 @@ use Rattle.sql_tree.specs.Tree.CondTree.{Compare, Within, IsNull, Negation, Both
 -- a cell that a literal gives
 abbrev pub IsLiteral : Cell → Type 0
 IsLiteral cell.Nil = Unit {0}
-IsLiteral (cell.Int (pos n)) = n < 2 ^ 63
-IsLiteral (cell.Int (negsuc n)) = n < 2 ^ 63
+IsLiteral (cell.Int n) = IsTrue (fits_int n)
 IsLiteral (cell.Text text) = Unit {0}
 IsLiteral (cell.Day day) = (text : List ℕ) × IsDayText text × (day_in text ≡ day)
 IsLiteral other = ⊥

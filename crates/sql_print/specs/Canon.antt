@@ -1,6 +1,6 @@
 -- The canonical text of a statement, which is how it is printed.
-use Rattle.std.specs.Prelude.{ℕ, ◌==◌, List, [], ◌∷◌, ◌++◌, Bool, ◌&&◌, map, flat_map, if◌then◌else◌, Option, Some, None, codes, decimal, ℤ, pos, negsuc, int_le}
-use Rattle.cell_core.specs.Day.{day_text}
+use Rattle.std.specs.Prelude.{ℕ, ◌==◌, List, [], ◌∷◌, ◌++◌, map, flat_map, if◌then◌else◌, Option, Some, None, codes, decimal}
+use Rattle.cell_core.specs.Day.{day_text, is_printed_day}
 use Rattle.cell_core.specs.CellText.{cell_text}
 use Rattle.cell_core.specs.declared.cell.Cell.{Cell}
 use Rattle.cell_core.specs.declared.cell.Cell.TheVariants as cell
@@ -54,14 +54,10 @@ type_text kind.Oid width = codes "OID"
 abbrev pub quoted_text : ℕ → List ℕ → List ℕ
 quoted_text mark text = mark ∷ flat_map (doubled mark) text ++ mark ∷ []
 
--- a day from 0001-01-01 to 9999-12-31, which a literal can name
-abbrev pub is_dated : ℤ → Bool
-is_dated day = int_le (negsuc 719161) day && int_le day (pos 2932896)
-
 -- a literal; a cell that no literal gives prints as its text
 abbrev pub literal_text : Cell → List ℕ
 literal_text (cell.Text text) = quoted_text 39 text
-literal_text (cell.Day day) = if is_dated day then codes "DATE '" ++ day_text day ++ codes "'" else cell_text (cell.Day day)
+literal_text (cell.Day day) = if is_printed_day day then codes "DATE '" ++ day_text day ++ codes "'" else cell_text (cell.Day day)
 literal_text cell.Nil = codes "NULL"
 literal_text other = cell_text other
 

@@ -4,7 +4,7 @@ ghost use Rattle.sql_tree.specs.Tree.{cond_tree, expr_tree};
 
 use crate::print_parts::write_bytes;
 use cell_core::{Cell, Memory};
-use cell_text::write_cell;
+use cell_text::{is_printed_day, write_cell};
 use sql_tree::{AggOp, ArithOp, CmpOp, ColRef, Cond, Expr, write_name, write_quoted};
 
 /// Appends a condition.
@@ -143,7 +143,7 @@ pub(crate) fn write_literal(literal: &Cell, out: &mut Vec<u8>) -> Result<(), Mem
 {
     match literal {
         Cell::Text(text) => write_quoted(b'\'', text.text(), out),
-        Cell::Day(day) if is_dated(*day) => {
+        Cell::Day(day) if is_printed_day(*day) => {
             write_bytes(b"DATE '", out)?;
             write_cell(literal, out)?;
             write_bytes(b"'", out)
@@ -151,13 +151,6 @@ pub(crate) fn write_literal(literal: &Cell, out: &mut Vec<u8>) -> Result<(), Mem
         Cell::Nil => write_bytes(b"NULL", out),
         _ => write_cell(literal, out),
     }
-}
-
-/// Whether a literal can name the day: it lies in the years 0001 to 9999.
-fn is_dated(day: i32) -> bool
-    ensures { result ≡ canon.is_dated day }
-{
-    -719_162 <= day && day <= 2_932_896
 }
 
 fn write_arith(op: ArithOp, out: &mut Vec<u8>) -> Result<(), Memory>

@@ -16,6 +16,7 @@ use Rattle.sql_grammar.specs.Grammar.LiteralRule.{PlainDigits, MinusDigits, Stri
 use Rattle.sql_grammar.specs.Statements.{alias_of, item_of, items_of, source_of, joined_source, on_conds, with_where, place_of, is_ascending, key_of, query_of, kind_of, length_of, width_of, is_required, default_of, coldef_of, set_of, row_of, stmt_of}
 use Rattle.sql_grammar.specs.Grammar.{number_of}
 use Rattle.sql_grammar.specs.Written.{IsLiteral}
+use Rattle.sql_printed.proofs.NumberLemmas.{below_limit, negative_below_limit}
 use Rattle.sql_printed.specs.CanonRules.{canon_all, canon_some, canon_any, canon_option, canon_name, canon_literal, column_rule, canon_reference, factor_rule, operator_rule, canon_factor, canon_operand, canon_expr, canon_value, canon_value_operand, canon_cmp, canon_cond, canon_part, canon_where, canon_having, canon_alias, canon_item, canon_items, canon_source, canon_join, canon_column_of, canon_place, canon_order, canon_key, canon_limit, canon_sources, canon_from, canon_query, canon_type, canon_end, canon_coldef, canon_listed_name, canon_row, canon_set, canon_stmt}
 use Rattle.sql_printed.specs.Printable.{EachOfSome, IfThere, IsName, IsReference, IsPrintableExpr, IsPrintableValue, IsPrintableCond, IsPrintableWhere, IsPrintableHaving, IsPrintableItem, IsPrintableSource, IsPrintablePlace, IsPrintableKey, IsPrintableLimit, IsPrintableQuery, IsPrintableKind, IsPrintableColumn, IsPrintableSet, IsPrintable}
 use Rattle.sql_printed.specs.Laws.{PrintedDerives}
@@ -64,8 +65,8 @@ digits_again : (n : ℕ) → n ≤ 2 ^ 63 → digits_value 10 (decimal n) ≡ n
 digits_again n h = (decimal_is_IsNumeral n (omega (arith, h))).1
 
 literal_again : (literal : Cell) (is : IsLiteral literal) → literal_cell (canon_literal literal is) ≡ literal
-literal_again (cell.Int (pos n)) is = ap (λ k. cell.Int (pos k)) (digits_again n (omega (arith, is)))
-literal_again (cell.Int (negsuc n)) is = ap (λ k. cell.Int (neg_ℤ (pos k))) (digits_again (suc n) (omega (arith, is)))
+literal_again (cell.Int (pos n)) is = ap (λ k. cell.Int (pos k)) (digits_again n (omega (arith, below_limit n is)))
+literal_again (cell.Int (negsuc n)) is = ap (λ k. cell.Int (neg_ℤ (pos k))) (digits_again (suc n) (omega (arith, negative_below_limit n is)))
 literal_again (cell.Text text) is = refl
 literal_again (cell.Day day) is = ap cell.Day is.2
 literal_again cell.Nil is = refl
@@ -206,7 +207,7 @@ column_again : (column : ColRef) (is : IsReference column) → column_of (canon_
 column_again column is = reference_again column
 
 place_again : (place : Place) → IsPrintablePlace place → place_of (canon_place place) ≡ place
-place_again (Position n) is = ap Position (digits_again n (omega (arith, is)))
+place_again (Position n) is = ap Position (digits_again n (omega (arith, below_limit n is)))
 place_again (Named column) is = ap Named (reference_again column)
 
 order_again : (ascending : Bool) → is_ascending (canon_order ascending) ≡ ascending
@@ -218,7 +219,7 @@ key_again key is = λ i. record { at = place_again key.at is i; ascending = orde
 
 limit_again : (limit : Option ℕ) → IfThere IsPrintableLimit limit → option_map number_of (canon_limit limit) ≡ limit
 limit_again None is = refl
-limit_again (Some n) is = ap Some (digits_again n (omega (arith, is)))
+limit_again (Some n) is = ap Some (digits_again n (omega (arith, below_limit n is)))
 
 query_again : (query : QueryTree) (is : IsPrintableQuery query) → query_of (canon_query query is) ≡ query
 query_again query is =

@@ -36,7 +36,7 @@ abbrev deletion : StmtTree
 deletion = DeleteFrom (codes "t") (Some (Both (Compare compare.Lt (Operator arithmetic.Minus (number 1) (minus 4)) (column (codes "select"))) (Negation (Compare compare.Eq (column (codes "a")) (Literal (cell.Text (codes "it's")))))))
 
 deletion_is : IsPrintable deletion
-deletion_is = (refl, (((omega arith, omega arith), (tt, refl)), ((tt, refl), tt)))
+deletion_is = (refl, (((refl, refl), (tt, refl)), ((tt, refl), tt)))
 
 deletion_text : canonical deletion ≡ codes "DELETE FROM t WHERE (1 - -5) < \"select\" AND (NOT a = 'it''s')"
 unfolding keyword_of keywords is_unsupported_word unsupported_words digits
@@ -69,8 +69,8 @@ query_is = record {
   cond_is = tt;
   groups_are = ((refl, refl), tt);
   having_is = tt;
-  keys_are = (omega arith, tt);
-  limit_is = omega arith;
+  keys_are = (refl, tt);
+  limit_is = refl;
 }
 
 query_text : canonical query ≡ codes "SELECT DISTINCT COUNT(*) AS n FROM t, t AS u GROUP BY u.a ORDER BY 1 DESC LIMIT 10"
@@ -108,7 +108,7 @@ abbrev addition : StmtTree
 addition = AlterTable (codes "t") (record { name = codes "add"; kind = kind.Int; width = 0; not_null = false; default = cell.Int (negsuc 0) })
 
 addition_is : IsPrintable addition
-addition_is = (refl, (refl, refl, omega arith))
+addition_is = (refl, (refl, refl, refl))
 
 addition_text : canonical addition ≡ codes "ALTER TABLE t ADD COLUMN \"add\" INT DEFAULT -1"
 unfolding keyword_of keywords is_unsupported_word unsupported_words digits

@@ -9,6 +9,7 @@ use Rattle.sql_grammar.specs.Grammar.{LiteralRule, FactorRule, aggregate_word, w
 use Rattle.sql_grammar.specs.Grammar.AggRule.{CountAll, AggregateOf}
 use Rattle.sql_grammar.specs.Grammar.LiteralRule.{PlainDigits, MinusDigits, StringLiteral, DateLiteral, NullLiteral}
 use Rattle.sql_grammar.specs.Written.{IsLiteral}
+use Rattle.sql_printed.proofs.NumberLemmas.{below_limit, negative_below_limit}
 use Rattle.sql_printed.proofs.CutLemmas.{Middle, Printed, lead_then, then_tail, then_middle, middle_then, from_lead, spaced_mark, dot_mark, star_mark, in_parentheses}
 use Rattle.sql_printed.proofs.DayLemmas.{prints_day}
 use Rattle.sql_printed.proofs.WordLemmas.{key, key_blank, spaced_key, digits_printed, minus_printed, string_printed, name_printed}
@@ -46,8 +47,8 @@ day_printed day text is same =
     subst (λ bs. Printed bs (λ ts. Key word.Date ∷ Text text ∷ ts)) whole (lead_then (key_blank word.Date) (string_printed text))
 
 pub literal_printed : (literal : Cell) (is : IsLiteral literal) → Printed (literal_text literal) (write_literal (canon_literal literal is))
-literal_printed (cell.Int (pos n)) is = decimal_printed n (omega (arith, is))
-literal_printed (cell.Int (negsuc n)) is = minus_printed (decimal (suc n)) (decimal_is_IsNumeral (suc n) (omega (arith, is))).0
+literal_printed (cell.Int (pos n)) is = decimal_printed n (omega (arith, below_limit n is))
+literal_printed (cell.Int (negsuc n)) is = minus_printed (decimal (suc n)) (decimal_is_IsNumeral (suc n) (omega (arith, negative_below_limit n is))).0
 literal_printed (cell.Text text) is = string_printed text
 literal_printed (cell.Day day) is = day_printed day is.0 is.1 is.2
 literal_printed cell.Nil is = key word.Null

@@ -1,8 +1,7 @@
 -- Expressions and conditions that tokens with names derive, and that have no number past its range.
-use Rattle.std.proofs.Common.{◌≡◌, List, [], ◌∷◌, map, true, false, ℤ, pos, negsuc, refl, arith}
+use Rattle.std.proofs.Common.{◌≡◌, List, [], ◌∷◌, map, true, false, pos, refl}
 use Rattle.std.specs.List.{AllByRecursion}
 use Rattle.std.proofs.lemmas.Bool.{or_parts}
-use Rattle.std.proofs.lemmas.Bool.Decides.{nat_tests}
 use Rattle.cell_core.specs.declared.cell.Cell.{Cell}
 use Rattle.cell_core.specs.declared.cell.Cell.TheVariants as cell
 use Rattle.sql_grammar.specs.Grammar.{sign, number_of, negative_of, write_literal, literal_cell, ExprRule, TermsRule, TermRule, FactorsRule, FactorRule, OperandRule, write_expr, write_terms, write_term, write_factors, write_factor, write_operand, sign_op, expr_of, terms_of, term_of, factors_of, factor_of, operand_of, write_value, value_of, write_cmp, TestRule, CondRule, ConjsRule, ConjRule, UnitsRule, UnitRule, write_more, write_enclosed, write_test, cmp_of, write_cond, write_conjs, write_conj, write_units, write_unit, members_of, test_of, cond_of, conjs_of, conj_of, units_of, unit_of, write_where, where_of}
@@ -22,8 +21,9 @@ use Rattle.sql_grammar.specs.Grammar.ConjRule.{Conjunction}
 use Rattle.sql_grammar.specs.Grammar.UnitsRule.{NoUnit, MoreUnits}
 use Rattle.sql_grammar.specs.Grammar.UnitRule.{NotUnit, CondUnit, TestUnit}
 use Rattle.sql_tree.specs.Exprs.{cond_exprs}
-use Rattle.sql_grammar.specs.Refused.{is_out_of_range, is_wide_cell, has_wide_literal}
+use Rattle.sql_grammar.specs.Refused.{is_wide_cell, has_wide_literal}
 use Rattle.sql_grammar.specs.Written.{IsLiteral}
+use Rattle.sql_printed.proofs.NumberLemmas.{in_range}
 use Rattle.sql_printed.proofs.NamedLemmas.{Named, IsTold, all_parts, column_told}
 use Rattle.sql_printed.specs.Printable.{IsPrintableExpr, IsPrintableValue, IsPrintableCond}
 use Rattle.sql_tree.specs.Tree.{ExprTree, CondTree}
@@ -39,10 +39,6 @@ use Rattle.sql_tree.specs.declared.tree.CmpOp.{CmpOp}
 use Rattle.sql_tree.specs.declared.tree.CmpOp.TheVariants as compare
 
 -- ## Literals
-
-pub in_range : (z : ℤ) → is_out_of_range z ≡ false → IsLiteral (cell.Int z)
-in_range (pos n) h = grind (arith, nat_tests)
-in_range (negsuc n) h = grind (arith, nat_tests)
 
 abbrev pub FineLiteral : Cell → Type 0
 FineLiteral c = is_wide_cell c ≡ false → IsLiteral c

@@ -1,4 +1,5 @@
 mod Examples
+pub mod NumberLemmas
 pub mod DerivedLemmas
 pub mod DayLemmas
 pub mod CutLemmas

@@ -4,6 +4,7 @@ use Rattle.std.specs.Prelude.{if◌then◌else◌}
 use Rattle.std.specs.List.{AllByRecursion}
 use Rattle.sql_grammar.specs.Grammar.{write_more, write_some, write_behind, write_column, write_cond, write_value, write_where}
 use Rattle.sql_grammar.specs.Statements.{write_alias, write_item, write_items, write_source, write_joins, write_place, write_order, write_key, write_digits, write_distinct, write_query}
+use Rattle.sql_printed.proofs.NumberLemmas.{below_limit}
 use Rattle.sql_printed.proofs.CutLemmas.{Lead, Middle, Printed, Tail, lead_lead, lead_then, then_tail, tails, no_tail, middle_lead, middle_then, from_lead, spaced, comma, star_mark}
 use Rattle.sql_printed.proofs.ExprPrinted.{decimal_printed, reference_printed, value_printed, where_printed, having_printed}
 use Rattle.sql_printed.proofs.WordLemmas.{key, key_blank, spaced_key, name_printed}
@@ -79,7 +80,7 @@ column_printed : (column : ColRef) (is : IsReference column) → Printed (refere
 column_printed column is = reference_printed column is
 
 place_printed : (place : Place) → IsPrintablePlace place → Printed (place_text place) (write_place (canon_place place))
-place_printed (Position n) is = decimal_printed n (omega (arith, is))
+place_printed (Position n) is = decimal_printed n (omega (arith, below_limit n is))
 place_printed (Named column) is = reference_printed column is
 
 order_printed : (ascending : Bool) → Tail (if ascending then [] else codes " DESC") (write_order (canon_order ascending))
@@ -91,7 +92,7 @@ key_printed k is = then_tail (place_printed k.at is) (order_printed k.ascending)
 
 limit_printed : (limit : Option ℕ) → IfThere IsPrintableLimit limit → Tail (limit_text limit) (write_behind write_digits (word.Limit ∷ []) (canon_limit limit))
 limit_printed None is = no_tail
-limit_printed (Some n) is = middle_then (spaced_key word.Limit) (decimal_printed n (omega (arith, is)))
+limit_printed (Some n) is = middle_then (spaced_key word.Limit) (decimal_printed n (omega (arith, below_limit n is)))
 
 pub query_printed : (query : QueryTree) (is : IsPrintableQuery query) → Printed (query_text query) (write_query (canon_query query is))
 query_printed query is =

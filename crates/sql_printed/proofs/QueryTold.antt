@@ -11,7 +11,8 @@ use Rattle.sql_grammar.specs.Statements.ItemsRule.{AllColumns, SomeItems}
 use Rattle.sql_grammar.specs.Statements.JoinRule.{CommaSource, JoinOn}
 use Rattle.sql_grammar.specs.Statements.PlaceRule.{PositionKey, ColumnKey}
 use Rattle.sql_grammar.specs.Statements.OrderRule.{NoOrder, AscOrder, DescOrder}
-use Rattle.sql_printed.proofs.ExprTold.{in_range, NotWide, value_told, FineCond, FineWhere, FineHaving, where_told, having_told}
+use Rattle.sql_printed.proofs.NumberLemmas.{in_range}
+use Rattle.sql_printed.proofs.ExprTold.{NotWide, value_told, FineCond, FineWhere, FineHaving, where_told, having_told}
 use Rattle.sql_printed.proofs.NamedLemmas.{Named, all_parts, all_mapped, all_meet, none_of, IsTold, some_told, any_told, option_told, name_told, column_told}
 use Rattle.sql_printed.specs.Printable.{EachOfSome, IfThere, IsName, IsReference, IsPrintableExpr, IsPrintableValue, IsPrintableCond, IsPrintableWhere, IsPrintableItem, IsPrintableSource, IsPrintableKey, IsPrintableLimit, IsPrintableQuery}
 use Rattle.sql_tree.specs.Tree.{ExprTree, CondTree, ItemTree, QueryTree}

@@ -1,7 +1,8 @@
 -- Statements that can be printed and read again: those that texts are read as. Each name has a byte at
 -- least, each number is in its range, and the parts are those that the grammar derives.
-use Rattle.std.specs.Prelude.{◌≡◌, ℕ, ◌<◌, ◌^◌, ◌==◌, List, [], ◌∷◌, length, not, Option, Some, None, IsTrue}
+use Rattle.std.specs.Prelude.{◌≡◌, ℕ, ◌<◌, ◌==◌, List, [], ◌∷◌, length, not, Option, Some, None, pos, IsTrue}
 use Rattle.std.specs.List.{AllByRecursion}
+use Rattle.cell_core.specs.Calc.{fits_int}
 use Rattle.cell_core.specs.declared.cell.Kind.{Kind}
 use Rattle.cell_core.specs.declared.cell.Kind.TheVariants as kind
 use Rattle.cell_core.specs.declared.table.Column.{Column}
@@ -90,7 +91,7 @@ IsPrintableSource source = IsName source.table × IfThere IsName source.alias
 
 -- what ORDER BY names: a position, or a column
 abbrev pub IsPrintablePlace : Place → Type 0
-IsPrintablePlace (Position n) = n < 2 ^ 63
+IsPrintablePlace (Position n) = IsTrue (fits_int (pos n))
 IsPrintablePlace (Named column) = IsReference column
 
 -- a key of ORDER BY
@@ -99,7 +100,7 @@ IsPrintableKey key = IsPrintablePlace key.at
 
 -- a LIMIT
 abbrev pub IsPrintableLimit : ℕ → Type 0
-IsPrintableLimit n = n < 2 ^ 63
+IsPrintableLimit n = IsTrue (fits_int (pos n))
 
 -- a query with its tables, of which there is one at least
 pub record IsPrintableQuery (query : QueryTree) : Type 0 where
