@@ -1,7 +1,7 @@
 -- Distinct elements and their numbers, one element on.
 use Rattle.std.proofs.Common.{◌≡◌, ℕ, suc, ◌+◌, ◌<◌, Bool, true, false, not, ◌||◌, cond, List, [], ◌∷◌, ◌++◌, length, map, Option, None, Some, refl, sym, ap, subst, ◌∙◌, arith, append_assoc, append-nil}
 use Rattle.std.specs.Prelude.{filter}
-use Rattle.std.specs.List.{list_any, position_or_len}
+use Rattle.std.specs.List.{list_any, position_from, position_or_len}
 use Rattle.std.specs.Option.{option_or}
 use Rattle.std.specs.HashMap.{HashMap, get, Updates}
 use Rattle.std.specs.Cmp.{IsEquivalence}
@@ -9,32 +9,32 @@ use Rattle.std.proofs.lemmas.List.{length_push, map_push}
 use Rattle.std.proofs.lemmas.List.Elements.{filter-append}
 use Rattle.std.proofs.lemmas.List.Folds.{list_any-append}
 use Rattle.cell_core.specs.Groups.{distinct, group_number}
-use Rattle.bat_group.specs.Numbers.{place_from, with_first, AreNumbered}
+use Rattle.bat_group.specs.Numbers.{with_first, AreNumbered}
 
 module _ {X : Type 0} (p : X → Bool) where
   -- where a place is found it is the number of those before it
-  place_some : (n k : ℕ) (xs : List X) → place_from p n xs ≡ Some k → (k ≡ n + position_or_len p xs) × (position_or_len p xs < length xs) × (list_any p xs ≡ true)
+  place_some : (n k : ℕ) (xs : List X) → position_from p n xs ≡ Some k → (k ≡ n + position_or_len p xs) × (position_or_len p xs < length xs) × (list_any p xs ≡ true)
   place_some n k [] e = cc
   place_some n k (x ∷ xs) e =
-      elim (p x) as (λ b. cond b (Some n) (place_from p (n + 1) xs) ≡ Some k → (k ≡ n + cond (not b) (1 + position_or_len p xs) 0) × (cond (not b) (1 + position_or_len p xs) 0 < suc (length xs)) × ((b || list_any p xs) ≡ true)) [
+      elim (p x) as (λ b. cond b (Some n) (position_from p (n + 1) xs) ≡ Some k → (k ≡ n + cond (not b) (1 + position_or_len p xs) 0) × (cond (not b) (1 + position_or_len p xs) 0 < suc (length xs)) × ((b || list_any p xs) ≡ true)) [
         | true ↦ λ h. let same : n ≡ k = cc in (omega arith, omega arith, refl)
         | false ↦ λ h. let r : (k ≡ n + 1 + position_or_len p xs) × (position_or_len p xs < length xs) × (list_any p xs ≡ true) = place_some (n + 1) k xs h in (omega arith, omega arith, r.2)
       ] e
 
-  place_none : (n : ℕ) (xs : List X) → place_from p n xs ≡ None → (position_or_len p xs ≡ length xs) × (list_any p xs ≡ false)
+  place_none : (n : ℕ) (xs : List X) → position_from p n xs ≡ None → (position_or_len p xs ≡ length xs) × (list_any p xs ≡ false)
   place_none n [] e = (refl, refl)
   place_none n (x ∷ xs) e =
-      elim (p x) as (λ b. cond b (Some n) (place_from p (n + 1) xs) ≡ None → (cond (not b) (1 + position_or_len p xs) 0 ≡ suc (length xs)) × ((b || list_any p xs) ≡ false)) [
+      elim (p x) as (λ b. cond b (Some n) (position_from p (n + 1) xs) ≡ None → (cond (not b) (1 + position_or_len p xs) 0 ≡ suc (length xs)) × ((b || list_any p xs) ≡ false)) [
         | true ↦ λ h. cc
         | false ↦ λ h. let r : (position_or_len p xs ≡ length xs) × (list_any p xs ≡ false) = place_none (n + 1) xs h in (omega arith, r.1)
       ] e
 
-  place_push : (n : ℕ) (xs : List X) (x : X) → place_from p n (xs ++ x ∷ []) ≡ option_or (place_from p n xs) (cond (p x) (Some (n + length xs)) None)
+  place_push : (n : ℕ) (xs : List X) (x : X) → position_from p n (xs ++ x ∷ []) ≡ option_or (position_from p n xs) (cond (p x) (Some (n + length xs)) None)
   place_push n [] x = ap (λ k. cond (p x) (Some k) None) (omega arith)
   place_push n (y ∷ ys) x =
-      elim (p y) as (λ b. cond b (Some n) (place_from p (n + 1) (ys ++ x ∷ [])) ≡ option_or (cond b (Some n) (place_from p (n + 1) ys)) (cond (p x) (Some (n + suc (length ys))) None)) [
+      elim (p y) as (λ b. cond b (Some n) (position_from p (n + 1) (ys ++ x ∷ [])) ≡ option_or (cond b (Some n) (position_from p (n + 1) ys)) (cond (p x) (Some (n + suc (length ys))) None)) [
         | true ↦ refl
-        | false ↦ let next : n + 1 + length ys ≡ n + suc (length ys) = omega arith in place_push (n + 1) ys x ∙ ap (λ k. option_or (place_from p (n + 1) ys) (cond (p x) (Some k) None)) next
+        | false ↦ let next : n + 1 + length ys ≡ n + suc (length ys) = omega arith in place_push (n + 1) ys x ∙ ap (λ k. option_or (position_from p (n + 1) ys) (cond (p x) (Some k) None)) next
       ]
 
   -- the number of an element stays, whatever follows it
@@ -71,9 +71,9 @@ module _ {X : Type 0} (p : X → Bool) where
         | false ↦ λ h. missed_by_number xs (omega arith)
       ] e
 
-place_congr : {X : Type 0} (p q : X → Bool) → ((x : X) → p x ≡ q x) → (n : ℕ) (xs : List X) → place_from p n xs ≡ place_from q n xs
+place_congr : {X : Type 0} (p q : X → Bool) → ((x : X) → p x ≡ q x) → (n : ℕ) (xs : List X) → position_from p n xs ≡ position_from q n xs
 place_congr p q same n [] = refl
-place_congr p q same n (x ∷ xs) = ap (λ b. cond b (Some n) (place_from p (n + 1) xs)) (same x) ∙ ap (λ o. cond (q x) (Some n) o) (place_congr p q same (n + 1) xs)
+place_congr p q same n (x ∷ xs) = ap (λ b. cond b (Some n) (position_from p (n + 1) xs)) (same x) ∙ ap (λ o. cond (q x) (Some n) o) (place_congr p q same (n + 1) xs)
 
 or_none : {X : Type 0} (o : Option X) → option_or o None ≡ o
 or_none None = refl
@@ -102,14 +102,14 @@ module _ {X : Type 0} (same : X → X → Bool) (laws : IsEquivalence same) wher
         },
       )
     where
-      found_at : (k : X) → cond (same x k) (Some count) (get same old k) ≡ option_or (place_from (λ y. same y k) 0 firsts) (cond (same x k) (Some (0 + length firsts)) None)
+      found_at : (k : X) → cond (same x k) (Some count) (get same old k) ≡ option_or (position_from (λ y. same y k) 0 firsts) (cond (same x k) (Some (0 + length firsts)) None)
       found_at k =
-          elim (same x k) as (λ b. same x k ≡ b → cond b (Some count) (get same old k) ≡ option_or (place_from (λ y. same y k) 0 firsts) (cond b (Some (0 + length firsts)) None)) [
+          elim (same x k) as (λ b. same x k ≡ b → cond b (Some count) (get same old k) ≡ option_or (position_from (λ y. same y k) 0 firsts) (cond b (Some (0 + length firsts)) None)) [
             | true ↦ λ e.
-                let none : place_from (λ y. same y k) 0 firsts ≡ None = place_congr (λ y. same y k) (λ y. same y x) (λ y. same_as x k y e) 0 firsts ∙ sym (known.found x) ∙ sym is in
+                let none : position_from (λ y. same y k) 0 firsts ≡ None = place_congr (λ y. same y k) (λ y. same y x) (λ y. same_as x k y e) 0 firsts ∙ sym (known.found x) ∙ sym is in
                 let next : count ≡ 0 + length firsts = omega (arith, known.counted) in
                 ap Some next ∙ ap (λ o. option_or o (Some (0 + length firsts))) (sym none)
-            | false ↦ λ e. known.found k ∙ sym (or_none (place_from (λ y. same y k) 0 firsts))
+            | false ↦ λ e. known.found k ∙ sym (or_none (position_from (λ y. same y k) 0 firsts))
           ] refl
 
   -- ## One element more among the distinct ones
