@@ -24,15 +24,15 @@ is_same a b e = grind arith
 not_before : (j k : ℕ) → j ≤ k → not (nat_lt k j) ≡ true
 not_before j k few = grind arith
 
-is_within : (k n : ℕ) → k < n → nat_lt k n ≡ true
-is_within k n few = grind arith
+is_below : (k n : ℕ) → k < n → nat_lt k n ≡ true
+is_below k n few = grind arith
 
 -- the places of elements that pass
 places_rise : {R : Type 0} (hit : R → Bool) (j k n : ℕ) (rows : List R) → j ≤ k → k + length rows ≤ n → rises j n (listed_places hit k rows) ≡ true
 places_rise hit j k n [] few room = refl
 places_rise {R} hit j k n (row ∷ rows) few room = elim (hit row) as (λ b. rises j n (map (λ (at : ℕ × R). at.0) (cond b ((k, row) ∷ filter (λ (at : ℕ × R). hit at.1) (enumerate_from (k + 1) rows)) (filter (λ (at : ℕ × R). hit at.1) (enumerate_from (k + 1) rows)))) ≡ true) [
   | true ↦ and_from (not (nat_lt k j) && nat_lt k n) (rises (k + 1) n (listed_places hit (k + 1) rows))
-      (and_from (not (nat_lt k j)) (nat_lt k n) (not_before j k few) (is_within k n (room_here k n (length rows) room)))
+      (and_from (not (nat_lt k j)) (nat_lt k n) (not_before j k few) (is_below k n (room_here k n (length rows) room)))
       (places_rise hit (k + 1) (k + 1) n rows (omega arith) (room_on k n (length rows) room))
   | false ↦ places_rise hit j (k + 1) n rows (omega arith) (room_on k n (length rows) room)
 ]

@@ -3,7 +3,7 @@ ghost use Rattle.mal_text.specs.Reader as reader;
 
 use crate::block::{Block, Key, Line, Term};
 use crate::cursor::{Cursor, is_mark, is_word};
-use crate::error::ReadError;
+use crate::error::BlockError;
 use crate::terms::{Part, repeated, term, terms};
 use cell_core::{Sequence, Word};
 use mal_tokens::Mark;
@@ -11,9 +11,9 @@ use std::alloc::Global;
 
 /// A block, which all the tokens are.
 #[tactic(auto, unfolding(crate::specs::Reader::block))]
-pub(crate) fn block(alloc: Global, tokens: &mut Cursor<'_>) -> Result<Block, ReadError>
+pub(crate) fn block(alloc: Global, tokens: &mut Cursor<'_>) -> Result<Block, BlockError>
     ensures found { IfOk result (λ block. reader.block tokens.old.rest.now ≡ Some (block, tokens.new.rest.now)) }
-    ensures none { IsErrOf result ReadError.NoBlock → reader.block tokens.old.rest.now ≡ None }
+    ensures none { IsErrOf result BlockError.NoBlock → reader.block tokens.old.rest.now ≡ None }
 {
     let name = header(tokens)?;
     let lines = lines(alloc, tokens)?;
@@ -34,9 +34,9 @@ pub(crate) fn block(alloc: Global, tokens: &mut Cursor<'_>) -> Result<Block, Rea
 
 /// `function user.NAME():void;`
 #[tactic(auto, unfolding(crate::specs::Reader::header))]
-fn header(tokens: &mut Cursor<'_>) -> Result<Word, ReadError>
+fn header(tokens: &mut Cursor<'_>) -> Result<Word, BlockError>
     ensures found { IfOk result (λ name. reader.header tokens.old.rest.now ≡ Some (name, tokens.new.rest.now)) }
-    ensures none { IsErrOf result ReadError.NoBlock → reader.header tokens.old.rest.now ≡ None }
+    ensures none { IsErrOf result BlockError.NoBlock → reader.header tokens.old.rest.now ≡ None }
 {
     let name = named("function", tokens)?;
     void(tokens)?;
@@ -45,9 +45,9 @@ fn header(tokens: &mut Cursor<'_>) -> Result<Word, ReadError>
 
 /// A word, `user.` and a name.
 #[tactic(auto, unfolding(crate::specs::Reader::named))]
-fn named(word: &str, tokens: &mut Cursor<'_>) -> Result<Word, ReadError>
+fn named(word: &str, tokens: &mut Cursor<'_>) -> Result<Word, BlockError>
     ensures found { IfOk result (λ name. reader.named word.now tokens.old.rest.now ≡ Some (name, tokens.new.rest.now)) }
-    ensures none { IsErrOf result ReadError.NoBlock → reader.named word.now tokens.old.rest.now ≡ None }
+    ensures none { IsErrOf result BlockError.NoBlock → reader.named word.now tokens.old.rest.now ≡ None }
 {
     tokens.word(word)?;
     tokens.word("user")?;
@@ -57,9 +57,9 @@ fn named(word: &str, tokens: &mut Cursor<'_>) -> Result<Word, ReadError>
 
 /// `():void;`
 #[tactic(auto, unfolding(crate::specs::Reader::void))]
-fn void(tokens: &mut Cursor<'_>) -> Result<(), ReadError>
+fn void(tokens: &mut Cursor<'_>) -> Result<(), BlockError>
     ensures found { OnOk result (reader.void tokens.old.rest.now ≡ Some tokens.new.rest.now) }
-    ensures none { IsErrOf result ReadError.NoBlock → reader.void tokens.old.rest.now ≡ None }
+    ensures none { IsErrOf result BlockError.NoBlock → reader.void tokens.old.rest.now ≡ None }
 {
     tokens.mark(Mark::Open)?;
     tokens.mark(Mark::Close)?;
@@ -70,13 +70,13 @@ fn void(tokens: &mut Cursor<'_>) -> Result<(), ReadError>
 
 /// `end user.NAME;` of this name, with nothing behind it.
 #[tactic(auto, unfolding(crate::specs::Reader::ending))]
-fn ending(name: &Word, tokens: &mut Cursor<'_>) -> Result<(), ReadError>
+fn ending(name: &Word, tokens: &mut Cursor<'_>) -> Result<(), BlockError>
     ensures found { OnOk result (reader.ending name.now tokens.old.rest.now ≡ Some tokens.new.rest.now) }
-    ensures none { IsErrOf result ReadError.NoBlock → reader.ending name.now tokens.old.rest.now ≡ None }
+    ensures none { IsErrOf result BlockError.NoBlock → reader.ending name.now tokens.old.rest.now ≡ None }
 {
     let found = named("end", tokens)?;
     if found.text() != name.text() {
-        return Err(ReadError::NoBlock);
+        return Err(BlockError::NoBlock);
     }
     tokens.mark(Mark::Semicolon)?;
     tokens.end()
@@ -84,18 +84,18 @@ fn ending(name: &Word, tokens: &mut Cursor<'_>) -> Result<(), ReadError>
 
 /// The instructions.
 #[tactic(auto, unfolding(crate::specs::Reader::lines))]
-fn lines(alloc: Global, tokens: &mut Cursor<'_>) -> Result<Sequence<Line>, ReadError>
+fn lines(alloc: Global, tokens: &mut Cursor<'_>) -> Result<Sequence<Line>, BlockError>
     ensures found { IfOk result (λ lines. reader.lines tokens.old.rest.now ≡ Some (lines, tokens.new.rest.now)) }
-    ensures none { IsErrOf result ReadError.NoBlock → reader.lines tokens.old.rest.now ≡ None }
+    ensures none { IsErrOf result BlockError.NoBlock → reader.lines tokens.old.rest.now ≡ None }
 {
     repeated(alloc, tokens, Sequence::new(alloc))
 }
 
 /// The keys of the order.
 #[tactic(auto, unfolding(crate::specs::Reader::keys))]
-fn keys(alloc: Global, tokens: &mut Cursor<'_>) -> Result<Sequence<Key>, ReadError>
+fn keys(alloc: Global, tokens: &mut Cursor<'_>) -> Result<Sequence<Key>, BlockError>
     ensures found { IfOk result (λ keys. reader.keys tokens.old.rest.now ≡ Some (keys, tokens.new.rest.now)) }
-    ensures none { IsErrOf result ReadError.NoBlock → reader.keys tokens.old.rest.now ≡ None }
+    ensures none { IsErrOf result BlockError.NoBlock → reader.keys tokens.old.rest.now ≡ None }
 {
     repeated(alloc, tokens, Sequence::new(alloc))
 }
@@ -111,7 +111,7 @@ impl Part for Line {
     }
 
     #[tactic(auto, unfolding(crate::specs::Reader::line))]
-    fn read(alloc: Global, tokens: &mut Cursor<'_>) -> Result<Line, ReadError> {
+    fn read(alloc: Global, tokens: &mut Cursor<'_>) -> Result<Line, BlockError> {
         let name = tokens.name()?;
         tokens.mark(Mark::Assign)?;
         let (of_module, function) = path(tokens)?;
@@ -128,9 +128,9 @@ impl Part for Line {
 
 /// `module.function(`
 #[tactic(auto, unfolding(crate::specs::Reader::path))]
-fn path(tokens: &mut Cursor<'_>) -> Result<(Word, Word), ReadError>
+fn path(tokens: &mut Cursor<'_>) -> Result<(Word, Word), BlockError>
     ensures found { IfOk result (λ path. reader.path tokens.old.rest.now ≡ Some (path, tokens.new.rest.now)) }
-    ensures none { IsErrOf result ReadError.NoBlock → reader.path tokens.old.rest.now ≡ None }
+    ensures none { IsErrOf result BlockError.NoBlock → reader.path tokens.old.rest.now ≡ None }
 {
     let of_module = tokens.name()?;
     tokens.mark(Mark::Dot)?;
@@ -150,7 +150,7 @@ impl Part for Key {
     }
 
     #[tactic(auto, unfolding(crate::specs::Reader::key))]
-    fn read(_alloc: Global, tokens: &mut Cursor<'_>) -> Result<Key, ReadError> {
+    fn read(_alloc: Global, tokens: &mut Cursor<'_>) -> Result<Key, BlockError> {
         opening("order", tokens)?;
         let place = tokens.digits()?;
         tokens.mark(Mark::Comma)?;
@@ -162,14 +162,14 @@ impl Part for Key {
 
 /// `true` or `false`
 #[tactic(auto, unfolding(crate::specs::Reader::bit))]
-fn bit(tokens: &mut Cursor<'_>) -> Result<bool, ReadError>
+fn bit(tokens: &mut Cursor<'_>) -> Result<bool, BlockError>
     ensures found { IfOk result (λ found. reader.bit tokens.old.rest.now ≡ Some (found, tokens.new.rest.now)) }
-    ensures none { IsErrOf result ReadError.NoBlock → reader.bit tokens.old.rest.now ≡ None }
+    ensures none { IsErrOf result BlockError.NoBlock → reader.bit tokens.old.rest.now ≡ None }
 {
     let word = tokens.name()?;
     match bit_named(word.text()) {
         Some(found) => Ok(found),
-        None => Err(ReadError::NoBlock),
+        None => Err(BlockError::NoBlock),
     }
 }
 
@@ -195,9 +195,9 @@ fn goes_call(name: &str, tokens: &Cursor<'_>) -> bool
 
 /// `sql.NAME(`
 #[tactic(auto, unfolding(crate::specs::Reader::opening))]
-fn opening(name: &str, tokens: &mut Cursor<'_>) -> Result<(), ReadError>
+fn opening(name: &str, tokens: &mut Cursor<'_>) -> Result<(), BlockError>
     ensures found { OnOk result (reader.opening name.now tokens.old.rest.now ≡ Some tokens.new.rest.now) }
-    ensures none { IsErrOf result ReadError.NoBlock → reader.opening name.now tokens.old.rest.now ≡ None }
+    ensures none { IsErrOf result BlockError.NoBlock → reader.opening name.now tokens.old.rest.now ≡ None }
 {
     tokens.word("sql")?;
     tokens.mark(Mark::Dot)?;
@@ -207,9 +207,9 @@ fn opening(name: &str, tokens: &mut Cursor<'_>) -> Result<(), ReadError>
 
 /// The argument of `sql.keep`, where it stands here.
 #[tactic(auto, unfolding(crate::specs::Reader::optional))]
-fn keep(tokens: &mut Cursor<'_>) -> Result<Option<Term>, ReadError>
+fn keep(tokens: &mut Cursor<'_>) -> Result<Option<Term>, BlockError>
     ensures found { IfOk result (λ found. reader.optional (codes "keep") reader.term_of tokens.old.rest.now ≡ Some (found, tokens.new.rest.now)) }
-    ensures none { IsErrOf result ReadError.NoBlock → reader.optional (codes "keep") reader.term_of tokens.old.rest.now ≡ None }
+    ensures none { IsErrOf result BlockError.NoBlock → reader.optional (codes "keep") reader.term_of tokens.old.rest.now ≡ None }
 {
     if !goes_call("keep", tokens) {
         return Ok(None);
@@ -222,9 +222,9 @@ fn keep(tokens: &mut Cursor<'_>) -> Result<Option<Term>, ReadError>
 
 /// The digits of `sql.limit`, where it stands here.
 #[tactic(auto, unfolding(crate::specs::Reader::optional))]
-fn limit(tokens: &mut Cursor<'_>) -> Result<Option<Word>, ReadError>
+fn limit(tokens: &mut Cursor<'_>) -> Result<Option<Word>, BlockError>
     ensures found { IfOk result (λ found. reader.optional (codes "limit") reader.digits tokens.old.rest.now ≡ Some (found, tokens.new.rest.now)) }
-    ensures none { IsErrOf result ReadError.NoBlock → reader.optional (codes "limit") reader.digits tokens.old.rest.now ≡ None }
+    ensures none { IsErrOf result BlockError.NoBlock → reader.optional (codes "limit") reader.digits tokens.old.rest.now ≡ None }
 {
     if !goes_call("limit", tokens) {
         return Ok(None);
@@ -237,9 +237,9 @@ fn limit(tokens: &mut Cursor<'_>) -> Result<Option<Word>, ReadError>
 
 /// The arguments of `sql.output`, where it stands here.
 #[tactic(auto, unfolding(crate::specs::Reader::optional))]
-fn output(alloc: Global, tokens: &mut Cursor<'_>) -> Result<Option<Sequence<Term>>, ReadError>
+fn output(alloc: Global, tokens: &mut Cursor<'_>) -> Result<Option<Sequence<Term>>, BlockError>
     ensures found { IfOk result (λ found. reader.optional (codes "output") reader.terms tokens.old.rest.now ≡ Some (found, tokens.new.rest.now)) }
-    ensures none { IsErrOf result ReadError.NoBlock → reader.optional (codes "output") reader.terms tokens.old.rest.now ≡ None }
+    ensures none { IsErrOf result BlockError.NoBlock → reader.optional (codes "output") reader.terms tokens.old.rest.now ≡ None }
 {
     if !goes_call("output", tokens) {
         return Ok(None);

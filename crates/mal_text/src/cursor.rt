@@ -2,7 +2,7 @@ ghost use Rattle.std.specs.Prelude.{◌≡◌, length, option_copied, slice_get,
 ghost use Rattle.mal_text.specs.Reader as reader;
 ghost use Rattle.mal_text.specs.Reader.{first_token, after_first};
 
-use crate::error::ReadError;
+use crate::error::BlockError;
 use cell_core::Word;
 use mal_tokens::{Mark, Token};
 
@@ -66,69 +66,69 @@ impl<'a> Cursor<'a> {
 
     /// Takes a word that has to stand here.
     #[tactic(auto, unfolding(crate::specs::Reader::skip_word))]
-    pub(crate) fn word(&mut self, word: &str) -> Result<(), ReadError>
+    pub(crate) fn word(&mut self, word: &str) -> Result<(), BlockError>
         ensures found { OnOk result (reader.skip_word word.now self.old.rest.now ≡ Some self.new.rest.now) }
-        ensures none { IsErrOf result ReadError.NoBlock → reader.skip_word word.now self.old.rest.now ≡ None }
+        ensures none { IsErrOf result BlockError.NoBlock → reader.skip_word word.now self.old.rest.now ≡ None }
     {
         if !is_word(self.next(), word) {
-            return Err(ReadError::NoBlock);
+            return Err(BlockError::NoBlock);
         }
         Ok(())
     }
 
     /// Takes a mark that has to stand here.
     #[tactic(auto, unfolding(crate::specs::Reader::skip_mark))]
-    pub(crate) fn mark(&mut self, mark: Mark) -> Result<(), ReadError>
+    pub(crate) fn mark(&mut self, mark: Mark) -> Result<(), BlockError>
         ensures found { OnOk result (reader.skip_mark mark self.old.rest.now ≡ Some self.new.rest.now) }
-        ensures none { IsErrOf result ReadError.NoBlock → reader.skip_mark mark self.old.rest.now ≡ None }
+        ensures none { IsErrOf result BlockError.NoBlock → reader.skip_mark mark self.old.rest.now ≡ None }
     {
         if !is_mark(self.next(), mark) {
-            return Err(ReadError::NoBlock);
+            return Err(BlockError::NoBlock);
         }
         Ok(())
     }
 
     /// Takes a single `0` that has to stand here.
     #[tactic(auto, unfolding(crate::specs::Reader::skip_zero))]
-    pub(crate) fn zero(&mut self) -> Result<(), ReadError>
+    pub(crate) fn zero(&mut self) -> Result<(), BlockError>
         ensures found { OnOk result (reader.skip_zero self.old.rest.now ≡ Some self.new.rest.now) }
-        ensures none { IsErrOf result ReadError.NoBlock → reader.skip_zero self.old.rest.now ≡ None }
+        ensures none { IsErrOf result BlockError.NoBlock → reader.skip_zero self.old.rest.now ≡ None }
     {
         if !is_zero(self.next()) {
-            return Err(ReadError::NoBlock);
+            return Err(BlockError::NoBlock);
         }
         Ok(())
     }
 
     /// Takes a word.
     #[tactic(auto, unfolding(crate::specs::Reader::name))]
-    pub(crate) fn name(&mut self) -> Result<Word, ReadError>
+    pub(crate) fn name(&mut self) -> Result<Word, BlockError>
         ensures found { IfOk result (λ word. reader.name self.old.rest.now ≡ Some (word, self.new.rest.now)) }
-        ensures none { IsErrOf result ReadError.NoBlock → reader.name self.old.rest.now ≡ None }
+        ensures none { IsErrOf result BlockError.NoBlock → reader.name self.old.rest.now ≡ None }
     {
         let Some(word) = name(self.next()) else {
-            return Err(ReadError::NoBlock);
+            return Err(BlockError::NoBlock);
         };
         Ok(word.share()?)
     }
 
     /// Takes digits.
     #[tactic(auto, unfolding(crate::specs::Reader::digits))]
-    pub(crate) fn digits(&mut self) -> Result<Word, ReadError>
+    pub(crate) fn digits(&mut self) -> Result<Word, BlockError>
         ensures found { IfOk result (λ word. reader.digits self.old.rest.now ≡ Some (word, self.new.rest.now)) }
-        ensures none { IsErrOf result ReadError.NoBlock → reader.digits self.old.rest.now ≡ None }
+        ensures none { IsErrOf result BlockError.NoBlock → reader.digits self.old.rest.now ≡ None }
     {
         let Some(digits) = digits(self.next()) else {
-            return Err(ReadError::NoBlock);
+            return Err(BlockError::NoBlock);
         };
         Ok(digits.share()?)
     }
 
     /// Takes `)` and `;`, which have to stand here.
     #[tactic(auto, unfolding(crate::specs::Reader::closing))]
-    pub(crate) fn closing(&mut self) -> Result<(), ReadError>
+    pub(crate) fn closing(&mut self) -> Result<(), BlockError>
         ensures found { OnOk result (reader.closing self.old.rest.now ≡ Some self.new.rest.now) }
-        ensures none { IsErrOf result ReadError.NoBlock → reader.closing self.old.rest.now ≡ None }
+        ensures none { IsErrOf result BlockError.NoBlock → reader.closing self.old.rest.now ≡ None }
     {
         self.mark(Mark::Close)?;
         self.mark(Mark::Semicolon)?;
@@ -136,13 +136,13 @@ impl<'a> Cursor<'a> {
     }
 
     /// Passes only where no token is left.
-    pub(crate) fn end(&self) -> Result<(), ReadError>
+    pub(crate) fn end(&self) -> Result<(), BlockError>
         ensures found { OnOk result (reader.nothing_left self.now.rest.now ≡ Some self.now.rest.now) }
-        ensures none { IsErrOf result ReadError.NoBlock → reader.nothing_left self.now.rest.now ≡ None }
+        ensures none { IsErrOf result BlockError.NoBlock → reader.nothing_left self.now.rest.now ≡ None }
     {
         match self.rest {
             [] => Ok(()),
-            _ => Err(ReadError::NoBlock),
+            _ => Err(BlockError::NoBlock),
         }
     }
 }

@@ -7,30 +7,30 @@ use thiserror::Error;
 
 /// Why a text, or a part of it, isn't read.
 #[derive(Clone, Copy, PartialEq, Eq, Drop)]
-pub(crate) enum ReadError {
+pub(crate) enum BlockError {
     /// The grammar derives nothing from it.
     NoBlock,
     /// Memory ran out.
     Memory,
 }
 
-impl From<Memory> for ReadError {
-    ghost use Rattle.mal_text.specs.declared.error.ReadError.TheVariants.{Memory as ReadMemory};
+impl From<Memory> for BlockError {
+    ghost use Rattle.mal_text.specs.declared.error.BlockError.TheVariants.{Memory as ReadMemory};
 
     ghost from_gives = { λ _ e. e ≡ ReadMemory };
 
-    fn from(_e: Memory) -> ReadError {
-        ReadError::Memory
+    fn from(_e: Memory) -> BlockError {
+        BlockError::Memory
     }
 }
 
-impl<T: Drop> From<AllocFailed<T>> for ReadError {
-    ghost use Rattle.mal_text.specs.declared.error.ReadError.TheVariants.{Memory as ReadMemory};
+impl<T: Drop> From<AllocFailed<T>> for BlockError {
+    ghost use Rattle.mal_text.specs.declared.error.BlockError.TheVariants.{Memory as ReadMemory};
 
     ghost from_gives = { λ _ e. e ≡ ReadMemory };
 
-    fn from(_e: AllocFailed<T>) -> ReadError {
-        ReadError::Memory
+    fn from(_e: AllocFailed<T>) -> BlockError {
+        BlockError::Memory
     }
 }
 

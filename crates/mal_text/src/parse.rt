@@ -9,7 +9,7 @@ ghost use Rattle.mal_text.specs.Reader as reader;
 use crate::block::{Block, Line};
 use crate::blocks::block;
 use crate::cursor::Cursor;
-use crate::error::{MalError, ReadError};
+use crate::error::{BlockError, MalError};
 use crate::plans::plan;
 use cell_core::{Memory, Word, word_of};
 use mal_check::{PlanError, check_plan};
@@ -29,13 +29,13 @@ pub fn parse_mal(alloc: Global, text: &str) -> Result<Plan, MalError>
 {
     let block = match read_block(alloc, text) {
         Ok(block) => block,
-        Err(ReadError::NoBlock) => return Err(MalError::NoBlock),
-        Err(ReadError::Memory) => return Err(MalError::Memory),
+        Err(BlockError::NoBlock) => return Err(MalError::NoBlock),
+        Err(BlockError::Memory) => return Err(MalError::Memory),
     };
     let plan = match plan(alloc, &block) {
         Ok(plan) => plan,
-        Err(ReadError::NoBlock) => return Err(MalError::NoBlock),
-        Err(ReadError::Memory) => return Err(MalError::Memory),
+        Err(BlockError::NoBlock) => return Err(MalError::NoBlock),
+        Err(BlockError::Memory) => return Err(MalError::Memory),
     };
     if let Some(word) = unknown(alloc, block.lines.as_slice())? {
         return Err(MalError::UnknownOp(word));
@@ -48,14 +48,14 @@ pub fn parse_mal(alloc: Global, text: &str) -> Result<Plan, MalError>
 }
 
 /// The block that a text is, as it is written.
-fn read_block(alloc: Global, text: &str) -> Result<Block, ReadError>
+fn read_block(alloc: Global, text: &str) -> Result<Block, BlockError>
     ensures found { IfOk result (λ block. AreTokens text.now (write_block block)) }
-    ensures none { IsErrOf result ReadError.NoBlock → (block : BlockSeen) → AreTokens text.now (write_block block) → ⊥ }
+    ensures none { IsErrOf result BlockError.NoBlock → (block : BlockSeen) → AreTokens text.now (write_block block) → ⊥ }
 {
     let tokens = match tokens(alloc, text) {
         Ok(tokens) => tokens,
-        Err(TokensError::Syntax) => return Err(ReadError::NoBlock),
-        Err(TokensError::Memory) => return Err(ReadError::Memory),
+        Err(TokensError::Syntax) => return Err(BlockError::NoBlock),
+        Err(TokensError::Memory) => return Err(BlockError::Memory),
     };
     let mut rest = Cursor::new(tokens.as_slice());
     let found = block(alloc, &mut rest)?;

@@ -5,7 +5,7 @@ ghost use Rattle.mal_text.specs.Plans as plans;
 ghost use Rattle.mal_text.specs.Plans.{StandsFor};
 
 use crate::block::{Block, Key, Line, Term};
-use crate::error::ReadError;
+use crate::error::BlockError;
 use crate::numbers::{huge, int, small};
 use cell_core::{Arg, Cell, Instr, Memory, Op, Sequence, Word};
 use indexmap::IndexSet;
@@ -15,9 +15,9 @@ use std::alloc::Global;
 use text_bytes::{named_day, number_128};
 
 /// The plan that a block stands for, if it stands for one.
-pub(crate) fn plan(alloc: Global, block: &Block) -> Result<Plan, ReadError>
+pub(crate) fn plan(alloc: Global, block: &Block) -> Result<Plan, BlockError>
     ensures found { IfOk result (λ plan. StandsFor block.now plan) }
-    ensures none { IsErrOf result ReadError.NoBlock → (plan : PlanSeen) → StandsFor block.now plan → ⊥ }
+    ensures none { IsErrOf result BlockError.NoBlock → (plan : PlanSeen) → StandsFor block.now plan → ⊥ }
 {
     let names = names(alloc, block.lines.as_slice())?;
     let instrs = instrs(alloc, &names, block.lines.as_slice())?;
@@ -37,10 +37,10 @@ pub(crate) fn plan(alloc: Global, block: &Block) -> Result<Plan, ReadError>
 }
 
 /// The names that instructions assign, where none is assigned twice.
-fn names(alloc: Global, lines: &[Line]) -> Result<IndexSet<Word>, ReadError>
+fn names(alloc: Global, lines: &[Line]) -> Result<IndexSet<Word>, BlockError>
     ensures names { IfOk result (λ names. names.keys ≡ plans.names_of lines.now) }
     ensures differ { OnOk result (plans.are_distinct (plans.names_of lines.now) ≡ true) }
-    ensures none { IsErrOf result ReadError.NoBlock → plans.are_distinct (plans.names_of lines.now) ≡ false }
+    ensures none { IsErrOf result BlockError.NoBlock → plans.are_distinct (plans.names_of lines.now) ≡ false }
 {
     let mut names = IndexSet::new(alloc);
     let mut rest = lines;
@@ -52,14 +52,14 @@ fn names(alloc: Global, lines: &[Line]) -> Result<IndexSet<Word>, ReadError>
 }
 
 /// Adds a name that isn't there.
-fn add_name(names: &mut IndexSet<Word>, name: &Word) -> Result<(), ReadError>
+fn add_name(names: &mut IndexSet<Word>, name: &Word) -> Result<(), BlockError>
     ensures added { OnOk result (names.new.keys ≡ names.old.keys ++ name.now ∷ []) }
     ensures absent { OnOk result (list_any (bytes_eq name.now) names.old.keys ≡ false) }
-    ensures twice { IsErrOf result ReadError.NoBlock → list_any (bytes_eq name.now) names.old.keys ≡ true }
+    ensures twice { IsErrOf result BlockError.NoBlock → list_any (bytes_eq name.now) names.old.keys ≡ true }
 {
     let (_, is_new) = names.insert_full(name.share()?)?;
     if !is_new {
-        return Err(ReadError::NoBlock);
+        return Err(BlockError::NoBlock);
     }
     Ok(())
 }
@@ -90,9 +90,9 @@ fn constant(word: &str) -> Option<Cell>
 }
 
 /// The argument that a term stands for.
-fn arg(names: &IndexSet<Word>, term: &Term) -> Result<Arg, ReadError>
+fn arg(names: &IndexSet<Word>, term: &Term) -> Result<Arg, BlockError>
     ensures found { IfOk result (λ arg. plans.arg_of names.now.keys term.now ≡ Some arg) }
-    ensures none { IsErrOf result ReadError.NoBlock → plans.arg_of names.now.keys term.now ≡ None }
+    ensures none { IsErrOf result BlockError.NoBlock → plans.arg_of names.now.keys term.now ≡ None }
 {
     let cell = match term {
         Term::Name(word) => return Ok(named(names, word)?),
@@ -104,7 +104,7 @@ fn arg(names: &IndexSet<Word>, term: &Term) -> Result<Arg, ReadError>
     };
     match cell {
         Some(cell) => Ok(Arg::Const(cell)),
-        None => Err(ReadError::NoBlock),
+        None => Err(BlockError::NoBlock),
     }
 }
 
@@ -122,9 +122,9 @@ fn named(names: &IndexSet<Word>, word: &Word) -> Result<Arg, Memory>
 }
 
 /// The arguments that terms stand for.
-fn args(alloc: Global, names: &IndexSet<Word>, terms: &[Term]) -> Result<Sequence<Arg>, ReadError>
+fn args(alloc: Global, names: &IndexSet<Word>, terms: &[Term]) -> Result<Sequence<Arg>, BlockError>
     ensures found { IfOk result (λ args. plans.args_of names.now.keys terms.now ≡ Some args) }
-    ensures none { IsErrOf result ReadError.NoBlock → plans.args_of names.now.keys terms.now ≡ None }
+    ensures none { IsErrOf result BlockError.NoBlock → plans.args_of names.now.keys terms.now ≡ None }
 {
     let mut args = Sequence::new(alloc);
     let mut rest = terms;
@@ -137,9 +137,9 @@ fn args(alloc: Global, names: &IndexSet<Word>, terms: &[Term]) -> Result<Sequenc
 }
 
 /// The instruction that a line stands for.
-fn instr(alloc: Global, names: &IndexSet<Word>, line: &Line) -> Result<Instr, ReadError>
+fn instr(alloc: Global, names: &IndexSet<Word>, line: &Line) -> Result<Instr, BlockError>
     ensures found { IfOk result (λ instr. plans.instr_of names.now.keys line.now ≡ Some instr) }
-    ensures none { IsErrOf result ReadError.NoBlock → plans.instr_of names.now.keys line.now ≡ None }
+    ensures none { IsErrOf result BlockError.NoBlock → plans.instr_of names.now.keys line.now ≡ None }
 {
     let args = args(alloc, names, line.args.as_slice())?;
     let op = op_in(line);
@@ -161,9 +161,9 @@ fn instrs(
     alloc: Global,
     names: &IndexSet<Word>,
     lines: &[Line],
-) -> Result<Sequence<Instr>, ReadError>
+) -> Result<Sequence<Instr>, BlockError>
     ensures found { IfOk result (λ instrs. plans.instrs_of names.now.keys lines.now ≡ Some instrs) }
-    ensures none { IsErrOf result ReadError.NoBlock → plans.instrs_of names.now.keys lines.now ≡ None }
+    ensures none { IsErrOf result BlockError.NoBlock → plans.instrs_of names.now.keys lines.now ≡ None }
 {
     let mut instrs = Sequence::new(alloc);
     let mut rest = lines;
@@ -176,9 +176,9 @@ fn instrs(
 }
 
 /// The argument of `keep`, where there is one.
-fn keep(names: &IndexSet<Word>, keep: &Option<Term>) -> Result<Option<Arg>, ReadError>
+fn keep(names: &IndexSet<Word>, keep: &Option<Term>) -> Result<Option<Arg>, BlockError>
     ensures found { IfOk result (λ found. plans.keep_of names.now.keys keep.now ≡ Some found) }
-    ensures none { IsErrOf result ReadError.NoBlock → plans.keep_of names.now.keys keep.now ≡ None }
+    ensures none { IsErrOf result BlockError.NoBlock → plans.keep_of names.now.keys keep.now ≡ None }
 {
     match keep {
         Some(term) => Ok(Some(arg(names, term)?)),
@@ -197,15 +197,15 @@ fn key(key: &Key) -> Option<(u32, bool)>
 }
 
 /// The keys of the order.
-fn order(alloc: Global, keys: &[Key]) -> Result<Sequence<(u32, bool)>, ReadError>
+fn order(alloc: Global, keys: &[Key]) -> Result<Sequence<(u32, bool)>, BlockError>
     ensures found { IfOk result (λ order. plans.order_of keys.now ≡ Some order) }
-    ensures none { IsErrOf result ReadError.NoBlock → plans.order_of keys.now ≡ None }
+    ensures none { IsErrOf result BlockError.NoBlock → plans.order_of keys.now ≡ None }
 {
     let mut order = Sequence::new(alloc);
     let mut rest = keys;
     'keys: while let [first, more @ ..] = rest {
         let Some(next) = key(first) else {
-            return Err(ReadError::NoBlock);
+            return Err(BlockError::NoBlock);
         };
         order.push(next)?;
         rest = more;
@@ -214,16 +214,16 @@ fn order(alloc: Global, keys: &[Key]) -> Result<Sequence<(u32, bool)>, ReadError
 }
 
 /// The most rows, where a limit is written.
-fn limit(limit: &Option<Word>) -> Result<Option<u64>, ReadError>
+fn limit(limit: &Option<Word>) -> Result<Option<u64>, BlockError>
     ensures found { IfOk result (λ found. plans.limit_of limit.now ≡ Some found) }
-    ensures none { IsErrOf result ReadError.NoBlock → plans.limit_of limit.now ≡ None }
+    ensures none { IsErrOf result BlockError.NoBlock → plans.limit_of limit.now ≡ None }
 {
     let Some(digits) = limit else {
         return Ok(None);
     };
     match small(digits.text()) {
         Some(number) => Ok(Some(number)),
-        None => Err(ReadError::NoBlock),
+        None => Err(BlockError::NoBlock),
     }
 }
 
@@ -232,9 +232,9 @@ fn cols(
     alloc: Global,
     names: &IndexSet<Word>,
     output: &Option<Sequence<Term>>,
-) -> Result<Sequence<Arg>, ReadError>
+) -> Result<Sequence<Arg>, BlockError>
     ensures found { IfOk result (λ cols. plans.args_of names.now.keys (unwrap_or output.now []) ≡ Some cols) }
-    ensures none { IsErrOf result ReadError.NoBlock → plans.args_of names.now.keys (unwrap_or output.now []) ≡ None }
+    ensures none { IsErrOf result BlockError.NoBlock → plans.args_of names.now.keys (unwrap_or output.now []) ≡ None }
 {
     match output {
         Some(terms) => args(alloc, names, terms.as_slice()),

@@ -6,7 +6,7 @@ ghost use Rattle.mal_tokens.specs.declared.token.Mark.TheVariants as mark;
 
 use crate::block::Term;
 use crate::cursor::{Cursor, is_mark};
-use crate::error::ReadError;
+use crate::error::BlockError;
 use cell_core::{Sequence, Word};
 use mal_tokens::{Mark, Token};
 use std::alloc::Global;
@@ -22,9 +22,9 @@ pub(crate) trait Part: Drop + Sized {
         ensures { result ≡ goes tokens.now.rest.now };
 
     /// Reads one.
-    fn read(alloc: Global, tokens: &mut Cursor<'_>) -> Result<Self, ReadError>
+    fn read(alloc: Global, tokens: &mut Cursor<'_>) -> Result<Self, BlockError>
         ensures found { IfOk result (λ part. reader tokens.old.rest.now ≡ Some (part, tokens.new.rest.now)) }
-        ensures none { IsErrOf result ReadError.NoBlock → reader tokens.old.rest.now ≡ None };
+        ensures none { IsErrOf result BlockError.NoBlock → reader tokens.old.rest.now ≡ None };
 }
 
 /// Adds parts as long as one stands here.
@@ -32,10 +32,10 @@ pub(crate) fn repeated<P: Part>(
     alloc: Global,
     tokens: &mut Cursor<'_>,
     first: Sequence<P>,
-) -> Result<Sequence<P>, ReadError>
+) -> Result<Sequence<P>, BlockError>
     ensures found { IfOk result (λ parts. reader.repeated P.goes P.reader (length tokens.old.rest.now) first tokens.old.rest.now
         ≡ Some (parts, tokens.new.rest.now)) }
-    ensures none { IsErrOf result ReadError.NoBlock →
+    ensures none { IsErrOf result BlockError.NoBlock →
         reader.repeated P.goes P.reader (length tokens.old.rest.now) first tokens.old.rest.now ≡ None }
 {
     let mut parts = first;
@@ -60,7 +60,7 @@ impl Part for Term {
     }
 
     #[tactic(auto, unfolding(crate::specs::Reader::further))]
-    fn read(_alloc: Global, tokens: &mut Cursor<'_>) -> Result<Term, ReadError> {
+    fn read(_alloc: Global, tokens: &mut Cursor<'_>) -> Result<Term, BlockError> {
         tokens.mark(Mark::Comma)?;
         term(tokens)
     }
@@ -68,9 +68,9 @@ impl Part for Term {
 
 /// Arguments up to a `)`, with commas between them.
 #[tactic(auto, unfolding(crate::specs::Reader::terms))]
-pub(crate) fn terms(alloc: Global, tokens: &mut Cursor<'_>) -> Result<Sequence<Term>, ReadError>
+pub(crate) fn terms(alloc: Global, tokens: &mut Cursor<'_>) -> Result<Sequence<Term>, BlockError>
     ensures found { IfOk result (λ terms. reader.terms tokens.old.rest.now ≡ Some (terms, tokens.new.rest.now)) }
-    ensures none { IsErrOf result ReadError.NoBlock → reader.terms tokens.old.rest.now ≡ None }
+    ensures none { IsErrOf result BlockError.NoBlock → reader.terms tokens.old.rest.now ≡ None }
 {
     let mut parts = Sequence::new(alloc);
     if is_mark(tokens.peek(), Mark::Close) {
@@ -83,24 +83,24 @@ pub(crate) fn terms(alloc: Global, tokens: &mut Cursor<'_>) -> Result<Sequence<T
 
 /// An argument.
 #[tactic(auto, unfolding(crate::specs::Reader::term_of))]
-pub(crate) fn term(tokens: &mut Cursor<'_>) -> Result<Term, ReadError>
+pub(crate) fn term(tokens: &mut Cursor<'_>) -> Result<Term, BlockError>
     ensures found { IfOk result (λ term. reader.term_of tokens.old.rest.now ≡ Some (term, tokens.new.rest.now)) }
-    ensures none { IsErrOf result ReadError.NoBlock → reader.term_of tokens.old.rest.now ≡ None }
+    ensures none { IsErrOf result BlockError.NoBlock → reader.term_of tokens.old.rest.now ≡ None }
 {
     match tokens.next() {
         Some(Token::Name(word)) => Ok(Term::Name(word.share()?)),
         Some(Token::Text(text)) => text_behind(text, tokens),
         Some(Token::Digits(digits)) => digits_behind(digits, tokens),
         Some(Token::Mark(Mark::Minus)) => negative_behind(tokens),
-        _ => Err(ReadError::NoBlock),
+        _ => Err(BlockError::NoBlock),
     }
 }
 
 /// What follows a text: `:` and `date`, or nothing of it.
 #[tactic(auto, unfolding(crate::specs::Reader::text_behind))]
-fn text_behind(text: &Word, tokens: &mut Cursor<'_>) -> Result<Term, ReadError>
+fn text_behind(text: &Word, tokens: &mut Cursor<'_>) -> Result<Term, BlockError>
     ensures found { IfOk result (λ term. reader.text_behind text.now tokens.old.rest.now ≡ Some (term, tokens.new.rest.now)) }
-    ensures none { IsErrOf result ReadError.NoBlock → reader.text_behind text.now tokens.old.rest.now ≡ None }
+    ensures none { IsErrOf result BlockError.NoBlock → reader.text_behind text.now tokens.old.rest.now ≡ None }
 {
     if !is_mark(tokens.peek(), Mark::Colon) {
         return Ok(Term::Text(text.share()?));
@@ -112,9 +112,9 @@ fn text_behind(text: &Word, tokens: &mut Cursor<'_>) -> Result<Term, ReadError>
 
 /// What follows the digits of a number: `:` and `hge`, or nothing of it.
 #[tactic(auto, unfolding(crate::specs::Reader::number_behind))]
-fn number_behind(negative: bool, digits: &Word, tokens: &mut Cursor<'_>) -> Result<Term, ReadError>
+fn number_behind(negative: bool, digits: &Word, tokens: &mut Cursor<'_>) -> Result<Term, BlockError>
     ensures found { IfOk result (λ term. reader.number_behind negative digits.now tokens.old.rest.now ≡ Some (term, tokens.new.rest.now)) }
-    ensures none { IsErrOf result ReadError.NoBlock → reader.number_behind negative digits.now tokens.old.rest.now ≡ None }
+    ensures none { IsErrOf result BlockError.NoBlock → reader.number_behind negative digits.now tokens.old.rest.now ≡ None }
 {
     if !is_mark(tokens.peek(), Mark::Colon) {
         return Ok(Term::Int(negative, digits.share()?));
@@ -126,9 +126,9 @@ fn number_behind(negative: bool, digits: &Word, tokens: &mut Cursor<'_>) -> Resu
 
 /// What follows digits without a sign: `@` and `0`, or what may follow those of a number.
 #[tactic(auto, unfolding(crate::specs::Reader::digits_behind))]
-fn digits_behind(digits: &Word, tokens: &mut Cursor<'_>) -> Result<Term, ReadError>
+fn digits_behind(digits: &Word, tokens: &mut Cursor<'_>) -> Result<Term, BlockError>
     ensures found { IfOk result (λ term. reader.digits_behind digits.now tokens.old.rest.now ≡ Some (term, tokens.new.rest.now)) }
-    ensures none { IsErrOf result ReadError.NoBlock → reader.digits_behind digits.now tokens.old.rest.now ≡ None }
+    ensures none { IsErrOf result BlockError.NoBlock → reader.digits_behind digits.now tokens.old.rest.now ≡ None }
 {
     if !is_mark(tokens.peek(), Mark::At) {
         return number_behind(false, digits, tokens);
@@ -140,9 +140,9 @@ fn digits_behind(digits: &Word, tokens: &mut Cursor<'_>) -> Result<Term, ReadErr
 
 /// What follows a `-`.
 #[tactic(auto, unfolding(crate::specs::Reader::negative_behind))]
-fn negative_behind(tokens: &mut Cursor<'_>) -> Result<Term, ReadError>
+fn negative_behind(tokens: &mut Cursor<'_>) -> Result<Term, BlockError>
     ensures found { IfOk result (λ term. reader.negative_behind tokens.old.rest.now ≡ Some (term, tokens.new.rest.now)) }
-    ensures none { IsErrOf result ReadError.NoBlock → reader.negative_behind tokens.old.rest.now ≡ None }
+    ensures none { IsErrOf result BlockError.NoBlock → reader.negative_behind tokens.old.rest.now ≡ None }
 {
     let digits = tokens.digits()?;
     number_behind(true, &digits, tokens)

@@ -73,11 +73,11 @@ pub record IsLeft (pieces : List Entry) (p : Cell × Cell) (ps : Pairs) : Type 0
 kept : (span : Span) (p : Cell × Cell) (ps : Pairs) → holds span p.1 ≡ true → picked span (p ∷ ps) ≡ p ∷ picked span ps
 kept span p ps e = ap (λ b. cond b (p ∷ picked span ps) (picked span ps)) e
 
-left_out : (span : Span) (p : Cell × Cell) (ps : Pairs) → holds span p.1 ≡ false → picked span (p ∷ ps) ≡ picked span ps
-left_out span p ps e = ap (λ b. cond b (p ∷ picked span ps) (picked span ps)) e
+not_picked : (span : Span) (p : Cell × Cell) (ps : Pairs) → holds span p.1 ≡ false → picked span (p ∷ ps) ≡ picked span ps
+not_picked span p ps e = ap (λ b. cond b (p ∷ picked span ps) (picked span ps)) e
 
 left_more : (e : Entry) (es : List Entry) (p : Cell × Cell) (ps : Pairs) → holds e.1 p.1 ≡ false → IsLeft es p ps → IsLeft (e ∷ es) p ps
-left_more e es p ps out_ rest = record { same = ap (λ q. q ++ parts es (p ∷ ps)) (left_out e.1 p ps out_) ∙ ap (λ q. picked e.1 ps ++ q) rest.same }
+left_more e es p ps out_ rest = record { same = ap (λ q. q ++ parts es (p ∷ ps)) (not_picked e.1 p ps out_) ∙ ap (λ q. picked e.1 ps ++ q) rest.same }
 
 taken_here : (e : Entry) (es : List Entry) (p : Cell × Cell) (ps : Pairs) → holds e.1 p.1 ≡ true → IsLeft es p ps → IsTaken (e ∷ es) p ps
 taken_here e es p ps in_ rest = record {
@@ -91,7 +91,7 @@ taken_later : (e : Entry) (es : List Entry) (p : Cell × Cell) (ps : Pairs) → 
 taken_later e es p ps out_ rest = record {
   before = picked e.1 ps ++ rest.before;
   behind = rest.behind;
-  more = ap (λ q. q ++ parts es (p ∷ ps)) (left_out e.1 p ps out_) ∙ ap (λ q. picked e.1 ps ++ q) rest.more ∙ sym (append_assoc (picked e.1 ps) rest.before (p ∷ rest.behind));
+  more = ap (λ q. q ++ parts es (p ∷ ps)) (not_picked e.1 p ps out_) ∙ ap (λ q. picked e.1 ps ++ q) rest.more ∙ sym (append_assoc (picked e.1 ps) rest.before (p ∷ rest.behind));
   less = ap (λ q. picked e.1 ps ++ q) rest.less ∙ sym (append_assoc (picked e.1 ps) rest.before rest.behind);
 }
 
@@ -167,10 +167,10 @@ sorted_parts from to pieces (p ∷ ps) known up =
 
     more : sorted_by by_head (parts pieces ps) ≡ picked (between from to) ps → sorted_by by_head (parts pieces (p ∷ ps)) ≡ picked (between from to) (p ∷ ps)
     more rest = elim (is_nil p.1) as (λ b. is_nil p.1 ≡ b → sorted_by by_head (parts pieces (p ∷ ps)) ≡ picked (between from to) (p ∷ ps)) [
-      | true ↦ λ e. ap (sorted_by by_head) (nil_left pieces p ps e).same ∙ rest ∙ sym (left_out (between from to) p ps (ap (λ b. not b && lies_in (between from to) (Before p.1)) e))
+      | true ↦ λ e. ap (sorted_by by_head) (nil_left pieces p ps e).same ∙ rest ∙ sym (not_picked (between from to) p ps (ap (λ b. not b && lies_in (between from to) (Before p.1)) e))
       | false ↦ λ cell. elim (lies_in (between from to) (Before p.1)) as (λ b. lies_in (between from to) (Before p.1) ≡ b → sorted_by by_head (parts pieces (p ∷ ps)) ≡ picked (between from to) (p ∷ ps)) [
         | true ↦ λ in_. here rest cell in_ ((placed from to pieces p ps cell known).0 in_)
-        | false ↦ λ out_. ap (sorted_by by_head) ((placed from to pieces p ps cell known).1 out_).same ∙ rest ∙ sym (left_out (between from to) p ps (none_of (not (is_nil p.1)) (lies_in (between from to) (Before p.1)) out_))
+        | false ↦ λ out_. ap (sorted_by by_head) ((placed from to pieces p ps cell known).1 out_).same ∙ rest ∙ sym (not_picked (between from to) p ps (none_of (not (is_nil p.1)) (lies_in (between from to) (Before p.1)) out_))
       ] refl
     ] refl
 

@@ -8,7 +8,7 @@ use Rattle.sql_tree.specs.declared.tree.CmpOp.{CmpOp}
 use Rattle.sql_tree.specs.declared.tree.CmpOp.TheVariants as cmp
 use Rattle.sql_semantics.specs.Sources.{NamedSource}
 use Rattle.rows_to_mal.specs.Candidates.{ColumnCond, Within, Outside, Either, Leaf}
-use Rattle.rows_to_mal.specs.Lent.{is_within, is_ranged}
+use Rattle.rows_to_mal.specs.Lent.{is_one_range, is_ranged}
 use Rattle.rows_to_mal.specs.Reading.{read_compare, read_leaf, read_test, read_cond, of_one_column, placed}
 
 -- ## Comparisons
@@ -31,24 +31,24 @@ placed_keeps make None = refl
 placed_keeps make (Some at) = refl
 
 -- a range that is read is one itself
-within_is : (found : Option ((ℕ × ℕ) × Leaf)) (at : (ℕ × ℕ) × ColumnCond) → option_map (placed Within) found ≡ Some at → true ≡ is_within at.1
+within_is : (found : Option ((ℕ × ℕ) × Leaf)) (at : (ℕ × ℕ) × ColumnCond) → option_map (placed Within) found ≡ Some at → true ≡ is_one_range at.1
 within_is None at e = cc
 within_is (Some leaf) at e = grind (arith, e)
 
-outside_is : (found : Option ((ℕ × ℕ) × Leaf)) (at : (ℕ × ℕ) × ColumnCond) → option_map (placed Outside) found ≡ Some at → false ≡ is_within at.1
+outside_is : (found : Option ((ℕ × ℕ) × Leaf)) (at : (ℕ × ℕ) × ColumnCond) → option_map (placed Outside) found ≡ Some at → false ≡ is_one_range at.1
 outside_is None at e = cc
 outside_is (Some leaf) at e = grind (arith, e)
 
-either_made : (same : Bool) (place : ℕ × ℕ) (left right : ColumnCond) (at : (ℕ × ℕ) × ColumnCond) → (if same then Some (place, Either left right) else None) ≡ Some at → false ≡ is_within at.1
+either_made : (same : Bool) (place : ℕ × ℕ) (left right : ColumnCond) (at : (ℕ × ℕ) × ColumnCond) → (if same then Some (place, Either left right) else None) ≡ Some at → false ≡ is_one_range at.1
 either_made true place left right at e = grind (arith, e)
 either_made false place left right at e = cc
 
-either_is : (left right : Option ((ℕ × ℕ) × ColumnCond)) (at : (ℕ × ℕ) × ColumnCond) → of_one_column left right ≡ Some at → false ≡ is_within at.1
+either_is : (left right : Option ((ℕ × ℕ) × ColumnCond)) (at : (ℕ × ℕ) × ColumnCond) → of_one_column left right ≡ Some at → false ≡ is_one_range at.1
 either_is None right at e = cc
 either_is (Some left) None at e = cc
 either_is (Some left) (Some right) at e = either_made ((left.0.0 == right.0.0) && (left.0.1 == right.0.1)) left.0 left.1 right.1 at e
 
-pub ranged_is : (sources : List NamedSource) (cond : CondTree) (at : (ℕ × ℕ) × ColumnCond) → read_cond sources cond ≡ Some at → is_ranged cond ≡ is_within at.1
+pub ranged_is : (sources : List NamedSource) (cond : CondTree) (at : (ℕ × ℕ) × ColumnCond) → read_cond sources cond ≡ Some at → is_ranged cond ≡ is_one_range at.1
 ranged_is sources (tree.Compare cmp.Eq left right) at e = within_is (read_compare sources cmp.Eq left right) at e
 ranged_is sources (tree.Compare cmp.Ne left right) at e = outside_is (read_compare sources cmp.Eq left right) at e
 ranged_is sources (tree.Compare cmp.Lt left right) at e = within_is (read_compare sources cmp.Lt left right) at e

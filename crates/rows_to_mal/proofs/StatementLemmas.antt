@@ -32,7 +32,7 @@ use Rattle.sql_semantics.specs.References.{references, item_exprs}
 use Rattle.sql_semantics.specs.Kinds.{is_misfit}
 use Rattle.sql_semantics.specs.Check.{refused_if, misplaced, unknown_names, over_table, own_source, delete_refusals, update_refusals, query_refusals, missing_tables, names_twice, column_refusals, bad_in_exprs, bad_references, bad_keys, not_grouped, is_misfit_set, is_misfit_cond, is_misfit_query, refusals_of, check_refusal, sources_named, tables_of, called_in}
 use Rattle.sql_semantics.specs.Valid.{IsValid}
-use Rattle.sql_kinds.proofs.NameLemmas.{same_name, map_empty, left_empty, right_empty, left_out as none_first}
+use Rattle.sql_kinds.proofs.NameLemmas.{same_name, map_empty, left_empty, right_empty, none_left as none_first}
 use Rattle.sql_kinds.proofs.TableLemmas.{as_source, source_is}
 
 -- ## Refusals

@@ -23,10 +23,10 @@ abbrev pub placed_leaf : (ℕ × ℕ) × Range → (ℕ × ℕ) × Leaf
 placed_leaf at = (at.0, leaf_of at.1)
 
 -- a range itself
-abbrev pub is_within : ColumnCond → Bool
-is_within (Within leaf) = true
-is_within (Outside leaf) = false
-is_within (Either left right) = false
+abbrev pub is_one_range : ColumnCond → Bool
+is_one_range (Within leaf) = true
+is_one_range (Outside leaf) = false
+is_one_range (Either left right) = false
 
 -- a condition that is a range itself where it is of one column
 abbrev pub is_ranged : CondTree → Bool

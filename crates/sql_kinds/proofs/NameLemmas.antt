@@ -36,9 +36,9 @@ right_empty [] ys e = e
 right_empty (x ∷ xs) ys e = cc
 
 -- the first of the elements doesn't pass, and neither do the others
-pub left_out : {X : Type 0} (b : Bool) (x : X) (xs : List X) → cond b (x ∷ xs) xs ≡ [] → (b ≡ false) × (xs ≡ [])
-left_out true x xs e = cc
-left_out false x xs e = (refl, e)
+pub none_left : {X : Type 0} (b : Bool) (x : X) (xs : List X) → cond b (x ∷ xs) xs ≡ [] → (b ≡ false) × (xs ≡ [])
+none_left true x xs e = cc
+none_left false x xs e = (refl, e)
 
 -- ## Names without a double
 
@@ -65,7 +65,7 @@ differ_behind : (before names : List (List ℕ))
 differ_behind before [] e = (refl, none_at_all before)
 differ_behind before (name ∷ names) e =
     let parts : (list_any (bytes_eq name) (take (length before) (before ++ name ∷ names)) ≡ false)
-    × (filter (λ (at : ℕ × List ℕ). list_any (bytes_eq at.1) (take at.0 (before ++ name ∷ names))) (enumerate_from (length before + 1) names) ≡ []) = left_out _ _ _ e in
+    × (filter (λ (at : ℕ × List ℕ). list_any (bytes_eq at.1) (take at.0 (before ++ name ∷ names))) (enumerate_from (length before + 1) names) ≡ []) = none_left _ _ _ e in
     let here : list_any (bytes_eq name) before ≡ false = ap (list_any (bytes_eq name)) (sym (front before (name ∷ names))) ∙ parts.0 in
     let moved : filter (λ (at : ℕ × List ℕ). list_any (bytes_eq at.1) (take at.0 ((before ++ name ∷ []) ++ names))) (enumerate_from (length (before ++ name ∷ [])) names) ≡ [] =
     ap (λ n. filter (λ (at : ℕ × List ℕ). list_any (bytes_eq at.1) (take at.0 ((before ++ name ∷ []) ++ names))) (enumerate_from n names)) (length-append before (name ∷ []))

@@ -14,7 +14,7 @@ use Rattle.sql_semantics.specs.Check.{column_named, targets, is_misfit_row, is_m
 use Rattle.sql_semantics.specs.Effect.{placed, own_table, set_cell, updated_row}
 use Rattle.sql_semantics.specs.Kinds.{kind_of_expr, is_misfit}
 use Rattle.sql_semantics.specs.Valid.{names_differ, column_names, fits_columns, is_valid_column, are_valid_columns}
-use Rattle.sql_kinds.proofs.NameLemmas.{same_name, still_named, first_named, left_out}
+use Rattle.sql_kinds.proofs.NameLemmas.{same_name, still_named, first_named, none_left}
 use Rattle.sql_kinds.proofs.CellLemmas.{cell_agrees, value_fits}
 
 shorter : (a b : ℕ) → suc a ≡ suc b → a ≡ b
@@ -109,7 +109,7 @@ module _ (columns : List Column) (column : Column) (found : column_named columns
   placed_cell (name ∷ listed) [] known e fits = default_fits
   placed_cell (name ∷ listed) (c ∷ row) known e fits =
       let out : (is_none (column_named columns name) ≡ false) × (filter (λ n. is_none (column_named columns n)) listed ≡ []) =
-      left_out (is_none (column_named columns name)) name (filter (λ n. is_none (column_named columns n)) listed) known in
+      none_left (is_none (column_named columns name)) name (filter (λ n. is_none (column_named columns n)) listed) known in
       let target : (x : Column) × (column_named columns name ≡ Some x) = some_of (column_named columns name) out.0 in
       let all : filter_map (column_named columns) (name ∷ listed) ≡ target.0 ∷ filter_map (column_named columns) listed =
       ap (λ (o : Option Column). cons_option o (filter_map (column_named columns) listed)) target.1 in

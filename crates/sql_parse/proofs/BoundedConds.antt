@@ -8,7 +8,7 @@ use Rattle.std.proofs.lemmas.List.Folds.{list_any-append}
 use Rattle.sql_tree.specs.Exprs.{cond_exprs}
 use Rattle.sql_grammar.specs.Refused.{expr_nodes, cond_nodes, has_column_arithmetic, has_wide_literal}
 use Rattle.sql_parse.proofs.BoundedExprs.{arithmetic_kept, unread_kept, expr_whole}
-use Rattle.sql_parse.proofs.Lists.{both, or_left, or_right, or_swapped, or_false, added, unchanged, of_choice, is_past, is_within, same_past}
+use Rattle.sql_parse.proofs.Lists.{both, or_left, or_right, or_swapped, or_false, added, unchanged, of_choice, is_past, is_at_most, same_past}
 use Rattle.sql_reader.specs.Bounded.{some_column, has_unread, cond_has_unread, with_arithmetic, with_unread_test, with_cond_signs, bounded_join, bounded}
 use Rattle.sql_reader.specs.Derived.{expr_with, cond_with}
 use Rattle.sql_refusals.specs.Unread.{unread_cell, cond_as_read}
@@ -155,7 +155,7 @@ within_exprs (Either left right) h =
 
 -- a condition within its limit keeps its expressions
 pub cond_exprs_kept : (c : CondTree) → nat_lt 128 (cond_nodes c) ≡ false → cond_exprs (cond_with bounded c) ≡ map (expr_with bounded) (cond_exprs c)
-cond_exprs_kept c h = within_exprs c (is_within _ _ h)
+cond_exprs_kept c h = within_exprs c (is_at_most _ _ h)
 
 -- an expression past a limit that it is asked for before it is taken as it is written
 abbrev pub is_past_limits : ExprTree → Bool
@@ -184,4 +184,4 @@ within_whole (Either left right) h k =
 
 -- a condition within its limits is as it is written
 pub cond_whole : (c : CondTree) → list_any is_past_limits (cond_exprs c) ≡ false → nat_lt 128 (cond_nodes c) ≡ false → cond_with bounded c ≡ c
-cond_whole c h k = within_whole c h (is_within _ _ k)
+cond_whole c h k = within_whole c h (is_at_most _ _ k)

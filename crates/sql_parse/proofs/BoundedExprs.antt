@@ -5,7 +5,7 @@ use Rattle.std.specs.Prelude.{if◌then◌else◌}
 use Rattle.cell_core.specs.declared.cell.Cell.{Cell}
 use Rattle.cell_core.specs.declared.cell.Cell.TheVariants as cell
 use Rattle.sql_grammar.specs.Refused.{expr_nodes, has_column, is_column_arithmetic, has_wide_literal, is_wide_cell, is_out_of_range}
-use Rattle.sql_parse.proofs.Lists.{both, or_left, or_right, or_swapped, added, unchanged, of_choice, is_past, is_within, same_past}
+use Rattle.sql_parse.proofs.Lists.{both, or_left, or_right, or_swapped, added, unchanged, of_choice, is_past, is_at_most, same_past}
 use Rattle.sql_reader.specs.Bounded.{number_cell, some_column, has_unread, with_column, with_unread, with_signs, bounded_operator, bounded}
 use Rattle.sql_reader.specs.Derived.{cell_with, expr_with}
 use Rattle.sql_refusals.specs.Unread.{has_literal, unread_cell, is_unread_cell, cell_as_read, expr_as_read}
@@ -166,4 +166,4 @@ within_whole (Aggregate f of) h k = ap (Aggregate f) (within_whole of h k)
 
 -- an expression within its limits, without a number of more than 64 bits, is as it is written
 pub expr_whole : (e : ExprTree) → (has_wide_literal e || nat_lt 64 (expr_nodes e)) ≡ false → expr_with bounded e ≡ e
-expr_whole e h = within_whole e (or_left _ _ h) (is_within _ _ (or_right _ _ h))
+expr_whole e h = within_whole e (or_left _ _ h) (is_at_most _ _ (or_right _ _ h))

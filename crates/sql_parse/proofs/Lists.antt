@@ -45,8 +45,8 @@ of_choice f false x y = refl
 pub is_past : (k n : ℕ) → nat_lt k n ≡ true → k < n
 is_past k n e = grind (arith, nat_tests)
 
-pub is_within : (k n : ℕ) → nat_lt k n ≡ false → n ≤ k
-is_within k n e = grind (arith, nat_tests)
+pub is_at_most : (k n : ℕ) → nat_lt k n ≡ false → n ≤ k
+is_at_most k n e = grind (arith, nat_tests)
 
 pub past : (k n : ℕ) → k < n → nat_lt k n ≡ true
 past k n e = grind (arith, nat_tests)
@@ -60,7 +60,7 @@ same_past k m n e = go (nat_lt k n) refl
   where
     go : (b : Bool) → nat_lt k n ≡ b → nat_lt k m ≡ b
     go true h = let low = is_past k n h in past k m (omega arith)
-    go false h = let high = is_within k n h in within k m (omega arith)
+    go false h = let high = is_at_most k n h in within k m (omega arith)
 
 pub any_same : {X Y : Type 0} (f : X → Y) (p : Y → Bool) (q : X → Bool) → ((x : X) → p (f x) ≡ q x) → (xs : List X) → list_any p (map f xs) ≡ list_any q xs
 any_same f p q one [] = refl

@@ -9,7 +9,7 @@ use Rattle.sql_grammar.specs.Reads.IsReadAs.{Untold, Told}
 use Rattle.sql_grammar.specs.Refused.{IsFirstRule, rule_at, is_too_deep, left_out, passed_limits, first_passed}
 use Rattle.sql_grammar.specs.Statements.{Derives}
 use Rattle.sql_parse.proofs.BoundedStmts.{left_out_kept, limits_kept}
-use Rattle.sql_parse.proofs.Lists.{is_past, is_within}
+use Rattle.sql_parse.proofs.Lists.{is_past, is_at_most}
 use Rattle.sql_parse.proofs.WholeStmts.{none_passed}
 use Rattle.sql_parse.specs.Answered.{answered, Reads, EachReadsAsOne}
 use Rattle.sql_parse.specs.Steps.{AreAnswered}
@@ -113,7 +113,7 @@ first_rules tokens (Some a) (Some b) e f = go (nat_lt e.0 f.0) refl (nat_lt f.0 
     go : (p : Bool) → nat_lt e.0 f.0 ≡ p → (q : Bool) → nat_lt f.0 e.0 ≡ q → Some a ≡ Some b
     go true h q k = let none = f.2 e.0 (is_past _ _ h) in let some = e.1 in cc
     go false h true k = let none = e.2 f.0 (is_past _ _ k) in let some = f.1 in cc
-    go false h false k = let same : e.0 ≡ f.0 = let low = is_within _ _ h in let high = is_within _ _ k in omega arith in sym e.1 ∙ ap (rule_at tokens) same ∙ f.1
+    go false h false k = let same : e.0 ≡ f.0 = let low = is_at_most _ _ h in let high = is_at_most _ _ k in omega arith in sym e.1 ∙ ap (rule_at tokens) same ∙ f.1
 
 module _ (one_stmt : EachIsOneStmt) (all : List Placed) where
   -- no rule applies and one does

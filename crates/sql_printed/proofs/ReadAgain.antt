@@ -78,8 +78,8 @@ record IsWithin (tokens : List Token) (s : StmtTree) : Type 0 where
   conditions : passes_conditions s ≡ false
   exprs : list_any (λ e. nat_lt 64 (expr_nodes e)) (stmt_exprs s) ≡ false
 
-is_within : (bytes : ℕ) (tokens : List Token) (s : StmtTree) → first_passed (passed_limits bytes tokens s) ≡ None → IsWithin tokens s
-is_within bytes tokens s h =
+no_limit_passed : (bytes : ℕ) (tokens : List Token) (s : StmtTree) → first_passed (passed_limits bytes tokens s) ≡ None → IsWithin tokens s
+no_limit_passed bytes tokens s h =
     let a = first_not (nat_lt 65536 bytes, codes "statement") (drop 1 (passed_limits bytes tokens s)) h in
     let b = first_not (list_any is_long_name tokens, codes "name") (limits_of s) a.1 in
     let c = first_not (passes_literal s, codes "literal") (drop 1 (limits_of s)) b.1 in
@@ -142,7 +142,7 @@ names_short tokens s is derives names =
 printed_again : (all : List Placed) (s : StmtTree) (is : IsPrintable s) → Derives (tokens_in all) s → left_out s ≡ None → first_passed (passed_limits (statement_bytes all) (tokens_in all) s) ≡ None → length (canonical s) ≤ 65536 → IsReadAs (canonical s) (ReadsAs s)
 printed_again all s is derives kept none fits =
     let (printed, are, same) = printed_tokens_of s is in
-    let within : IsWithin (tokens_in all) s = is_within (statement_bytes all) (tokens_in all) s none in
+    let within : IsWithin (tokens_in all) s = no_limit_passed (statement_bytes all) (tokens_in all) s none in
     let plain : ArePlain (tokens_in printed) = subst ArePlain (sym same) (plain_printed (tokens_in all) s is within) in
     let derived : Derives (tokens_in printed) s = subst (λ ts. Derives ts s) (sym same) (printed_derives_of s is) in
     let names : list_any is_long_name (tokens_in printed) ≡ false = subst (λ ts. list_any is_long_name ts ≡ false) (sym same) (names_short (tokens_in all) s is derives within.names) in
