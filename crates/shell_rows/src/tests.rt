@@ -232,15 +232,8 @@ fn each_statement_has_its_reply(rt: HostRuntime) -> Result<(), Fail> {
 }
 
 #[test]
-fn statuses_and_what_they_are_about(rt: HostRuntime) -> Result<(), Fail> {
+fn words_have_their_status(rt: HostRuntime) -> Result<(), Fail> {
     let alloc = rt.alloc();
-    let longest = vec![in alloc; b' '; 1_048_576]?;
-    let too_long = vec![in alloc; b' '; 1_048_577]?;
-    let many = vec![in alloc; b'x'; 257]?;
-    let mut many_pieces = Vec::new(alloc);
-    for b in many {
-        many_pieces.extend_from_slice(&[b, b';'])?;
-    }
     let three = THREE.as_bytes();
     for (name, words, status, at) in [
         ("no words", "", 1, 0),
@@ -265,6 +258,20 @@ fn statuses_and_what_they_are_about(rt: HostRuntime) -> Result<(), Fail> {
         assert_eq!(rt; (got, about), (status, at), "{name}");
         assert_eq!(rt; text.len(), 0, "{name}");
     }
+    Ok(())
+}
+
+#[test]
+fn scripts_have_their_status(rt: HostRuntime) -> Result<(), Fail> {
+    let alloc = rt.alloc();
+    let longest = vec![in alloc; b' '; 1_048_576]?;
+    let too_long = vec![in alloc; b' '; 1_048_577]?;
+    let many = vec![in alloc; b'x'; 257]?;
+    let mut many_pieces = Vec::new(alloc);
+    for b in many {
+        many_pieces.extend_from_slice(&[b, b';'])?;
+    }
+    let three = THREE.as_bytes();
     for (name, script, failing, status, at, written) in [
         ("a failing start", three, (1, 0), 2, 1, ""),
         ("a failing read", three, (2, 0), 2, 1, ""),
