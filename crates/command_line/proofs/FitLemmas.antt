@@ -3,7 +3,7 @@ use Rattle.std.proofs.Common.{◌≡◌, ◌≢◌, ◌==◌, ℕ, ◌^◌, ◌�
 use Rattle.std.specs.Option.{option_map, option_and_then}
 use Rattle.std.specs.List.{AllByRecursion, list_all, slice_split}
 use Rattle.std.specs.Str.Parse.{digits_value}
-use Rattle.std.proofs.lemmas.Bool.{leb-true}
+use Rattle.std.proofs.lemmas.Bool.{and_parts, leb-true}
 use Rattle.cell_core.specs.Places.{operators}
 use Rattle.cell_core.specs.SameInstr.{same_op}
 use Rattle.cell_core.specs.declared.operator.Op.{Op}
@@ -60,12 +60,8 @@ number_passes low high text = by (is_number text) (passes low high n) refl
     by true false is = tt
     by false within is = tt
 
-both_hold : (p q : Bool) → (p && q) ≡ true → (p ≡ true) × (q ≡ true)
-both_hold true q is = (refl, is)
-both_hold false q is = absurd (cc)
-
 passed : (low high n : ℕ) → passes low high n ≡ true → (low ≤ n) × (n ≤ high)
-passed low high n is = let each = both_hold (nat_le low n) (nat_le n high) is in (leb-true low n each.0, leb-true n high each.1)
+passed low high n is = let each = and_parts (nat_le low n) (nat_le n high) is in (leb-true low n each.0, leb-true n high each.1)
 
 -- ## Weights
 

@@ -38,10 +38,6 @@ unmarked rows marks id marked none = no_child id rows (λ p low. go p (is_parent
 
 -- ## The row that leads
 
-pub both_so : (a b : Bool) → a ≡ true → b ≡ true → (a && b) ≡ true
-both_so true b a_so b_so = b_so
-both_so false b a_so b_so = a_so
-
 pub none_so : (a b c : Bool) → b ≡ false → ((a && b) && c) ≡ false
 none_so true true c never = absurd (true≢false never)
 none_so true false c never = refl

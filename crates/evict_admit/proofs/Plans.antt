@@ -5,6 +5,7 @@ use Rattle.std.specs.List.{AllByRecursion, IsDistinct}
 use Rattle.std.proofs.lemmas.List.{get_or_past, length-map}
 use Rattle.std.proofs.lemmas.List.Folds.{list_any-append}
 use Rattle.std.proofs.lemmas.List.Sums.{sum_by-cons}
+use Rattle.std.proofs.lemmas.Bool.{and_parts}
 use Rattle.std.proofs.lemmas.Bool.Decides.{eqb_tells, Decides-eqb, Decides-like, same_from_decides}
 use Rattle.score_hook.specs.declared.stats.Stats.{Stats}
 use Rattle.score_hook.specs.declared.stats.Score.{Score}
@@ -229,14 +230,6 @@ seat_none : (b : Bool) (p : ℕ) → seat_of b p ≡ None → b ≡ false
 seat_none true p e = cc
 seat_none false p e = refl
 
-both_left : (a b : Bool) → (a && b) ≡ true → a ≡ true
-both_left true b e = refl
-both_left false b e = cc
-
-both_right : (a b : Bool) → (a && b) ≡ true → b ≡ true
-both_right true b e = e
-both_right false b e = cc
-
 module _ (known : Known) (is_known : IsKnown known) (out : List ℕ) (lefts : List Left) (winners : List (Option ℕ)) (seated : IsSeated known lefts winners)
     (here : (p : ℕ) → p < length known.rows.now → left_at lefts p ≡ left_of out known.rows.now (row_at known.rows.now p)) where
   abbrev ready : ℕ → Bool
@@ -255,12 +248,12 @@ module _ (known : Known) (is_known : IsKnown known) (out : List ℕ) (lefts : Li
 
     -- the row that is chosen is left
     pub chosen_in : In (row_at known.rows.now w) (still out known.rows.now)
-    chosen_in = in_filter (λ (row : Row). not (is_gone out row)) known.rows.now (row_at known.rows.now w) (in_at known.rows.now w no_row chosen_low) (both_left _ _ chosen.1)
+    chosen_in = in_filter (λ (row : Row). not (is_gone out row)) known.rows.now (row_at known.rows.now w) (in_at known.rows.now w no_row chosen_low) (and_parts _ _ chosen.1).0
 
     pub chosen_next : (score : Stats → Score) → known.contenders.now ≡ map (contender_for score) known.rows.now → next_of score (still out known.rows.now) ≡ Some (row_at known.rows.now w)
     chosen_next score scored =
         least_first (goes_before score) (row_at known.rows.now w) (filter (can_go (still out known.rows.now)) (still out known.rows.now)) None
-        (inr (in_filter (can_go (still out known.rows.now)) (still out known.rows.now) (row_at known.rows.now w) chosen_in (both_right _ _ chosen.1)))
+        (inr (in_filter (can_go (still out known.rows.now)) (still out known.rows.now) (row_at known.rows.now w) chosen_in (and_parts _ _ chosen.1).1))
         (λ y e. cc) others
       where
         contender : (p : ℕ) → p < length known.rows.now → contender_at known.contenders.now p ≡ contender_for score (row_at known.rows.now p)

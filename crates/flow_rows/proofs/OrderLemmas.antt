@@ -4,6 +4,7 @@ use Rattle.std.specs.Prelude.{nat_lt, slice_get}
 use Rattle.std.specs.Option.{option_map, option_and_then}
 use Rattle.std.proofs.lemmas.Option.{slice_get_within}
 use Rattle.std.proofs.lemmas.Bool.Decides.{nat_tests}
+use Rattle.std.proofs.lemmas.Bool.{and_from}
 use Rattle.cell_core.specs.declared.operator.Arg.{Arg}
 use Rattle.cell_core.specs.declared.operator.Arg.TheVariants.{Const, Var}
 use Rattle.cell_core.specs.declared.operator.Instr.{Instr}
@@ -11,7 +12,7 @@ use Rattle.cell_core.specs.Kinds.{ValueType}
 use Rattle.mal_meaning.specs.declared.plan.Plan.{Plan}
 use Rattle.mal_check.specs.declared.error.PlanError.{PlanError}
 use Rattle.mal_check.specs.Checked.{arg_type, arg_types, instr_type, fault_or_else, types_from, instr_types, fault_with, plan_fault}
-use Rattle.mal_check.proofs.ListTests.{and_both, some_is}
+use Rattle.mal_check.proofs.ListTests.{some_is}
 use Rattle.mal_check.proofs.RunLemmas.{types_given}
 use Rattle.dataflow.specs.Plans.{has_all}
 use Rattle.dataflow.proofs.TaskLemmas.{none_is}
@@ -28,7 +29,7 @@ args_below types (Const c ∷ args) ts e = let parts = parts_of (arg_type types 
 args_below types (Var n ∷ args) ts e =
     let parts = parts_of (arg_type types (Var n)) (arg_types types args) ts e in
     let low : n < length types = slice_get_within types n parts.0 parts.2 in
-    and_both (nat_lt n (length types)) (has_all (λ n. nat_lt n (length types)) args) (grind (arith, nat_tests)) (args_below types args parts.1 parts.3)
+    and_from (nat_lt n (length types)) (has_all (λ n. nat_lt n (length types)) args) (grind (arith, nat_tests)) (args_below types args parts.1 parts.3)
 
 given_types : (types : List ValueType) (instr : Instr) (t : ValueType) → instr_type types instr ≡ Ok t → (ts : List ValueType) × (arg_types types instr.args ≡ Some ts)
 unfolding instr_type

@@ -25,8 +25,9 @@ use Rattle.mal_meaning.specs.Meaning.{arg_value, arg_values, bind_value, value_o
 use Rattle.mal_check.specs.Runnable.{fits_column, fits_columns_of}
 use Rattle.mal_check.proofs.PointLemmas.{instrs_fit}
 use Rattle.mal_meaning.specs.Runs.{FitsHere}
-use Rattle.mal_check.proofs.ListTests.{and_both, some_is}
+use Rattle.mal_check.proofs.ListTests.{some_is}
 use Rattle.std.specs.Cmp.{first_so, second_so}
+use Rattle.std.proofs.lemmas.Bool.{and_from}
 use Rattle.dataflow.specs.declared.basis.Basis.{Basis}
 use Rattle.dataflow.specs.declared.task.Task.{Task}
 use Rattle.dataflow.specs.Jobs.{CanRun}
@@ -174,7 +175,7 @@ joined (Some v) first' (Some ws) rest' vs f g e =
 
 first_of : (i : ℕ) (arg : Arg) (args : List Arg) → has_all (λ n. nat_lt n i) (arg ∷ args) ≡ true → has_all (λ n. nat_lt n i) (arg ∷ []) ≡ true
 first_of i (Const c) args h = refl
-first_of i (Var n) args h = and_both (nat_lt n i) true (first_so (nat_lt n i) (has_all (λ n. nat_lt n i) args) h) refl
+first_of i (Var n) args h = and_from (nat_lt n i) true (first_so (nat_lt n i) (has_all (λ n. nat_lt n i) args) h) refl
 
 rest_of : (i : ℕ) (arg : Arg) (args : List Arg) → has_all (λ n. nat_lt n i) (arg ∷ args) ≡ true → has_all (λ n. nat_lt n i) args ≡ true
 rest_of i (Const c) args h = h
@@ -209,7 +210,7 @@ columns_fit _ args h = refl
 all_fit : (instrs : List Instr) → are_known instrs ≡ true → list_all (λ (i : Instr). fits_columns_of no_tables i.op i.args) instrs ≡ true
 all_fit [] h = refl
 all_fit (x ∷ xs) h =
-    and_both (fits_columns_of no_tables x.op x.args) (list_all (λ (i : Instr). fits_columns_of no_tables i.op i.args) xs)
+    and_from (fits_columns_of no_tables x.op x.args) (list_all (λ (i : Instr). fits_columns_of no_tables i.op i.args) xs)
     (columns_fit x.op x.args (first_so (is_known x) (are_known xs) h)) (all_fit xs (second_so (is_known x) (are_known xs) h))
 
 in_order : (plan : Plan) → IsRunnable plan → (i : ℕ) (instr : Instr) → slice_get plan.instrs i ≡ Some instr → has_all (λ n. nat_lt n i) instr.args ≡ true
@@ -333,7 +334,7 @@ before_all test i [] below each = refl
 before_all test i (Const c ∷ args) below each = before_all test i args below each
 before_all test i (Var n ∷ args) below each =
     let first : nat_lt n i ≡ true = first_so (nat_lt n i) (has_all (λ n. nat_lt n i) args) below in
-    and_both (test n) (has_all test args) (each n (grind (arith, nat_tests))) (before_all test i args (second_so (nat_lt n i) (has_all (λ n. nat_lt n i) args) below) each)
+    and_from (test n) (has_all test args) (each n (grind (arith, nat_tests))) (before_all test i args (second_so (nat_lt n i) (has_all (λ n. nat_lt n i) args) below) each)
 
 none_there : {X : Type 0} (xs : List X) (i : ℕ) → i < length xs → slice_get xs i ≡ None → ⊥
 none_there [] i below e = grind arith

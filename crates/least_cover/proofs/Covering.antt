@@ -4,10 +4,11 @@ use Rattle.std.specs.Prelude.{All}
 use Rattle.std.specs.List.{AllByRecursion, IsDistinct, list_all, list_any}
 use Rattle.std.specs.Cmp.{second_so}
 use Rattle.std.proofs.lemmas.Bool.Decides.{Decides-eqb}
+use Rattle.std.proofs.lemmas.Bool.{and_from}
 use Rattle.cell_core.specs.declared.cut.Cut.{Cut}
 use Rattle.cell_core.specs.declared.cut.Span.{Span}
 use Rattle.cell_core.specs.Cuts.{is_cut_below, lies_in, stops, covers}
-use Rattle.subsume.proofs.CutOrder.{cut_order, never, up_to_below, both, holds, begins, ends}
+use Rattle.subsume.proofs.CutOrder.{cut_order, never, up_to_below, holds, begins, ends}
 use Rattle.least_cover.specs.Covers.{Priced, priced_at, span_at, IsChain, IsCover}
 use Rattle.subsume.proofs.Members.{In, in_at, list_all_in, list_all_from_in, list_any_from_in, in_from_list_any, in_filter, filter_in, in_map}
 
@@ -29,7 +30,7 @@ module _ (spans : List Priced) (target : Span) where
 
   -- so spans that have all those of the chain cover the target
   pub chain_covers : (chain : List ℕ) (some : List Span) → is_cut_below target.low target.high ≡ true → IsChain spans target target.low chain → ((p : ℕ) → In p chain → p < length spans → In (span_at spans p) some) → covers target some ≡ true
-  chain_covers chain some low h among = both (is_cut_below target.low target.high) (list_all held (stops target some)) low (list_all_from_in held (stops target some) each)
+  chain_covers chain some low h among = and_from (is_cut_below target.low target.high) (list_all held (stops target some)) low (list_all_from_in held (stops target some) each)
     where
       held : Cut → Bool
       held stop = list_any (λ s. lies_in s stop) some

@@ -5,6 +5,7 @@ use Rattle.std.proofs.lemmas.Option.{slice_get_past, slice_get_within}
 use Rattle.std.specs.Cmp.{first_so, second_so}
 use Rattle.std.specs.List.{list_all}
 use Rattle.std.specs.Option.{option_map, option_and_then}
+use Rattle.std.proofs.lemmas.Bool.{and_from}
 use Rattle.cell_core.specs.declared.operator.Op.{Op}
 use Rattle.cell_core.specs.declared.operator.Op.TheVariants as op
 use Rattle.cell_core.specs.declared.operator.Arg.{Arg}
@@ -21,7 +22,7 @@ use Rattle.mal_check.specs.declared.error.PlanError.{PlanError}
 use Rattle.mal_check.specs.Checked.{arg_type, arg_types, type_over, instr_type, fault_or_else, types_from, instr_types, fault_with, plan_fault}
 use Rattle.mal_check.specs.Runnable.{fits_columns_of, FitsDb}
 use Rattle.mal_check.specs.Pointwise.{FitsAt}
-use Rattle.mal_check.proofs.ListTests.{and_both, some_is}
+use Rattle.mal_check.proofs.ListTests.{some_is}
 use Rattle.mal_check.proofs.RunLemmas.{TypedValue, constant_is, types_given, fits_here, result_is, column_of}
 
 -- ## Lists
@@ -101,7 +102,7 @@ typed_args values types (arg ∷ args) found vs are e f =
     let t = split (arg_type types arg) (arg_types types args) found e in
     let v = split (arg_value values arg) (arg_values values args) vs f in
     let both : are_of_types (v.0 ∷ v.1) (t.0 ∷ t.1) ≡ true =
-    and_both (is_of_type v.0 t.0) (are_of_types v.1 t.1) (typed_arg values types arg t.0 are t.2 v.0 v.2) (typed_args values types args t.1 v.1 are t.3 v.3) in
+    and_from (is_of_type v.0 t.0) (are_of_types v.1 t.1) (typed_arg values types arg t.0 are t.2 v.0 v.2) (typed_args values types args t.1 v.1 are t.3 v.3) in
     sym (ap (λ vs. are_of_types vs found) v.4) ∙ sym (ap (λ ts. are_of_types (v.0 ∷ v.1) ts) t.4) ∙ both
 
 -- ## What comes behind changes no arguments

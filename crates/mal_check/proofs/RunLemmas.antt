@@ -5,6 +5,7 @@ use Rattle.std.proofs.Common.{ap, sym, ◌∙◌, subst, arith}
 use Rattle.std.proofs.lemmas.Option.{slice_get_past}
 use Rattle.std.specs.List.{list_all}
 use Rattle.std.specs.Option.{option_map, option_map_or, option_and_then}
+use Rattle.std.proofs.lemmas.Bool.{and_from}
 use Rattle.cell_core.specs.declared.cell.Cell.{Cell}
 use Rattle.cell_core.specs.declared.cell.Cell.TheVariants.{Nil, Int, Huge, Text, Day, Bit, Oid}
 use Rattle.cell_core.specs.declared.cell.Kind.{Kind}
@@ -28,7 +29,7 @@ use Rattle.mal_check.specs.declared.error.PlanError.{PlanError}
 use Rattle.mal_check.specs.declared.error.PlanError.TheVariants.{KindsDiffer, WrongCount}
 use Rattle.mal_check.specs.Checked.{arg_type, arg_types, type_over, type_at, instr_type, fault_or_else, types_from, instr_types, fault_with, plan_fault}
 use Rattle.mal_check.specs.Runnable.{fits_column, fits_columns_of, FitsDb}
-use Rattle.mal_check.proofs.ListTests.{and_both, some_is}
+use Rattle.mal_check.proofs.ListTests.{some_is}
 use Rattle.mal_check.proofs.TypedResults.{typed_result}
 
 -- ## Arguments
@@ -71,7 +72,7 @@ values_more : (found : Option Value) (rest : Option (List Value)) (t : ValueType
 values_more found rest t ts first others = (
   first.0 ∷ others.0,
   ap (λ f. option_and_then (λ y. option_map (λ ys. y ∷ ys) rest) f) first.1 ∙ ap (λ r. option_map (λ ys. first.0 ∷ ys) r) others.1,
-  and_both (is_of_type first.0 t) (are_of_types others.0 ts) first.2 others.2,
+  and_from (is_of_type first.0 t) (are_of_types others.0 ts) first.2 others.2,
 )
 
 -- the parts of types that are all found
@@ -150,8 +151,8 @@ result_is db operator args vs ts t value ok fit column e = typed_result operator
 
 are_more : (values : List Value) (types : List ValueType) (value : Value) (t : ValueType) → are_of_types values types ≡ true → is_of_type value t ≡ true
     → are_of_types (values ++ value ∷ []) (types ++ t ∷ []) ≡ true
-are_more [] [] value t ok h = and_both (is_of_type value t) true h refl
-are_more (v ∷ vs) (s ∷ ts) value t ok h = and_both (is_of_type v s) (are_of_types (vs ++ value ∷ []) (ts ++ t ∷ []))
+are_more [] [] value t ok h = and_from (is_of_type value t) true h refl
+are_more (v ∷ vs) (s ∷ ts) value t ok h = and_from (is_of_type v s) (are_of_types (vs ++ value ∷ []) (ts ++ t ∷ []))
     (first_so (is_of_type v s) (are_of_types vs ts) ok) (are_more vs ts value t (second_so (is_of_type v s) (are_of_types vs ts) ok) h)
 are_more values types value t ok h = cc
 

@@ -7,6 +7,7 @@ use Rattle.std.specs.Bool.{then_some}
 use Rattle.std.specs.Option.{option_map, option_map_or, option_or}
 use Rattle.std.specs.Ordering.{is_le, is_ge, is_eq, is_ne, is_lt, is_gt}
 use Rattle.std.specs.declared.cmp.Ordering.{Ordering}
+use Rattle.std.proofs.lemmas.Bool.{and_from}
 use Rattle.cell_core.specs.declared.cell.Cell.{Cell}
 use Rattle.cell_core.specs.declared.cell.Cell.TheVariants.{Nil, Int, Bit, Oid}
 use Rattle.cell_core.specs.declared.cell.Kind.{Kind}
@@ -23,7 +24,7 @@ use Rattle.cell_core.specs.Groups.{distinct, group_number, grouped, same_pair, p
 use Rattle.cell_core.specs.Calc.{fits_int, arithmetic, comparison, is_false, conjunction, disjunction, negation, nil_test, over_two, over_one, all_or_none, first_heads, calculated_at, calculated}
 use Rattle.cell_core.specs.Operators.{of_bat, of_bats, of_bat_and_cell, of_range, operate}
 use Rattle.cell_core.specs.Kinds.{ValueType, OneOf, BatOf, same_kind, agrees, is_of_kind, is_of_type, are_of_types, from_bat, from_bats, from_bat_and_cell, from_range, cells_kind, calculated_type, from_two, from_one, from_any, both_are, are_comparable, result_type}
-use Rattle.mal_check.proofs.ListTests.{and_both, all_append, all_filter, all_weaker, all_map, all_images, all_flat_map, all_zip, all_enumerated, all_distinct, found_passes, some_is, all_found}
+use Rattle.mal_check.proofs.ListTests.{all_append, all_filter, all_weaker, all_map, all_images, all_flat_map, all_zip, all_enumerated, all_distinct, found_passes, some_is, all_found}
 
 -- the head and the tail are Nil or of these kinds
 abbrev pub pair_is : Option Kind → Option Kind → Cell × Cell → Bool
@@ -97,37 +98,37 @@ kunion_typed : (h t h' t' : Option Kind) (l r : Pairs) → (agrees h h' && agree
 kunion_typed h t h' t' l r fit ok ok' =
     all_append (pair_is (option_or h h') (option_or t t')) l (kdifference_of r l)
     (all_weaker (pair_is h t) (pair_is (option_or h h') (option_or t t'))
-    (λ p e. and_both (is_of_kind (option_or h h') p.0) (is_of_kind (option_or t t') p.1)
+    (λ p e. and_from (is_of_kind (option_or h h') p.0) (is_of_kind (option_or t t') p.1)
     (left_kind h h' p.0 (first_so (is_of_kind h p.0) (is_of_kind t p.1) e))
     (left_kind t t' p.1 (second_so (is_of_kind h p.0) (is_of_kind t p.1) e)))
     l ok)
     (all_filter (pair_is (option_or h h') (option_or t t')) (λ p. not (has_head l p.0)) r
     (all_weaker (pair_is h' t') (pair_is (option_or h h') (option_or t t'))
-    (λ p e. and_both (is_of_kind (option_or h h') p.0) (is_of_kind (option_or t t') p.1)
+    (λ p e. and_from (is_of_kind (option_or h h') p.0) (is_of_kind (option_or t t') p.1)
     (right_kind h h' p.0 (first_so (agrees h h') (agrees t t') fit) (first_so (is_of_kind h' p.0) (is_of_kind t' p.1) e))
     (right_kind t t' p.1 (second_so (agrees h h') (agrees t t') fit) (second_so (is_of_kind h' p.0) (is_of_kind t' p.1) e)))
     r ok'))
 
 reversed_typed : (h t : Option Kind) (b : Pairs) → list_all (pair_is h t) b ≡ true → list_all (pair_is t h) (reversed b) ≡ true
 reversed_typed h t b ok = all_map (pair_is h t) (pair_is t h) (λ p. (p.1, p.0))
-    (λ p e. and_both (is_of_kind t p.1) (is_of_kind h p.0) (second_so (is_of_kind h p.0) (is_of_kind t p.1) e) (first_so (is_of_kind h p.0) (is_of_kind t p.1) e)) b ok
+    (λ p e. and_from (is_of_kind t p.1) (is_of_kind h p.0) (second_so (is_of_kind h p.0) (is_of_kind t p.1) e) (first_so (is_of_kind h p.0) (is_of_kind t p.1) e)) b ok
 
 -- each head beside a cell of its own
 beside_heads_typed : (h t k : Option Kind) (f : Cell × Cell → Cell) → ((p : Cell × Cell) → pair_is h t p ≡ true → is_of_kind k (f p) ≡ true) → (b : Pairs)
     → list_all (pair_is h t) b ≡ true → list_all (pair_is h k) (map (λ p. (p.0, f p)) b) ≡ true
 beside_heads_typed h t k f step b ok = all_map (pair_is h t) (pair_is h k) (λ p. (p.0, f p))
-    (λ p e. and_both (is_of_kind h p.0) (is_of_kind k (f p)) (first_so (is_of_kind h p.0) (is_of_kind t p.1) e) (step p e)) b ok
+    (λ p e. and_from (is_of_kind h p.0) (is_of_kind k (f p)) (first_so (is_of_kind h p.0) (is_of_kind t p.1) e) (step p e)) b ok
 
 marked_typed : (h t : Option Kind) (base : Cell) (b : Pairs) → list_all (pair_is h t) b ≡ true → list_all (pair_is h (Some kind.Oid)) (marked base b) ≡ true
 marked_typed h t base b ok = all_map (λ n. pair_is h t n.1) (pair_is h (Some kind.Oid)) (λ n. (n.1.0, counted_from base n.0))
-    (λ n e. and_both (is_of_kind h n.1.0) (is_of_kind (Some kind.Oid) (counted_from base n.0)) (first_so (is_of_kind h n.1.0) (is_of_kind t n.1.1) e) (counted_is base n.0))
+    (λ n e. and_from (is_of_kind h n.1.0) (is_of_kind (Some kind.Oid) (counted_from base n.0)) (first_so (is_of_kind h n.1.0) (is_of_kind t n.1.1) e) (counted_is base n.0))
     (enumerate_from 0 b) (all_enumerated (pair_is h t) b 0 ok)
 
 -- the head of one pair beside what is taken of each pair of another BAT
 beside_typed : (h h' t' k : Option Kind) (head : Cell) (f : Cell × Cell → Cell) → is_of_kind h head ≡ true
     → ((q : Cell × Cell) → pair_is h' t' q ≡ true → is_of_kind k (f q) ≡ true) → (r : Pairs) → list_all (pair_is h' t') r ≡ true
     → list_all (pair_is h k) (map (λ q. (head, f q)) r) ≡ true
-beside_typed h h' t' k head f e step r ok = all_map (pair_is h' t') (pair_is h k) (λ q. (head, f q)) (λ q g. and_both (is_of_kind h head) (is_of_kind k (f q)) e (step q g)) r ok
+beside_typed h h' t' k head f e step r ok = all_map (pair_is h' t') (pair_is h k) (λ q. (head, f q)) (λ q g. and_from (is_of_kind h head) (is_of_kind k (f q)) e (step q g)) r ok
 
 crossed_typed : (h t h' t' : Option Kind) (l r : Pairs) → list_all (pair_is h t) l ≡ true → list_all (pair_is h' t') r ≡ true → list_all (pair_is h h') (crossed l r) ≡ true
 crossed_typed h t h' t' l r ok ok' = all_flat_map (pair_is h t) (pair_is h h') (λ p. map (λ q. (p.0, q.0)) r)

@@ -2,6 +2,7 @@
 use Rattle.std.proofs.Common.{◌≡◌, ◌+◌, ◌-◌, ◌<◌, ◌≤◌, ℕ, suc, zero, Bool, true, false, List, [], ◌∷◌, ◌++◌, length, Some, None, refl, ap, sym, ◌∙◌, subst, arith}
 use Rattle.std.specs.Prelude.{◌||◌, ◌&&◌, get_or, slice_get}
 use Rattle.std.specs.Option.{option_map_or}
+use Rattle.std.proofs.lemmas.Bool.{and_parts, and_from}
 use Rattle.std.proofs.lemmas.Option.{same_Some, slice_get_within}
 use Rattle.cell_core.specs.declared.operator.Instr.{Instr}
 use Rattle.cell_core.specs.declared.operator.Arg.{Arg}
@@ -22,17 +23,6 @@ or_right false b e = e
 or_left : (a b : Bool) → a ≡ true → (a || b) ≡ true
 or_left a b e = ap (λ x. x || b) e
 
-and_first : (a b : Bool) → (a && b) ≡ true → a ≡ true
-and_first true b e = refl
-and_first false b e = e
-
-and_second : (a b : Bool) → (a && b) ≡ true → b ≡ true
-and_second true b e = e
-and_second false b e = absurd (cc)
-
-and_both : (a b : Bool) → a ≡ true → b ≡ true → (a && b) ≡ true
-and_both a b e f = ap (λ x. x && b) e ∙ f
-
 next_number : (k i : ℕ) → suc k + i ≡ k + suc i
 next_number k i = omega arith
 
@@ -40,7 +30,7 @@ next_number k i = omega arith
 used_to : (n : ℕ) (is : List Instr) (bs : List Bool) (j : ℕ) (x : Instr) → slice_get is j ≡ Some x → get_or bs j false ≡ true → uses n x.args ≡ true → is_used n is bs ≡ true
 used_to n [] bs j x at a u = cc
 used_to n (i ∷ is) [] j x at a u = cc
-used_to n (i ∷ is) (b ∷ bs) zero x at a u = or_left (b && uses n i.args) (is_used n is bs) (and_both b (uses n i.args) a (ap (λ (y : Instr). uses n y.args) (same_Some i x at) ∙ u))
+used_to n (i ∷ is) (b ∷ bs) zero x at a u = or_left (b && uses n i.args) (is_used n is bs) (and_from b (uses n i.args) a (ap (λ (y : Instr). uses n y.args) (same_Some i x at) ∙ u))
 used_to n (i ∷ is) (b ∷ bs) (suc j) x at a u = or_right (b && uses n i.args) (is_used n is bs) (used_to n is bs j x at a u)
 
 -- the instruction that is alive and uses the result
@@ -59,7 +49,7 @@ user_of n [] bs e = absurd (cc)
 user_of n (i ∷ is) [] e = absurd (cc)
 user_of n (i ∷ is) (b ∷ bs) e =
     or_split (b && uses n i.args) (is_used n is bs) e
-    (λ h. record { place = 0; instr = i; at = refl; lives = and_first b (uses n i.args) h; uses_it = and_second b (uses n i.args) h })
+    (λ h. record { place = 0; instr = i; at = refl; lives = (and_parts b (uses n i.args) h).0; uses_it = (and_parts b (uses n i.args) h).1 })
     (λ h. later_user n i is b bs (user_of n is bs h))
 
 module _ (out : Out) where

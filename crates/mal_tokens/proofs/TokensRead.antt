@@ -2,7 +2,7 @@
 use Rattle.std.proofs.Common.{◌≡◌, ℕ, zero, suc, ◌+◌, List, [], ◌∷◌, ◌++◌, length, take, drop, Bool, true, false, not, ◌&&◌, cond, Option, Some, None, refl, ap, sym, ◌∙◌, subst, append_assoc, append-nil}
 use Rattle.std.specs.Prelude.{◌==◌, flat_map}
 use Rattle.std.specs.List.{list_all, prefix_len, AllByRecursion}
-use Rattle.std.proofs.lemmas.Bool.{and_parts, eqb-true}
+use Rattle.std.proofs.lemmas.Bool.{and_from, and_parts, eqb-true}
 use Rattle.std.proofs.lemmas.List.{take-append-drop}
 use Rattle.std.proofs.Math.Seq.{drop-append_seam, take-append_seam}
 use Rattle.text_bytes.specs.Classes.{is_blank, is_letter, is_digit, is_word_byte, is_in_line, begins, begins_with}
@@ -49,9 +49,6 @@ record IsPart (b : ℕ) (bs : List ℕ) (found : Option Token × ℕ) : Type 0 w
   fits : Fits part (drop found.1 bs)
   token_is : token_of part ≡ found.0
 
-both : (p q : Bool) → p ≡ true → q ≡ true → (p && q) ≡ true
-both p q h k = ap (λ p. p && q) h ∙ k
-
 -- what is found at the front is a part
 abbrev FoundPart : ℕ → List ℕ → Found → Type 0
 FoundPart b bs None = Unit {0}
@@ -92,7 +89,7 @@ module _ (b : ℕ) (bs : List ℕ) where
       record {
         part = Letters b (take n bs);
         written_is = ap (λ cs. b ∷ cs) (take-append-drop n bs);
-        fits = both _ _ (both _ _ h (front_passes is_word_byte bs)) (ap not (front_stops is_word_byte bs));
+        fits = and_from _ _ (and_from _ _ h (front_passes is_word_byte bs)) (ap not (front_stops is_word_byte bs));
         token_is = refl;
       }
 
@@ -102,7 +99,7 @@ module _ (b : ℕ) (bs : List ℕ) where
       record {
         part = Number b (take n bs);
         written_is = ap (λ cs. b ∷ cs) (take-append-drop n bs);
-        fits = both _ _ (both _ _ h (front_passes is_digit bs)) (ap not (front_stops is_digit bs));
+        fits = and_from _ _ (and_from _ _ h (front_passes is_digit bs)) (ap not (front_stops is_digit bs));
         token_is = refl;
       }
 
@@ -126,7 +123,7 @@ module _ (b : ℕ) (bs : List ℕ) where
       record {
         part = Comment (take n bs);
         written_is = ap (λ cs. 35 ∷ cs) (take-append-drop n bs) ∙ ap (λ c. c ∷ bs) (sym (eqb-true b 35 h));
-        fits = both _ _ (front_passes is_in_line bs) (ap not (front_stops is_in_line bs));
+        fits = and_from _ _ (front_passes is_in_line bs) (ap not (front_stops is_in_line bs));
         token_is = refl;
       }
 

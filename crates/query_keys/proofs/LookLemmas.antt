@@ -3,6 +3,7 @@ use Rattle.std.proofs.Common.{◌≡◌, ℕ, ◌<◌, List, [], ◌∷◌, map,
 use Rattle.std.specs.Prelude.{if◌then◌else◌, filter, slice_index, unwrap_or, IsSome}
 use Rattle.std.specs.List.{AllByRecursion, filter_map}
 use Rattle.std.specs.Option.{option_map, option_map_or}
+use Rattle.std.proofs.lemmas.Bool.{and_from}
 use Rattle.cell_core.specs.declared.cell.Cell.{Cell}
 use Rattle.cell_core.specs.declared.cut.Span.{Span}
 use Rattle.cell_core.specs.declared.operator.Op.{Op}
@@ -20,7 +21,6 @@ use Rattle.lineage_key.specs.Parents.{id_in, parents_of}
 use Rattle.lineage_key.specs.Same.{same_key_decides}
 use Rattle.lineage_key.specs.Spans.{span_asked, span_between}
 use Rattle.subsume.specs.Cutting.{Entry, IsOfEntry, is_contained}
-use Rattle.subsume.proofs.CutOrder.{both}
 use Rattle.subsume.proofs.Cuttings.{parts_within}
 use Rattle.subsume.proofs.LeastFirst.{first_in}
 use Rattle.subsume.proofs.Members.{In, in_from_contains, in_map, map_in, filter_in}
@@ -53,7 +53,7 @@ rises_kept p (x ∷ b) up = elim (p x) as (λ t. Rises (cond t (x ∷ filter p b
 rises_told : (b : Pairs) → Rises b → rises (heads_of b) ≡ true
 rises_told [] up = refl
 rises_told (x ∷ []) up = refl
-rises_told (x ∷ y ∷ b) up = both (by_head x y) (rises (heads_of (y ∷ b))) up.0.0 (rises_told (y ∷ b) up.1)
+rises_told (x ∷ y ∷ b) up = and_from (by_head x y) (rises (heads_of (y ∷ b))) up.0.0 (rises_told (y ∷ b) up.1)
 
 -- ## Findings
 

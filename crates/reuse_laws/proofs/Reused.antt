@@ -3,6 +3,7 @@ use Rattle.std.proofs.Common.{◌≡◌, ℕ, true, false, List, [], ◌∷◌, 
 use Rattle.std.specs.Prelude.{Contains, if◌then◌else◌}
 use Rattle.std.specs.List.{AllByRecursion}
 use Rattle.std.specs.Cmp.{first_so, second_so}
+use Rattle.std.proofs.lemmas.Bool.{and_from}
 use Rattle.cell_core.specs.declared.cell.Cell.{Cell}
 use Rattle.cell_core.specs.declared.cut.Cut.{Cut}
 use Rattle.cell_core.specs.declared.cut.Cut.TheVariants.{Low, Before, After, High}
@@ -11,7 +12,6 @@ use Rattle.cell_core.specs.Cuts.{is_cut_below}
 use Rattle.cell_core.specs.Pairs.{Pairs, is_true}
 use Rattle.cell_core.specs.Relations.{selected}
 use Rattle.subsume.specs.Cutting.{Entry, is_contained, least_cut, IsCutUp, IsOfEntry}
-use Rattle.subsume.proofs.CutOrder.{both}
 use Rattle.subsume.proofs.Cuttings.{cut_up, parts_follow, parts_within}
 use Rattle.reuse_laws.specs.Reuse.{picked, merged, span_for, selected_in, is_low_end, is_high_end, is_askable}
 use Rattle.reuse_laws.specs.Laws.{SelectionsAcross, CuttingsServe, PiecesServe}
@@ -39,7 +39,7 @@ pieces_ask target entries cut [] ends all begun known = tt
 pieces_ask target entries cut (piece ∷ pieces) ends all begun known =
     let entry = known.1.0 in
     let high : is_high_end piece.1.high ≡ true = ap (λ (p : Entry). is_high_end p.1.high) known.1.2 ∙ least_ends entry.1.high target.high (all entry known.1.1.0) ends in (
-      both (is_low_end piece.1.low) (is_high_end piece.1.high) (ap (λ (p : Entry). is_low_end p.1.low) known.1.2 ∙ begun known.0) high,
+      and_from (is_low_end piece.1.low) (is_high_end piece.1.high) (ap (λ (p : Entry). is_low_end p.1.low) known.1.2 ∙ begun known.0) high,
       pieces_ask target entries piece.1.high pieces ends all (begins_on piece.1.high target.high high) known.2,
     )
 

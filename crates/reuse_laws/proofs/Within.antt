@@ -2,6 +2,7 @@
 use Rattle.std.proofs.Common.{◌≡◌, Bool, true, false, not, List, [], ◌∷◌, cond, refl, ap, sym, ◌∙◌}
 use Rattle.std.specs.Prelude.{filter}
 use Rattle.std.specs.Cmp.{first_so, second_so}
+use Rattle.std.proofs.lemmas.Bool.{and_from}
 use Rattle.cell_core.specs.declared.cell.Cell.{Cell}
 use Rattle.cell_core.specs.declared.cut.Cut.{Cut}
 use Rattle.cell_core.specs.declared.cut.Cut.TheVariants.{Before}
@@ -9,7 +10,7 @@ use Rattle.cell_core.specs.declared.cut.Span.{Span}
 use Rattle.cell_core.specs.Cuts.{is_cut_below, is_cut_up_to, lies_in}
 use Rattle.cell_core.specs.Pairs.{Pairs, is_nil}
 use Rattle.subsume.specs.Cutting.{is_contained}
-use Rattle.subsume.proofs.CutOrder.{cut_order, up_to_is, below_up_to, both, unnot}
+use Rattle.subsume.proofs.CutOrder.{cut_order, up_to_is, below_up_to, unnot}
 use Rattle.reuse_laws.specs.Reuse.{holds, picked}
 
 -- not strictly above
@@ -23,13 +24,13 @@ lies_on a b cut inside here =
     let high = up_to a.high b.high (second_so (is_cut_up_to b.low a.low) (is_cut_up_to a.high b.high) inside) in
     let begun = up_to a.low cut (first_so (is_cut_up_to a.low cut) (is_cut_below cut a.high) here) in
     let before = second_so (is_cut_up_to a.low cut) (is_cut_below cut a.high) here in
-    both (is_cut_up_to b.low cut) (is_cut_below cut b.high)
+    and_from (is_cut_up_to b.low cut) (is_cut_below cut b.high)
     (up_to_is b.low cut ∙ ap not (cut_order.chain cut a.low b.low begun low))
     (below_up_to cut a.high b.high before high)
 
 pub holds_on : (a b : Span) (cell : Cell) → is_contained a b ≡ true → holds a cell ≡ true → holds b cell ≡ true
 holds_on a b cell inside here =
-    both (not (is_nil cell)) (lies_in b (Before cell)) (first_so (not (is_nil cell)) (lies_in a (Before cell)) here)
+    and_from (not (is_nil cell)) (lies_in b (Before cell)) (first_so (not (is_nil cell)) (lies_in a (Before cell)) here)
     (lies_on a b (Before cell) inside (second_so (not (is_nil cell)) (lies_in a (Before cell)) here))
 
 -- a filter by a stronger test needs no weaker one before it

@@ -1,10 +1,10 @@
 -- The statements of a script are the pieces of its text, since no byte of them opens or ends anything.
 use Rattle.std.proofs.Common.{◌≡◌, ◌==◌, ℕ, ◌+◌, ◌*◌, ◌%◌, ◌^◌, ◌<◌, ◌≤◌, List, [], ◌∷◌, ◌++◌, Bool, true, false, codes, decimal, map, filter, if◌then◌else◌, refl, ap, ◌∙◌, arith, append_assoc}
-use Rattle.std.specs.Prelude.{flat_map, not, ◌&&◌, ◌||◌}
+use Rattle.std.specs.Prelude.{flat_map, not, ◌||◌}
 use Rattle.std.specs.List.{AllByRecursion, list_all, range_with_len}
 use Rattle.std.specs.Str.Parse.{AllDigits}
 use Rattle.std.proofs.Math.Nat.{mod-lt}
-use Rattle.std.proofs.lemmas.Bool.{ne_eqb}
+use Rattle.std.proofs.lemmas.Bool.{and_parts, and_from, ne_eqb}
 use Rattle.std.proofs.lemmas.Fmt.{decimal_is_IsNumeral}
 use Rattle.std.proofs.lemmas.Str.Parse.{digit_at}
 use Rattle.sql_print.specs.Canon.{listed}
@@ -38,18 +38,11 @@ apart b quiet = by (b == 39) (b == 34) (b == 45) (b == 47) (b == 59) refl refl r
     by false false false true t a c d e f quiet = absurd (cc)
     by false false false false true a c d e f quiet = absurd (cc)
 
-both_hold : (p q : Bool) → (p && q) ≡ true → (p ≡ true) × (q ≡ true)
-both_hold true q is = (refl, is)
-both_hold false q is = absurd (cc)
-
-both : (p q : Bool) → p ≡ true → q ≡ true → (p && q) ≡ true
-both p q is also = ap (λ t. t && q) is ∙ also
-
 quiet_append : (front back : List ℕ) → IsQuiet front → IsQuiet back → IsQuiet (front ++ back)
 quiet_append [] back quiet also = also
 quiet_append (b ∷ bs) back quiet also =
-    let each = both_hold (is_quiet b) (list_all is_quiet bs) quiet in
-    both (is_quiet b) (list_all is_quiet (bs ++ back)) each.0 (quiet_append bs back each.1 also)
+    let each = and_parts (is_quiet b) (list_all is_quiet bs) quiet in
+    and_from (is_quiet b) (list_all is_quiet (bs ++ back)) each.0 (quiet_append bs back each.1 also)
 
 digit_quiet : (b : ℕ) → 48 ≤ b → b ≤ 57 → is_quiet b ≡ true
 digit_quiet b low high =
@@ -59,7 +52,7 @@ digits_quiet : (digits : List ℕ) → AllDigits 10 digits → IsQuiet digits
 digits_quiet [] are = refl
 digits_quiet (b ∷ bs) are =
     let first = digit_at (b ∷ bs) 0 are (omega arith) in
-    both (is_quiet b) (list_all is_quiet bs) (digit_quiet b first.0 first.1) (digits_quiet bs are.1)
+    and_from (is_quiet b) (list_all is_quiet bs) (digit_quiet b first.0 first.1) (digits_quiet bs are.1)
 
 decimal_quiet : (n : ℕ) → n < 2 ^ 64 → IsQuiet (decimal n)
 decimal_quiet n small = digits_quiet (decimal n) (decimal_is_IsNumeral n small).0.1
@@ -73,7 +66,7 @@ opens_nothing b bs is = rw (is.no_text, is.no_name, is.no_line, is.no_block) ref
 first_run : (statement rest : List ℕ) → IsQuiet statement → runs_of Outside (statement ++ 59 ∷ rest) ≡ statement ∷ runs_of Outside rest
 first_run [] rest quiet = refl
 first_run (b ∷ bs) rest quiet =
-    let each = both_hold (is_quiet b) (list_all is_quiet bs) quiet in
+    let each = and_parts (is_quiet b) (list_all is_quiet bs) quiet in
     let is = apart b each.0 in
     let more : List ℕ = bs ++ 59 ∷ rest in
     ap (λ t. if t then [] ∷ runs_of Outside more else with_byte b (runs_of (opened b more) more)) is.no_end

@@ -3,7 +3,7 @@ use Rattle.std.proofs.Common.{◌≡◌, ℕ, ◌==◌, List, [], ◌∷◌, ◌
 use Rattle.std.specs.Int.{IsInRange}
 use Rattle.std.specs.List.{list_all}
 use Rattle.std.specs.Str.Parse.{IsNumeral, AllDigits}
-use Rattle.std.proofs.lemmas.Bool.{and_parts}
+use Rattle.std.proofs.lemmas.Bool.{and_from, and_parts}
 use Rattle.std.proofs.lemmas.Bool.Decides.{nat_tests}
 use Rattle.std.proofs.lemmas.Str.Parse.{digit_from_value}
 use Rattle.sql_grammar.specs.Grammar.{write_name, sign}
@@ -24,9 +24,6 @@ use Rattle.sql_tree.specs.declared.token.Token.{Token}
 use Rattle.sql_tree.specs.declared.token.Token.TheVariants as token
 
 -- ## What ends them
-
-both : (p q : Bool) → p ≡ true → q ≡ true → (p && q) ≡ true
-both p q h k = ap (λ p. p && q) h ∙ k
 
 -- no byte of a word and no mark begins what ends them
 ended : (p q r : Bool) → not (p || q || r) ≡ true → (p ≡ false) × (q ≡ false) × (r ≡ false)
@@ -50,7 +47,7 @@ pub word_printed : (w : List ℕ) (t : Token) → is_word w ≡ true → word_to
 word_printed [] t is same = cc
 word_printed (b ∷ bs) t is same = record {
   printed = λ rest ts cut h.
-      let fits = both (is_letter b && list_all is_word_byte bs) (not (begins is_word_byte rest)) is (ap not (ends_parts rest h).0) in
+      let fits = and_from (is_letter b && list_all is_word_byte bs) (not (begins is_word_byte rest)) is (ap not (ends_parts rest h).0) in
       subst (λ t. Cut (b ∷ bs ++ rest) (t ∷ ts)) same (put (Letters b bs) rest ts fits cut);
 }
 
@@ -172,13 +169,13 @@ digit_is b h = grind (arith, nat_tests)
 
 digits_are : (bs : List ℕ) → AllDigits 10 bs → list_all is_digit bs ≡ true
 digits_are [] h = refl
-digits_are (b ∷ bs) h = both (is_digit b) (list_all is_digit bs) (digit_is b (digit_from_value b h.0)) (digits_are bs h.1)
+digits_are (b ∷ bs) h = and_from (is_digit b) (list_all is_digit bs) (digit_is b (digit_from_value b h.0)) (digits_are bs h.1)
 
 -- a number, and one behind a `-`
 pub digits_printed : (ds : List ℕ) → IsNumeral 10 ds → Printed ds (λ ts. token.Digits ds ∷ ts)
 digits_printed [] h = absurd (omega (arith, h.0))
 digits_printed (b ∷ bs) h = record {
-  printed = λ rest ts cut e. put (Number b bs) rest ts (both (is_digit b && list_all is_digit bs) (not (begins is_word_byte rest)) (digits_are (b ∷ bs) h.1) (ap not (ends_parts rest e).0)) cut;
+  printed = λ rest ts cut e. put (Number b bs) rest ts (and_from (is_digit b && list_all is_digit bs) (not (begins is_word_byte rest)) (digits_are (b ∷ bs) h.1) (ap not (ends_parts rest e).0)) cut;
 }
 
 minus_fits : (b : ℕ) (bs : List ℕ) → is_digit b ≡ true → ends_symbol (45 ∷ []) (b ∷ bs) ≡ true
@@ -203,7 +200,7 @@ string_printed text = record {
 
 quoted_name_printed : (name : List ℕ) → IsName name → Printed (quoted_text 34 name) (λ ts. token.Quoted name ∷ ts)
 quoted_name_printed name is = record {
-  printed = λ rest ts cut h. subst (λ bs. Cut bs (token.Quoted name ∷ ts)) (quoted_before 34 name rest) (put (NameInQuotes name) rest ts (both (not (length name == 0)) (not (begins_with 34 rest)) is (ap not (ends_parts rest h).1)) cut);
+  printed = λ rest ts cut h. subst (λ bs. Cut bs (token.Quoted name ∷ ts)) (quoted_before 34 name rest) (put (NameInQuotes name) rest ts (and_from (not (length name == 0)) (not (begins_with 34 rest)) is (ap not (ends_parts rest h).1)) cut);
 }
 
 low_letter_is : (b : ℕ) → is_low_letter b ≡ true → is_letter b ≡ true
@@ -219,7 +216,7 @@ low_bytes_are (b ∷ bs) h =
     let parts = and_parts (is_low_letter b || is_digit b) (list_all (λ c. is_low_letter c || is_digit c) bs) h in
     let here = low_byte_is b parts.0 in
     let more = low_bytes_are bs parts.1 in
-    (both (is_word_byte b) (list_all is_word_byte bs) here.0 more.0, (λ i. here.1 i ∷ more.1 i))
+    (and_from (is_word_byte b) (list_all is_word_byte bs) here.0 more.0, (λ i. here.1 i ∷ more.1 i))
 
 low_word_is : (name : List ℕ) → is_low_word name ≡ true → (is_word name ≡ true) × (map low name ≡ name)
 low_word_is [] h = cc
@@ -227,7 +224,7 @@ low_word_is (b ∷ bs) h =
     let parts = and_parts (is_low_letter b) (list_all (λ c. is_low_letter c || is_digit c) bs) h in
     let here = low_byte_is b (ap (λ l. l || is_digit b) parts.0) in
     let more = low_bytes_are bs parts.1 in
-    (both (is_letter b) (list_all is_word_byte bs) (low_letter_is b parts.0) more.0, (λ i. here.1 i ∷ more.1 i))
+    (and_from (is_letter b) (list_all is_word_byte bs) (low_letter_is b parts.0) more.0, (λ i. here.1 i ∷ more.1 i))
 
 -- a word that isn't reserved is a name
 not_reserved : (name : List ℕ) → not (is_reserved_word name) ≡ true → word_token name ≡ token.Name name

@@ -2,9 +2,8 @@
 use Rattle.std.proofs.Common.{◌≡◌, ℕ, ◌+◌, ◌^◌, ◌<◌, ◌≤◌, List, [], ◌∷◌, map, length, Bool, true, false, ◌&&◌, cond, nat_lt, refl, ◌∙◌, arith}
 use Rattle.std.specs.Prelude.{filter, flat_map}
 use Rattle.std.specs.List.{enumerate_from, list_all}
-use Rattle.std.proofs.lemmas.Bool.{ltb-true, lt-ltb}
+use Rattle.std.proofs.lemmas.Bool.{and_from, and_parts, ltb-true, lt-ltb}
 use Rattle.std.proofs.lemmas.List.Folds.{list_all-append}
-use Rattle.std.proofs.lemmas.Bool.{and_from}
 use Rattle.cell_core.specs.declared.table.Column.{Column}
 use Rattle.sql_tree.specs.declared.tree.ColRef.{ColRef}
 use Rattle.sql_semantics.specs.declared.called.Found.TheVariants.{At}
@@ -16,14 +15,6 @@ use Rattle.sql_semantics.specs.Small.{is_small, are_small}
 -- both numbers are below b
 abbrev is_below : ℕ → ℕ × ℕ → Bool
 is_below b place = nat_lt place.0 b && nat_lt place.1 b
-
-first_true : (x y : Bool) → (x && y) ≡ true → x ≡ true
-first_true true y h = refl
-first_true false y h = cc
-
-second_true : (x y : Bool) → (x && y) ≡ true → y ≡ true
-second_true true y h = h
-second_true false y h = cc
 
 -- one more column, which fits or not
 one_more : (b n k : ℕ) (test : Bool) (column : Column) (rest : List (ℕ × Column)) → n < b → k < b
@@ -46,28 +37,28 @@ in_all : (b k : ℕ) (ref : ColRef) (names : List (List ℕ)) (sources : List So
 in_all b k ref [] sources h g = refl
 in_all b k ref (name ∷ names) [] h g = refl
 in_all b k ref (name ∷ names) (source ∷ sources) h g =
-    let few : length source.columns < b = ltb-true (length source.columns) b (first_true (nat_lt (length source.columns) b) _ h) in
+    let few : length source.columns < b = ltb-true (length source.columns) b (and_parts (nat_lt (length source.columns) b) _ h).0 in
     let here : k < b = omega arith in
     let fit : 0 + length source.columns ≤ b = omega arith in
     let more : k + 1 + length sources ≤ b = omega arith in
     list_all-append (is_below b) (places_in ref (k, record { name = name; columns = source.columns })) (flat_map (places_in ref) (enumerate_from (k + 1) (called_sources names sources)))
     ∙ and_from _ _ (in_one b k 0 (λ (at : ℕ × Column). means ref (record { name = name; columns = source.columns }) at.1) source.columns here fit)
-    (in_all b (k + 1) ref names sources (second_true (nat_lt (length source.columns) b) _ h) more)
+    (in_all b (k + 1) ref names sources (and_parts (nat_lt (length source.columns) b) _ h).1 more)
 
 at_below : (b : ℕ) (places : List (ℕ × ℕ)) (table column : ℕ) → list_all (is_below b) places ≡ true → found_of places ≡ At table column → (table < b) × (column < b)
 at_below b [] table column h e = cc
 at_below b (place ∷ other ∷ more) table column h e = cc
 at_below b (place ∷ []) table column h e =
-    let one : is_below b place ≡ true = first_true (is_below b place) true h in
+    let one : is_below b place ≡ true = (and_parts (is_below b place) true h).0 in
     let t : place.0 ≡ table = cc in
     let c : place.1 ≡ column = cc in
-    let below_t : place.0 < b = ltb-true place.0 b (first_true (nat_lt place.0 b) _ one) in
-    let below_c : place.1 < b = ltb-true place.1 b (second_true (nat_lt place.0 b) _ one) in
+    let below_t : place.0 < b = ltb-true place.0 b (and_parts (nat_lt place.0 b) _ one).0 in
+    let below_c : place.1 < b = ltb-true place.1 b (and_parts (nat_lt place.0 b) _ one).1 in
     (omega arith, omega arith)
 
 pub small_place : (ref : ColRef) (names : List (List ℕ)) (sources : List Source) (table column : ℕ)
     → are_small sources ≡ true → found_of (places (called_sources names sources) ref) ≡ At table column → (table < 2 ^ 32) × (column < 2 ^ 32)
 small_place ref names sources table column h e =
-    let few : length sources < 2 ^ 32 = ltb-true (length sources) (2 ^ 32) (second_true (list_all is_small sources) _ h) in
+    let few : length sources < 2 ^ 32 = ltb-true (length sources) (2 ^ 32) (and_parts (list_all is_small sources) _ h).1 in
     at_below (2 ^ 32) (places (called_sources names sources) ref) table column
-    (in_all (2 ^ 32) 0 ref names sources (first_true (list_all is_small sources) _ h) (omega arith)) e
+    (in_all (2 ^ 32) 0 ref names sources (and_parts (list_all is_small sources) _ h).0 (omega arith)) e

@@ -32,7 +32,7 @@ group_key sources refs choice = map (column_cell sources choice) refs
 abbrev pub groups_by : (Choice → List Cell) → List Choice → List (List Choice)
 groups_by key choices = map (λ cells. filter (λ choice. same_cells (key choice) cells) choices) (distinct same_cells (map key choices))
 
--- the groups of a grouped query; without GROUP BY all choices make one group, and so do none
+-- the groups of a grouped query; without GROUP BY there is one, of all choices, also where there is no choice
 abbrev pub groups_of : List NamedSource → List ColRef → List Choice → List (List Choice)
 groups_of sources refs choices = if length refs == 0 then choices ∷ [] else groups_by (group_key sources refs) choices
 

@@ -1,12 +1,9 @@
 -- A text that is no UTF-8: no character begins with the byte 255.
-use Rattle.std.proofs.Common.{◌≡◌, ℕ, ◌<◌, ◌/◌, ◌+◌, inl, inr, List, [], ◌∷◌, ◌++◌, Bool, true, false, ◌&&◌, cond, get_or, refl, ap, arith, ltb}
+use Rattle.std.proofs.Common.{◌≡◌, ℕ, ◌<◌, ◌/◌, ◌+◌, inl, inr, List, [], ◌∷◌, ◌++◌, Bool, true, false, cond, get_or, refl, ap, arith, ltb}
 use Rattle.std.specs.Prelude.{IsUtf8}
+use Rattle.std.proofs.lemmas.Bool.{and_parts}
 use Rattle.std.proofs.lemmas.Bool.Decides.{nat_tests}
 use Rattle.std.proofs.Math.Utf8.{scalar, scalars, encode, encodes, next, scalar_cases}
-
-both : (p q : Bool) → (p && q) ≡ true → (p ≡ true) × (q ≡ true)
-both true q e = (refl, e)
-both false q e = (cc, cc)
 
 small : (c : ℕ) → scalar c ≡ true → c < 1114112
 small c s = elim (scalar_cases c s) [ inl h ↦ omega (arith, h) | inr h ↦ h.1 ]
@@ -37,7 +34,7 @@ low_first c rest h =
 no_chars : (cs : List ℕ) → scalars cs ≡ true → encodes cs ≡ 255 ∷ [] → ⊥
 no_chars [] s e = let zero : 0 ≡ 255 = ap (λ bs. get_or bs 0 0) e in absurd (omega (arith, zero))
 no_chars (c ∷ cs) s e =
-    let low : get_or (encode c ++ encodes cs) 0 0 < 248 = low_first c (encodes cs) (small c (both (scalar c) (scalars cs) s).0) in
+    let low : get_or (encode c ++ encodes cs) 0 0 < 248 = low_first c (encodes cs) (small c (and_parts (scalar c) (scalars cs) s).0) in
     let same : get_or (encode c ++ encodes cs) 0 0 ≡ 255 = ap (λ bs. get_or bs 0 0) e in
     absurd (omega (arith, low, same))
 

@@ -2,7 +2,7 @@
 use Rattle.std.proofs.Common.{◌≡◌, ℕ, zero, suc, ◌+◌, List, [], ◌∷◌, ◌++◌, length, take, drop, map, Bool, true, false, not, ◌&&◌, ◌||◌, cond, Option, Some, None, refl, ap, sym, ◌∙◌, arith, subst}
 use Rattle.std.specs.Prelude.{◌==◌, flat_map}
 use Rattle.std.specs.List.{list_all, prefix_len}
-use Rattle.std.proofs.lemmas.Bool.{and_parts, eqb-true}
+use Rattle.std.proofs.lemmas.Bool.{and_from, and_parts, eqb-true}
 use Rattle.std.proofs.lemmas.List.{take-append-drop}
 use Rattle.std.proofs.Math.Seq.{drop-append_seam, take-append_seam}
 use Rattle.sql_tree.specs.Bytes.{is_blank, is_letter, is_digit, is_word_byte, is_in_line, low, begins, begins_with, doubled, holds_close}
@@ -33,9 +33,6 @@ record IsPart (b : ℕ) (bs : List ℕ) (found : Option Token × ℕ) : Type 0 w
   fits : Fits part (drop found.1 bs)
   token_is : token_of part ≡ found.0
 
-both : (p q : Bool) → p ≡ true → q ≡ true → (p && q) ≡ true
-both p q h k = ap (λ p. p && q) h ∙ k
-
 -- what is found at the front is a part
 abbrev FoundPart : ℕ → List ℕ → Found → Type 0
 FoundPart b bs None = Unit {0}
@@ -48,7 +45,7 @@ module _ (b : ℕ) (bs : List ℕ) where
       record {
         part = Letters b (take n bs);
         written_is = ap (λ cs. b ∷ cs) (take-append-drop n bs);
-        fits = both _ _ (both _ _ h (front_passes is_word_byte bs)) (ap not (front_stops is_word_byte bs));
+        fits = and_from _ _ (and_from _ _ h (front_passes is_word_byte bs)) (ap not (front_stops is_word_byte bs));
         token_is = refl;
       }
 
@@ -60,7 +57,7 @@ module _ (b : ℕ) (bs : List ℕ) where
       by_end false e = record {
         part = Number b (take (prefix_len is_digit bs) bs);
         written_is = ap (λ cs. b ∷ cs) (take-append-drop (prefix_len is_digit bs) bs);
-        fits = both _ _ (both _ _ h (front_passes is_digit bs)) (ap not e);
+        fits = and_from _ _ (and_from _ _ h (front_passes is_digit bs)) (ap not e);
         token_is = refl;
       }
 
@@ -88,7 +85,7 @@ module _ (b : ℕ) (bs : List ℕ) where
           record {
             part = QuotedName p.0;
             written_is = ap (λ cs. 34 ∷ cs) found.text_is ∙ ap (λ c. c ∷ bs) (sym (eqb-true b 34 h));
-            fits = both _ _ (ap not size) (ap not found.ends);
+            fits = and_from _ _ (ap not size) (ap not found.ends);
             token_is = refl;
           }
 
@@ -130,7 +127,7 @@ line_found b (c ∷ bs) h =
     rw (first, second, more) (record {
       part = Line (take n bs);
       written_is = ap (λ cs. 45 ∷ 45 ∷ cs) (take-append-drop n bs);
-      fits = both _ _ (front_passes is_in_line bs) (ap not (front_stops is_in_line bs));
+      fits = and_from _ _ (front_passes is_in_line bs) (ap not (front_stops is_in_line bs));
       token_is = refl;
     })
 

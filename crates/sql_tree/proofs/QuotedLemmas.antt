@@ -1,9 +1,9 @@
 -- A text between marks, each mark in it doubled, is UTF-8 where the text is.
-use Rattle.std.proofs.Common.{◌≡◌, ℕ, ◌<◌, ◌≤◌, ◌+◌, ◌/◌, ◌==◌, Bool, true, false, cond, ◌&&◌, List, [], ◌∷◌, ◌++◌, refl, sym, ap, ◌∙◌, arith, subst, ltb, inl, inr}
+use Rattle.std.proofs.Common.{◌≡◌, ℕ, ◌<◌, ◌≤◌, ◌+◌, ◌/◌, ◌==◌, Bool, true, false, cond, List, [], ◌∷◌, ◌++◌, refl, sym, ap, ◌∙◌, arith, subst, ltb, inl, inr}
 use Rattle.std.specs.Prelude.{flat_map}
 use Rattle.std.specs.Str.{IsUtf8}
 use Rattle.std.proofs.lemmas.Bool.Decides.{nat_tests}
-use Rattle.std.proofs.lemmas.Bool.{cases_lt}
+use Rattle.std.proofs.lemmas.Bool.{and_parts, cases_lt}
 use Rattle.std.proofs.lemmas.List.{append-nil}
 use Rattle.std.proofs.lemmas.List.Concat.{flat_map-append}
 use Rattle.std.proofs.lemmas.Str.{IsUtf8-append, IsUtf8-nil, encode_ascii}
@@ -54,14 +54,10 @@ doubled_char mark c h s =
       | inr k ↦ rw (other_char mark c h k) (one_char c s)
     ]
 
-both : (p q : Bool) → (p && q) ≡ true → (p ≡ true) × (q ≡ true)
-both true q e = (refl, e)
-both false q e = (cc, cc)
-
 doubled_chars : (mark : ℕ) (cs : List ℕ) → mark < 128 → scalars cs ≡ true → IsUtf8 (flat_map (doubled mark) (encodes cs))
 doubled_chars mark [] h s = IsUtf8-nil
 doubled_chars mark (c ∷ cs) h s =
-    let (here, after) = both (scalar c) (scalars cs) s in
+    let (here, after) = and_parts (scalar c) (scalars cs) s in
     subst IsUtf8 (sym (flat_map-append (doubled mark) (encode c) (encodes cs)))
     (IsUtf8-append (flat_map (doubled mark) (encode c)) (flat_map (doubled mark) (encodes cs)) (doubled_char mark c h here) (doubled_chars mark cs h after))
 

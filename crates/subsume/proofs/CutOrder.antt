@@ -6,6 +6,7 @@ use Rattle.std.specs.declared.cmp.Ordering.TheVariants.{Less, Equal, Greater}
 use Rattle.std.specs.Cmp.{IsStrictWeakOrder, IsTotalOrder, first_so, second_so}
 use Rattle.std.proofs.lemmas.List.MinMax.{ranks_by}
 use Rattle.std.proofs.lemmas.Cmp.{then_total, on_total, back_total, nat_cmp_total}
+use Rattle.std.proofs.lemmas.Bool.{and_from}
 use Rattle.cell_core.specs.declared.cut.Cut.{Cut}
 use Rattle.cell_core.specs.declared.cut.Span.{Span}
 use Rattle.cell_core.specs.Cuts.{cut_cmp, cut_cmp_total, is_cut_below, is_cut_up_to, lies_in}
@@ -59,16 +60,13 @@ up_to_below a b c up low = elim (is_cut_below a c) as (λ r. is_cut_below a c �
 
 -- ## What lies in a span
 
-pub both : (p q : Bool) → p ≡ true → q ≡ true → (p && q) ≡ true
-both p q a b = ap (λ r. r && q) a ∙ b
-
 pub unnot : (b : Bool) → not b ≡ true → b ≡ false
 unnot true e = sym e
 unnot false e = refl
 
 -- a cut lies in a span where the span doesn't begin behind it, and ends behind it
 pub holds : (span : Span) (cut : Cut) → is_cut_below cut span.low ≡ false → is_cut_below cut span.high ≡ true → lies_in span cut ≡ true
-holds span cut low high = both (is_cut_up_to span.low cut) (is_cut_below cut span.high) (up_to_is span.low cut ∙ ap not low) high
+holds span cut low high = and_from (is_cut_up_to span.low cut) (is_cut_below cut span.high) (up_to_is span.low cut ∙ ap not low) high
 
 -- and the other way round
 pub begins : (span : Span) (cut : Cut) → lies_in span cut ≡ true → is_cut_below cut span.low ≡ false

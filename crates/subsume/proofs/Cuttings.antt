@@ -10,12 +10,13 @@ use Rattle.std.specs.Ordering.{is_lt, nat_cmp, ordering_then}
 use Rattle.std.specs.declared.cmp.Ordering.{Ordering}
 use Rattle.std.specs.declared.cmp.Ordering.TheVariants.{Less, Equal, Greater}
 use Rattle.std.specs.Option.{option_map, option_and_then}
+use Rattle.std.proofs.lemmas.Bool.{and_from}
 use Rattle.cell_core.specs.declared.cut.Cut.{Cut}
 use Rattle.cell_core.specs.declared.cut.Span.{Span}
 use Rattle.cell_core.specs.Cuts.{cut_cmp, cut_cmp_total, is_cut_below, is_cut_up_to, lies_in, stops, covers}
 use Rattle.subsume.specs.Cutting.{Entry, is_better, is_lower, least_cut, piece_of, IsBest, IsCutting, IsPartition, is_contained, IsCutUp, IsOfEntry}
 use Rattle.subsume.proofs.Orderings.{never_itself}
-use Rattle.subsume.proofs.CutOrder.{cut_order, entry_order, never, up_to_is, below_up_to, up_to_below, both, holds, begins, ends}
+use Rattle.subsume.proofs.CutOrder.{cut_order, entry_order, never, up_to_is, below_up_to, up_to_below, holds, begins, ends}
 use Rattle.subsume.proofs.Members.{In, in_from_contains, contains_from_in, all_from_in, list_all_in, list_all_from_in, list_any_from_in, in_from_list_any, in_filter, filter_in, in_map, map_in}
 use Rattle.subsume.proofs.Sweep.{better_of, swept}
 
@@ -69,7 +70,7 @@ least_in a b = up_to_is (least_cut a b) a ∙ ap not (elim (is_cut_below b a) as
 -- the piece of an entry lies in its span
 pub piece_within : (target : Span) (cut : Cut) (entry : Entry) → lies_in entry.1 cut ≡ true → is_contained (piece_of target cut entry).1 entry.1 ≡ true
 piece_within target cut entry here =
-    both (is_cut_up_to entry.1.low cut) (is_cut_up_to (least_cut entry.1.high target.high) entry.1.high)
+    and_from (is_cut_up_to entry.1.low cut) (is_cut_up_to (least_cut entry.1.high target.high) entry.1.high)
     (first_so (is_cut_up_to entry.1.low cut) (is_cut_below cut entry.1.high) here) (least_in entry.1.high target.high)
 
 module _ (target : Span) (entries : List Entry) where
@@ -276,7 +277,7 @@ module _ (target : Span) (entries : List Entry) where
 
   -- a cutting shows that the entries cover the target
   pub cutting_covers : (pieces : List Entry) → is_cut_below target.low target.high ≡ true → IsCutting target entries target.low pieces → covers target spans ≡ true
-  cutting_covers pieces some h = both (is_cut_below target.low target.high) (list_all held (stops target spans)) some (list_all_from_in held (stops target spans) each)
+  cutting_covers pieces some h = and_from (is_cut_below target.low target.high) (list_all held (stops target spans)) some (list_all_from_in held (stops target spans) each)
     where
       held : Cut → Bool
       held stop = list_any (λ s. lies_in s stop) spans

@@ -1,11 +1,12 @@
 use Rattle.std.proofs.Common.{refl, sym, ap, ◌∙◌, ◌+◌, subst, arith}
+use Rattle.std.proofs.lemmas.Bool.{and_from}
 use Rattle.score_hook.specs.declared.stats.Stats.{Stats}
 use Rattle.score_hook.specs.declared.stats.Score.{Score}
 use Rattle.score_hook.specs.Scores.{most_bottom, score_of}
 use Rattle.evict_admit.specs.declared.leading.Leader.{Leader}
 use Rattle.evict_admit.specs.Boards.{row_at}
 use Rattle.evict_admit.specs.Leading.{IsLeader, comes_first}
-use Rattle.evict_admit.proofs.Leads.{IsPending, both_so, is_leader, leads, leads_all, none_so, stays}
+use Rattle.evict_admit.proofs.Leads.{IsPending, is_leader, leads, leads_all, none_so, stays}
 use Rattle.evict_admit.proofs.leading.lead.Goals.{in-Some+in-Some-true, in-Some+in-Some-false, in_default}
 use Rattle.evict_admit.proofs.leading.lead.Goals as goal
 
@@ -23,7 +24,7 @@ rows-preserved g c =
           let next : Leader = record { place = c.rows.place; contender = w.in-Some.contender } in record {
             leader = subst (IsLeader most score rows) (sym w.leader-is) (is_leader score rows most next c.rows-test.true w.in-Some.ensures.some.compared w.in-Some.ensures.some.small);
             pending = subst (λ d. IsPending score rows most d (c.rows.place + 1)) (sym w.leader-is)
-                (leads score rows most c.rows.place c.rows.leader next c.rows-test.true before.leader refl (both_so _ _ free (sym w.in-Some-true.ensures ∙ w.in-Some-true.field-0-test)) first before.pending);
+                (leads score rows most c.rows.place c.rows.leader next c.rows-test.true before.leader refl (and_from _ _ free (sym w.in-Some-true.ensures ∙ w.in-Some-true.field-0-test)) first before.pending);
           }
       | in-Some+in-Some-false w ↦ record {
         leader = subst (IsLeader most score rows) (sym w.leader-is) before.leader;
