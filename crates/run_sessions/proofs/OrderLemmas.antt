@@ -6,7 +6,7 @@ use Rattle.std.proofs.lemmas.Option.{same_Some}
 use Rattle.cell_core.specs.declared.table.Db.{Db}
 use Rattle.pool_policy.specs.declared.options.PoolOptions.{PoolOptions}
 use Rattle.pool_policy.proofs.Ends.{all_append}
-use Rattle.sql_parse.specs.Answered.{EachReadsAsOne, Reads}
+use Rattle.read_laws.specs.Answered.{EachReadsAsOne, Reads}
 use Rattle.sql_semantics.specs.declared.refusal.Refusal.{Refusal}
 use Rattle.sql_tree.specs.Tree.{StmtTree}
 use Rattle.run_log.specs.Events.{ActTree, Ends, EventTree}

@@ -7,7 +7,7 @@ use Rattle.std.proofs.lemmas.List.{append-nil, length-map, take_all}
 use Rattle.std.proofs.lemmas.Option.{slice_get_within}
 use Rattle.answer_text.specs.Log.{AreStatements, logged_of}
 use Rattle.pool_policy.specs.declared.options.PoolOptions.{PoolOptions}
-use Rattle.sql_parse.specs.Answered.{EachReadsAsOne}
+use Rattle.read_laws.specs.Answered.{EachReadsAsOne}
 use Rattle.run_log.specs.Events.{EventTree, log_tree}
 use Rattle.book_core.specs.BookView.{BookView}
 use Rattle.session_run.specs.declared.session.Session.{Session}

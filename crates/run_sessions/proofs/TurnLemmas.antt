@@ -3,7 +3,7 @@ use Rattle.std.proofs.Common.{◌≡◌, ◌≢◌, ℕ, ◌+◌, ◌-◌, ◌�
 use Rattle.std.specs.Prelude.{slice_get, option_map, Ok, Err}
 use Rattle.std.proofs.lemmas.Option.{slice_get-map, slice_get_within}
 use Rattle.pool_policy.specs.declared.options.PoolOptions.{PoolOptions}
-use Rattle.sql_parse.specs.Answered.{EachReadsAsOne}
+use Rattle.read_laws.specs.Answered.{EachReadsAsOne}
 use Rattle.run_log.specs.Events.{EventTree, event_tree, log_tree}
 use Rattle.book_core.specs.BookView.{BookView}
 use Rattle.book_core.specs.Lawful.{IsLawful}

@@ -7,7 +7,7 @@ use Rattle.mal_meaning.specs.Meaning.{plan_rows}
 use Rattle.mal_check.specs.Checked.{plan_fault}
 use Rattle.mal_check.specs.Runnable.{FitsDb}
 use Rattle.lineage_key.specs.declared.key.Key.{Key}
-use Rattle.sql_parse.specs.Answered.{Reads}
+use Rattle.read_laws.specs.Answered.{Reads}
 use Rattle.sql_semantics.specs.Answer.{answer_of_stmt}
 use Rattle.sql_semantics.specs.Effect.{effect}
 use Rattle.sql_semantics.specs.Refusals.{refusal_number}

@@ -6,7 +6,7 @@ use Rattle.std.proofs.lemmas.Option.{same_Some, slice_get_within}
 use Rattle.mal_meaning.specs.declared.plan.Plan.{Plan}
 use Rattle.sql_tree.specs.Tree.{StmtTree}
 use Rattle.sql_semantics.specs.declared.refusal.Refusal.{Refusal}
-use Rattle.sql_parse.specs.Answered.{Reads}
+use Rattle.read_laws.specs.Answered.{Reads}
 use Rattle.pool_policy.specs.declared.options.PoolOptions.{PoolOptions}
 use Rattle.pool_policy.specs.Keeps.{Face}
 use Rattle.run_log.specs.Events.{ActTree, Begins, Writes, Ends, EventTree, event_tree, log_tree, tables_at}

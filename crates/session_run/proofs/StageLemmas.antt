@@ -14,7 +14,7 @@ use Rattle.sql_tree.specs.Tree.{QueryTree}
 use Rattle.sql_tree.specs.Tree.StmtTree.{Select, ExplainSelect}
 use Rattle.sql_semantics.specs.Answer.{answer_of_stmt}
 use Rattle.sql_semantics.specs.declared.refusal.Refusal.{Refusal}
-use Rattle.sql_parse.specs.Answered.{Reads}
+use Rattle.read_laws.specs.Answered.{Reads}
 use Rattle.plan_queries.specs.Plans.{plan_over, refusal_over}
 use Rattle.pool_policy.specs.declared.options.PoolOptions.{PoolOptions}
 use Rattle.run_log.specs.Events.{ActTree, EventTree, act_tree}

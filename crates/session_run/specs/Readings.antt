@@ -1,6 +1,6 @@
 -- What the texts of statements read as.
 use Rattle.std.specs.Prelude.{ℕ, List, [], ◌∷◌, Result}
-use Rattle.sql_parse.specs.Answered.{Reads}
+use Rattle.read_laws.specs.Answered.{Reads}
 use Rattle.sql_semantics.specs.declared.refusal.Refusal.{Refusal}
 use Rattle.sql_tree.specs.Tree.{StmtTree}
 

@@ -15,7 +15,7 @@ use Rattle.sql_semantics.specs.Effect.{effect}
 use Rattle.sql_semantics.specs.Refusals.{refusal_number}
 use Rattle.sql_semantics.specs.declared.refusal.Refusal.{Refusal}
 use Rattle.sql_semantics.specs.declared.refusal.Refusal.TheVariants.{Overflow}
-use Rattle.sql_parse.specs.Answered.{Reads}
+use Rattle.read_laws.specs.Answered.{Reads}
 use Rattle.plan_queries.specs.Plans.{plan_over, refusal_over}
 use Rattle.pool_policy.specs.declared.entry.Who.{Who}
 use Rattle.pool_policy.specs.declared.options.PoolOptions.{PoolOptions}

@@ -1,7 +1,7 @@
 //! The first event of a statement.
 ghost use Rattle.std.specs.Prelude.{◌≡◌, ℕ, ◌<◌, List, length, slice_get, true, Some, Ok, Err, IfOk, OnOk, OnErr};
 ghost use Rattle.sql_grammar.specs.Formed.{IsFormed};
-ghost use Rattle.sql_parse.specs.Answered.{Reads};
+ghost use Rattle.read_laws.specs.Answered.{Reads};
 ghost use Rattle.sql_parse.specs.declared.error.ParseError.TheVariants.{Refused};
 ghost use Rattle.sql_semantics.specs.declared.refusal.Refusal.{Refusal as RefusalSeen};
 ghost use Rattle.sql_tree.specs.Tree.{query_tree, stmt_tree};

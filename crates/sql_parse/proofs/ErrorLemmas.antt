@@ -3,17 +3,17 @@ use Rattle.std.proofs.Common.{◌≡◌, ℕ, List, Result, Ok, Err, refl, subst
 use Rattle.std.specs.Prelude.{IsErrAnd, IsErrOf}
 use Rattle.sql_grammar.specs.Reads.{ArePlain, tokens_in}
 use Rattle.sql_grammar.specs.Statements.{Derives}
-use Rattle.sql_parse.proofs.TextsRead.{by_syntax, by_no_tokens}
-use Rattle.sql_parse.specs.Answered.{Reads}
+use Rattle.read_laws.proofs.TextsRead.{by_syntax, by_no_tokens}
+use Rattle.read_laws.specs.Answered.{Reads}
 use Rattle.sql_parse.specs.Errors.{error_of_tokens, error_of_reading}
-use Rattle.sql_parse.specs.Steps.{AreAnswered}
+use Rattle.read_laws.specs.AnsweredTokens.{AreAnswered}
 use Rattle.sql_parse.specs.declared.error.ParseError.{ParseError}
 use Rattle.sql_parse.specs.declared.error.ParseError.TheVariants.{Refused}
 use Rattle.sql_reader.specs.declared.reading.TreeError.{TreeError}
 use Rattle.sql_reader.specs.declared.reading.TreeError.TheVariants as reading
 use Rattle.sql_semantics.specs.declared.refusal.Refusal.{Refusal}
 use Rattle.sql_semantics.specs.declared.refusal.Refusal.TheVariants.{Syntax}
-use Rattle.sql_tokens.specs.Laws.{HasNoTokens}
+use Rattle.read_laws.specs.TokenLaws.{HasNoTokens}
 use Rattle.sql_tokens.specs.declared.reading.TokensError.{TokensError}
 use Rattle.sql_tokens.specs.declared.reading.TokensError.TheVariants as tokens
 use Rattle.sql_tree.specs.Tree.{StmtTree}

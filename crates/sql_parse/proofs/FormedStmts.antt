@@ -13,8 +13,8 @@ use Rattle.sql_grammar.specs.Reads.TokensRead.{RuleApplies, TooDeep, Underived, 
 use Rattle.sql_grammar.specs.Reads.IsReadAs.{Untold, Told}
 use Rattle.sql_grammar.specs.Refused.{is_long_name, left_out, tree_limits, passed_limits, first_passed}
 use Rattle.sql_grammar.specs.Written.{IsLiteral, IsPlain, IsCondOver, IsPlainCond, IsValue, IsValueCond}
-use Rattle.sql_parse.proofs.WholeStmts.{not_later}
-use Rattle.sql_parse.specs.Answered.{answered, Reads, EachIsFormed}
+use Rattle.read_laws.proofs.WholeStmts.{not_later}
+use Rattle.read_laws.specs.Answered.{answered, Reads, EachIsFormed}
 use Rattle.sql_parse.specs.declared.error.ParseError.{ParseError}
 use Rattle.sql_printed.specs.Laws.{ReadIsPrintable}
 use Rattle.sql_printed.specs.Printable.{EachOfSome, IfThere, IsOfAllRows, IsPrintableExpr, IsPrintableValue, IsPrintableCond, IsPrintableItem, IsPrintableQuery, IsPrintableKind, IsPrintableColumn, IsPrintableSet, IsPrintable}

@@ -1,8 +1,3 @@
-mod Lists
-mod BoundedExprs
-mod BoundedConds
-mod BoundedStmts
-mod WholeStmts
-mod TextsRead
 mod FormedStmts
 mod ErrorLemmas
+mod ResultLemmas

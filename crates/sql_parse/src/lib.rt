@@ -2,10 +2,10 @@
 //!
 //! It stands on the crates that do one step each: `sql_tokens` finds tokens, `sql_refusals` and
 //! `sql_grammar` tell what is refused before and after the statement is read, and `sql_statements` reads
-//! it. What a text reads as is defined in `sql_grammar`; the definitions in `specs/Answered` say with
-//! which statement or refusal that is answered. It promises that `parse` answers so for every text, that
-//! no text reads as two things (`one_reading`), and that what a text reads as is formed
-//! (`each_is_formed`), by the law of `sql_printed`. Memory running out is the only answer that may come
+//! it. What a text reads as is defined in `sql_grammar`; `Answered` of `read_laws` says with which statement
+//! or refusal that is answered. It promises that `parse` answers so for every text, and that what a text
+//! reads as is formed (`each_is_formed`), by the law of `sql_printed`; no text reads as two things
+//! (`one_reading`, a law of `read_laws`). Memory running out is the only answer that may come
 //! instead. `split`, which cuts a script into pieces, is that of `sql_tokens`.
 #![tactic(auto)]
 
@@ -19,6 +19,7 @@ mod tests;
 mod text;
 
 pub use error::ParseError;
-pub use laws::{each_is_formed, one_reading};
+pub use laws::each_is_formed;
+pub use read_laws::one_reading;
 pub use sql_tokens::{MOST_STATEMENTS, SplitError, split};
 pub use text::parse;

@@ -1,9 +1,9 @@
 ghost use Rattle.std.specs.Prelude.{◌≡◌, Ok, Err, IfOk, OnOk};
 ghost use Rattle.sql_grammar.specs.Formed.{IsFormed};
 ghost use Rattle.sql_grammar.specs.Reads.{ArePlain, tokens_in};
-ghost use Rattle.sql_statements.specs.Derived.{IsReadStmt};
-ghost use Rattle.sql_parse.specs.Answered.{Reads};
-ghost use Rattle.sql_parse.specs.Steps.{AreAnswered};
+ghost use Rattle.read_laws.specs.DerivedStmts.{IsReadStmt};
+ghost use Rattle.read_laws.specs.Answered.{Reads};
+ghost use Rattle.read_laws.specs.AnsweredTokens.{AreAnswered};
 ghost use Rattle.sql_parse.specs.declared.error.ParseError.TheVariants.{Refused};
 ghost use Rattle.sql_semantics.specs.declared.refusal.Refusal.{Refusal as RefusalSeen};
 ghost use Rattle.sql_tree.specs.Tree.{stmt_tree};

@@ -2,18 +2,19 @@
 use Rattle.std.proofs.Common.{◌≡◌, ◌≢◌, ◌-◌, ℕ, zero, suc, List, ◌∷◌, length, Bool, true, false, Some, None, refl, ap, sym, ◌∙◌, subst}
 use Rattle.std.specs.Prelude.{Result, Ok, Err, IfOk}
 use Rattle.sql_grammar.specs.Grammar.{sign}
-use Rattle.sql_reader.specs.Bounded.{bounded}
-use Rattle.sql_reader.specs.Chain.{Found, Parser, first_token, after_first, then_read, chain}
-use Rattle.sql_reader.specs.CondReader.{aggregate_in, whole_expr, value, operand, range, word_test, test_behind, any_test, condition, closed_condition, operand_inside, condition_inside, operand_from, enclosed, unit_of, unit, test_from, condition_from, IsInside}
-use Rattle.sql_reader.specs.Parts.{is_key, is_symbol}
-use Rattle.sql_reader.specs.Reader.{sign_in, closed, term_behind, term, expr_behind, expr, factor}
+use Rattle.read_laws.specs.Bounded.{bounded}
+use Rattle.read_laws.specs.Chain.{Found, Parser, first_token, after_first, then_read, chain}
+use Rattle.read_laws.specs.CondReader.{aggregate_in, whole_expr, value, operand, range, word_test, test_behind, any_test, condition, closed_condition, operand_inside, condition_inside, operand_from, enclosed, unit_of, unit, test_from, condition_from}
+use Rattle.sql_reader.specs.Inside.{IsInside}
+use Rattle.read_laws.specs.Parts.{is_key, is_symbol}
+use Rattle.read_laws.specs.ExprReader.{sign_in, closed, term_behind, term, expr_behind, expr, factor}
 use Rattle.sql_reader.specs.declared.conditions.Inside.{Inside}
 use Rattle.sql_reader.specs.declared.reading.TreeError.{TreeError}
 use Rattle.sql_reader.specs.declared.conditions.Inside.TheVariants.{Operand, Condition}
-use Rattle.sql_reader.proofs.ChainLemmas.{then_found, then_told, then_none, given_none, branch_false, branch_true, or_none, or_first}
-use Rattle.sql_reader.proofs.CondLaws.{unit_inner, condition_goes_on, condition_none}
-use Rattle.sql_reader.proofs.OperandTold.{expr_operand, value_operand}
-use Rattle.sql_reader.proofs.TokenLemmas.{key_found, symbol_found, closed_found}
+use Rattle.read_laws.proofs.ChainLemmas.{then_found, then_told, then_none, given_none, branch_false, branch_true, or_none, or_first}
+use Rattle.read_laws.proofs.CondLaws.{unit_inner, condition_goes_on, condition_none}
+use Rattle.read_laws.proofs.OperandComplete.{expr_operand, value_operand}
+use Rattle.read_laws.proofs.TokenTests.{key_found, symbol_found, closed_found}
 use Rattle.sql_tree.specs.Tree.{ExprTree, CondTree, expr_tree, cond_tree}
 use Rattle.sql_tree.specs.declared.tree.Cond.{Cond}
 use Rattle.sql_tree.specs.declared.tree.Expr.{Expr}

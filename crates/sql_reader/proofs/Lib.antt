@@ -1,11 +1,1 @@
-pub mod ChainLemmas
-pub mod InsideLaws
-pub mod NumberLemmas
-pub mod TokenLemmas
-pub mod ExprTold
-pub mod ExprFound
-pub mod ExprLaws
-pub mod CondLaws
-pub mod CondFound
-pub mod OperandTold
-pub mod CondTold
+mod InsideLaws

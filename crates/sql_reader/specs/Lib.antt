@@ -1,6 +1,1 @@
-pub mod Bounded
-pub mod Derived
-pub mod Chain
-pub mod Parts
-pub mod Reader
-pub mod CondReader
+pub mod Inside

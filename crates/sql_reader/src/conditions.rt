@@ -3,9 +3,10 @@ ghost use Rattle.sql_grammar.specs.Refused.{cond_nodes};
 ghost use Rattle.sql_grammar.specs.Reads.{tokens_in};
 ghost use Rattle.sql_tree.specs.Tree.{expr_tree, cond_tree};
 ghost use Rattle.sql_tree.specs.Tree.CondTree.{Negation, Both, Either};
-ghost use Rattle.sql_reader.specs.Bounded as kept;
-ghost use Rattle.sql_reader.specs.Bounded.{bounded, bounded_join};
-ghost use Rattle.sql_reader.specs.CondReader as reader;
+ghost use Rattle.read_laws.specs.Bounded as kept;
+ghost use Rattle.read_laws.specs.Bounded.{bounded, bounded_join};
+ghost use Rattle.read_laws.specs.CondReader as reader;
+ghost use Rattle.sql_reader.specs.Inside.{IsInside};
 
 use crate::cursor::{Cursor, and, beside, is_key, is_symbol, or};
 use crate::expressions::expr_behind;
@@ -18,7 +19,7 @@ use sql_tree::{Cond, Expr, Keyword, Symbol};
 use std::alloc::Global;
 
 /// A condition, with as many levels as there are tokens.
-#[tactic(auto, unfolding(crate::specs::CondReader::whole_cond))]
+#[tactic(auto, unfolding(read_laws::specs::CondReader::whole_cond))]
 pub fn whole_cond(
     alloc: Global,
     tokens: &mut Cursor<'_>,
@@ -37,7 +38,7 @@ pub fn whole_cond(
 /// A condition of at most so many levels, over expressions, or over these and aggregates:
 /// cond = conj {OR conj}.
 #[cycle(unit)]
-#[tactic(auto, using(crate::proofs::CondLaws::condition_goes_on, crate::proofs::CondLaws::condition_none))]
+#[tactic(auto, using(read_laws::proofs::CondLaws::condition_goes_on, read_laws::proofs::CondLaws::condition_none))]
 pub(crate) fn cond(
     alloc: Global,
     tokens: &mut Cursor<'_>,
@@ -57,7 +58,7 @@ pub(crate) fn cond(
 
 /// The rest of a condition behind its first unit.
 #[cycle(unit)]
-#[tactic(auto, unfolding(crate::specs::CondReader::condition_behind))]
+#[tactic(auto, unfolding(read_laws::specs::CondReader::condition_behind))]
 fn cond_behind(
     alloc: Global,
     tokens: &mut Cursor<'_>,
@@ -87,7 +88,7 @@ fn cond_behind(
 
 /// conj = unit {AND unit}
 #[cycle(unit)]
-#[tactic(auto, unfolding(crate::specs::CondReader::conjunction))]
+#[tactic(auto, unfolding(read_laws::specs::CondReader::conjunction))]
 fn conj(
     alloc: Global,
     tokens: &mut Cursor<'_>,
@@ -136,7 +137,7 @@ fn conj_behind(
 
 /// A unit, which takes a level.
 #[cycle(unit)]
-#[tactic(auto, using(crate::proofs::CondLaws::unit_none, crate::proofs::CondLaws::unit_inner))]
+#[tactic(auto, using(read_laws::proofs::CondLaws::unit_none, read_laws::proofs::CondLaws::unit_inner))]
 fn unit(
     alloc: Global,
     tokens: &mut Cursor<'_>,
@@ -209,7 +210,7 @@ fn enclosed(
     aggregates: bool,
     depth: usize,
 ) -> Result<Inside, TreeError>
-    ensures found { IfOk result (λ inside. reader.IsInside
+    ensures found { IfOk result (λ inside. IsInside
         (reader.operand_inside bounded (tokens_in tokens.old.rest.now))
         (reader.condition_inside bounded (reader.unit bounded (reader.operand bounded aggregates) depth)
         (tokens_in tokens.old.rest.now)) inside (tokens_in tokens.new.rest.now)) }
@@ -244,7 +245,7 @@ fn first_inside(
     aggregates: bool,
     depth: usize,
 ) -> Result<Inside, TreeError>
-    ensures found { IfOk result (λ inside. reader.IsInside
+    ensures found { IfOk result (λ inside. IsInside
         (reader.operand_inside bounded (tokens_in tokens.old.rest.now))
         (reader.condition_inside bounded (reader.unit bounded (reader.operand bounded aggregates) depth)
         (tokens_in tokens.old.rest.now)) inside (tokens_in tokens.new.rest.now)) }
@@ -277,7 +278,7 @@ fn inside_from(
     levels: usize,
     first: Expr,
 ) -> Result<Inside, TreeError>
-    ensures found { IfOk result (λ inside. reader.IsInside
+    ensures found { IfOk result (λ inside. IsInside
         (reader.operand_from bounded levels (expr_tree first) (tokens_in tokens.old.rest.now))
         (reader.condition_from bounded (reader.operand bounded aggregates)
         (reader.unit bounded (reader.operand bounded aggregates) depth) levels (expr_tree first)
@@ -332,7 +333,7 @@ fn closed_expr(alloc: Global, tokens: &mut Cursor<'_>) -> Result<Expr, TreeError
 }
 
 /// A test whose first operand has so many levels, behind the first factor of that.
-#[tactic(auto, unfolding(crate::specs::CondReader::test_from))]
+#[tactic(auto, unfolding(read_laws::specs::CondReader::test_from))]
 fn test_from(
     alloc: Global,
     tokens: &mut Cursor<'_>,

@@ -1,9 +1,9 @@
 ghost use Rattle.std.specs.Prelude.{◌≡◌, ◌<◌, [], length, option_copied, Some, None, Ok, Err, IfSome, IfNone, IfOk, IfErr, OnOk, IsErrOf, true, false};
 ghost use Rattle.sql_grammar.specs.Reads.{tokens_in};
-ghost use Rattle.sql_reader.specs.Chain.{first_token, after_first};
-ghost use Rattle.sql_reader.specs.CondReader as conditions;
-ghost use Rattle.sql_reader.specs.Parts as parts;
-ghost use Rattle.sql_reader.specs.Reader as reader;
+ghost use Rattle.read_laws.specs.Chain.{first_token, after_first};
+ghost use Rattle.read_laws.specs.CondReader as conditions;
+ghost use Rattle.read_laws.specs.Parts as parts;
+ghost use Rattle.read_laws.specs.ExprReader as reader;
 
 use crate::reading::TreeError;
 use cell_core::Word;
@@ -209,7 +209,7 @@ pub fn name<'a>(token: Option<&'a Token>) -> Option<&'a Word>
 }
 
 /// Whether the token is the keyword.
-#[tactic(auto, unfolding(crate::specs::Parts::is_key))]
+#[tactic(auto, unfolding(read_laws::specs::Parts::is_key))]
 pub fn is_key(token: Option<&Token>, word: Keyword) -> bool
     ensures { result ≡ parts.is_key word (option_copied token.entry) }
 {
@@ -220,7 +220,7 @@ pub fn is_key(token: Option<&Token>, word: Keyword) -> bool
 }
 
 /// Whether the token is the symbol.
-#[tactic(auto, unfolding(crate::specs::Parts::is_symbol))]
+#[tactic(auto, unfolding(read_laws::specs::Parts::is_symbol))]
 pub fn is_symbol(token: Option<&Token>, symbol: Symbol) -> bool
     ensures { result ≡ parts.is_symbol symbol (option_copied token.entry) }
 {

@@ -1,9 +1,9 @@
 ghost use Rattle.std.specs.Prelude.{◌≡◌, Some, None, option_copied, IfOk, IsErrOf};
 ghost use Rattle.sql_grammar.specs.Reads.{tokens_in};
 ghost use Rattle.sql_tree.specs.Tree.{expr_tree};
-ghost use Rattle.sql_reader.specs.Chain.{first_token, after_first};
-ghost use Rattle.sql_reader.specs.Bounded.{bounded, bounded_operator};
-ghost use Rattle.sql_reader.specs.Reader as reader;
+ghost use Rattle.read_laws.specs.Chain.{first_token, after_first};
+ghost use Rattle.read_laws.specs.Bounded.{bounded, bounded_operator};
+ghost use Rattle.read_laws.specs.ExprReader as reader;
 ghost use Rattle.text_bytes.specs.Days.{day_named};
 
 use crate::cursor::{Cursor, digits, is_dot, name, sign, star, text};
@@ -18,7 +18,7 @@ use text_bytes::named_day;
 
 /// An expression of at most so many levels: expr = term {("+" | "-") term}.
 #[cycle(expr)]
-#[tactic(auto, using(crate::proofs::ExprLaws::expr_goes_on, crate::proofs::ExprLaws::expr_none))]
+#[tactic(auto, using(read_laws::proofs::ExprLaws::expr_goes_on, read_laws::proofs::ExprLaws::expr_none))]
 pub(crate) fn expr(alloc: Global, tokens: &mut Cursor<'_>, depth: usize) -> Result<Expr, TreeError>
     ensures found { IfOk result (λ e. reader.expr bounded (reader.factor bounded depth)
         (tokens_in tokens.old.rest.now) ≡ Some (expr_tree e, tokens_in tokens.new.rest.now)) }
@@ -31,7 +31,7 @@ pub(crate) fn expr(alloc: Global, tokens: &mut Cursor<'_>, depth: usize) -> Resu
 
 /// The rest of an expression behind its first factor.
 #[cycle(expr)]
-#[tactic(auto, unfolding(crate::specs::Reader::expr_behind))]
+#[tactic(auto, unfolding(read_laws::specs::ExprReader::expr_behind))]
 pub(crate) fn expr_behind(
     alloc: Global,
     tokens: &mut Cursor<'_>,
@@ -59,7 +59,7 @@ pub(crate) fn expr_behind(
 
 /// term = factor {"*" factor}
 #[cycle(expr)]
-#[tactic(auto, unfolding(crate::specs::Reader::term))]
+#[tactic(auto, unfolding(read_laws::specs::ExprReader::term))]
 fn term(alloc: Global, tokens: &mut Cursor<'_>, depth: usize) -> Result<Expr, TreeError>
     ensures found { IfOk result (λ e. reader.term bounded (reader.factor bounded depth)
         (tokens_in tokens.old.rest.now) ≡ Some (expr_tree e, tokens_in tokens.new.rest.now)) }
@@ -99,7 +99,7 @@ fn term_behind(
 
 /// A factor, which takes a level.
 #[cycle(expr)]
-#[tactic(auto, using(crate::proofs::ExprLaws::factor_none, crate::proofs::ExprLaws::factor_inner))]
+#[tactic(auto, using(read_laws::proofs::ExprLaws::factor_none, read_laws::proofs::ExprLaws::factor_inner))]
 fn factor(alloc: Global, tokens: &mut Cursor<'_>, depth: usize) -> Result<Expr, TreeError>
     ensures found { IfOk result (λ e. reader.factor bounded depth
         (tokens_in tokens.old.rest.now) ≡ Some (expr_tree e, tokens_in tokens.new.rest.now)) }
@@ -143,7 +143,7 @@ fn inner_factor(alloc: Global, tokens: &mut Cursor<'_>, depth: usize) -> Result<
 
 /// What follows a `-`: digits, of which it is the sign, or what is taken from 0.
 #[cycle(expr)]
-#[tactic(auto, unfolding(crate::specs::Reader::negative))]
+#[tactic(auto, unfolding(read_laws::specs::ExprReader::negative))]
 fn negative(alloc: Global, tokens: &mut Cursor<'_>, depth: usize) -> Result<Expr, TreeError>
     ensures found { IfOk result (λ e. reader.negative bounded (reader.factor bounded depth)
         (tokens_in tokens.old.rest.now) ≡ Some (expr_tree e, tokens_in tokens.new.rest.now)) }
@@ -179,7 +179,7 @@ fn operator(alloc: Global, op: ArithOp, left: Expr, right: Expr) -> Result<Expr,
 }
 
 /// What follows DATE: a string that names a day.
-#[tactic(auto, unfolding(crate::specs::Reader::date))]
+#[tactic(auto, unfolding(read_laws::specs::ExprReader::date))]
 fn date(tokens: &mut Cursor<'_>) -> Result<Expr, TreeError>
     ensures found { IfOk result (λ e. reader.date (tokens_in tokens.old.rest.now)
         ≡ Some (expr_tree e, tokens_in tokens.new.rest.now)) }
@@ -203,7 +203,7 @@ pub fn day(text: &Word) -> Option<i32>
 }
 
 /// A column that begins with the name: `column` or `table.column`.
-#[tactic(auto, unfolding(crate::specs::Reader::column))]
+#[tactic(auto, unfolding(read_laws::specs::ExprReader::column))]
 pub fn column(first: &Word, tokens: &mut Cursor<'_>) -> Result<ColRef, TreeError>
     ensures found { IfOk result (λ column. reader.column first.now (tokens_in tokens.old.rest.now)
         ≡ Some (column, tokens_in tokens.new.rest.now)) }

@@ -1,14 +1,14 @@
 ghost use Rattle.std.specs.Prelude.{◌≡◌, ◌+◌, ◌*◌, ◌^◌, ◌<◌, ◌≤◌, pos, if◌then◌else◌, MatchOption, IfSome, IfNone};
 ghost use Rattle.sql_grammar.specs.Grammar.{number_of, negative_of};
-ghost use Rattle.sql_reader.specs.Bounded.{number_cell};
-ghost use Rattle.sql_reader.specs.Reader.{signed_cell};
-ghost use Rattle.sql_refusals.specs.Unread.{unread_cell};
+ghost use Rattle.read_laws.specs.Bounded.{number_cell};
+ghost use Rattle.read_laws.specs.ExprReader.{signed_cell};
+ghost use Rattle.read_laws.specs.Unread.{unread_cell};
 
 use cell_core::Cell;
 use text_bytes::number_64;
 
 /// The cell of the number that digits write; a Huge where it leaves the signed 64-bit range.
-#[tactic(auto, using(crate::proofs::NumberLemmas::signed_plain, crate::proofs::NumberLemmas::great_plain))]
+#[tactic(auto, using(read_laws::proofs::NumberLemmas::signed_plain, read_laws::proofs::NumberLemmas::great_plain))]
 pub fn plain_number(digits: &[u8]) -> Cell
     ensures { result ≡ number_cell (pos (number_of digits.now)) }
 {
@@ -19,7 +19,7 @@ pub fn plain_number(digits: &[u8]) -> Cell
 }
 
 /// The same with a `-` before the digits.
-#[tactic(auto, using(crate::proofs::NumberLemmas::signed_negative, crate::proofs::NumberLemmas::great_negative))]
+#[tactic(auto, using(read_laws::proofs::NumberLemmas::signed_negative, read_laws::proofs::NumberLemmas::great_negative))]
 pub fn negative_number(digits: &[u8]) -> Cell
     ensures { result ≡ number_cell (negative_of digits.now) }
 {

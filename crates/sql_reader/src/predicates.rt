@@ -4,9 +4,9 @@ ghost use Rattle.sql_grammar.specs.Refused.{has_column_arithmetic};
 ghost use Rattle.sql_tree.specs.Tree.{cond_tree, expr_tree};
 ghost use Rattle.sql_tree.specs.Tree.CondTree.{Compare, Either};
 ghost use Rattle.sql_tree.specs.declared.tree.CmpOp.TheVariants as compare;
-ghost use Rattle.sql_reader.specs.Chain.{first_token, after_first};
-ghost use Rattle.sql_reader.specs.Bounded.{bounded, bounded_join, cond_has_unread};
-ghost use Rattle.sql_reader.specs.CondReader as reader;
+ghost use Rattle.read_laws.specs.Chain.{first_token, after_first};
+ghost use Rattle.read_laws.specs.Bounded.{bounded, bounded_join, cond_has_unread};
+ghost use Rattle.read_laws.specs.CondReader as reader;
 
 use crate::conditions::{either, negation};
 use crate::cursor::{Cursor, aggregate_word, beside, comma, comparison, is_all, is_key};
@@ -19,7 +19,7 @@ use sql_tree::{AggOp, CmpOp, Cond, Expr, Keyword, Symbol, Token};
 use std::alloc::Global;
 
 /// An expression, with as many levels as there are tokens.
-#[tactic(auto, unfolding(crate::specs::CondReader::whole_expr))]
+#[tactic(auto, unfolding(read_laws::specs::CondReader::whole_expr))]
 pub fn whole_expr(alloc: Global, tokens: &mut Cursor<'_>) -> Result<Expr, TreeError>
     ensures found { IfOk result (λ e. reader.whole_expr bounded
         (tokens_in tokens.old.rest.now) ≡ Some (expr_tree e, tokens_in tokens.new.rest.now)) }
@@ -31,7 +31,7 @@ pub fn whole_expr(alloc: Global, tokens: &mut Cursor<'_>) -> Result<Expr, TreeEr
 }
 
 /// An expression or an aggregate.
-#[tactic(auto, unfolding(crate::specs::CondReader::value))]
+#[tactic(auto, unfolding(read_laws::specs::CondReader::value))]
 pub fn value(alloc: Global, tokens: &mut Cursor<'_>) -> Result<Expr, TreeError>
     ensures found { IfOk result (λ e. reader.value bounded
         (tokens_in tokens.old.rest.now) ≡ Some (expr_tree e, tokens_in tokens.new.rest.now)) }
@@ -47,7 +47,7 @@ pub fn value(alloc: Global, tokens: &mut Cursor<'_>) -> Result<Expr, TreeError>
 }
 
 /// The argument of an aggregate, up to its `)`.
-#[tactic(auto, unfolding(crate::specs::CondReader::argument))]
+#[tactic(auto, unfolding(read_laws::specs::CondReader::argument))]
 fn argument(alloc: Global, tokens: &mut Cursor<'_>, f: AggOp) -> Result<Expr, TreeError>
     ensures found { IfOk result (λ e. reader.argument bounded f
         (tokens_in tokens.old.rest.now) ≡ Some (expr_tree e, tokens_in tokens.new.rest.now)) }
@@ -82,7 +82,7 @@ fn operand(alloc: Global, tokens: &mut Cursor<'_>, aggregates: bool) -> Result<E
 }
 
 /// A test: a comparison, [NOT] BETWEEN, [NOT] IN or IS [NOT] NULL.
-#[tactic(auto, unfolding(crate::specs::CondReader::any_test))]
+#[tactic(auto, unfolding(read_laws::specs::CondReader::any_test))]
 pub(crate) fn test(
     alloc: Global,
     tokens: &mut Cursor<'_>,
@@ -98,7 +98,7 @@ pub(crate) fn test(
 }
 
 /// A test behind its first operand.
-#[tactic(auto, unfolding(crate::specs::CondReader::test_behind))]
+#[tactic(auto, unfolding(read_laws::specs::CondReader::test_behind))]
 pub(crate) fn test_behind(
     alloc: Global,
     tokens: &mut Cursor<'_>,
@@ -125,7 +125,7 @@ pub(crate) fn test_behind(
 }
 
 /// A test that begins with a word, behind the operand.
-#[tactic(auto, unfolding(crate::specs::CondReader::word_test))]
+#[tactic(auto, unfolding(read_laws::specs::CondReader::word_test))]
 fn word_test(
     alloc: Global,
     tokens: &mut Cursor<'_>,
@@ -147,7 +147,7 @@ fn word_test(
 }
 
 /// [NOT] NULL, behind the operand and IS.
-#[tactic(auto, unfolding(crate::specs::CondReader::null_test))]
+#[tactic(auto, unfolding(read_laws::specs::CondReader::null_test))]
 fn null_test(alloc: Global, tokens: &mut Cursor<'_>, of: Expr) -> Result<Cond, TreeError>
     ensures found { IfOk result (λ c. reader.null_test (expr_tree of)
         (tokens_in tokens.old.rest.now) ≡ Some (cond_tree c, tokens_in tokens.new.rest.now)) }
@@ -164,7 +164,7 @@ fn null_test(alloc: Global, tokens: &mut Cursor<'_>, of: Expr) -> Result<Cond, T
 }
 
 /// [NOT] BETWEEN or [NOT] IN, behind the operand.
-#[tactic(auto, unfolding(crate::specs::CondReader::range))]
+#[tactic(auto, unfolding(read_laws::specs::CondReader::range))]
 fn range(
     alloc: Global,
     tokens: &mut Cursor<'_>,
@@ -210,7 +210,7 @@ fn plain_range(
 }
 
 /// The two bounds behind BETWEEN.
-#[tactic(auto, unfolding(crate::specs::CondReader::within))]
+#[tactic(auto, unfolding(read_laws::specs::CondReader::within))]
 fn within(
     alloc: Global,
     tokens: &mut Cursor<'_>,
@@ -250,7 +250,7 @@ fn listed(
 }
 
 /// The list behind IN, of an operand that is lent.
-#[tactic(auto, unfolding(crate::specs::CondReader::listed))]
+#[tactic(auto, unfolding(read_laws::specs::CondReader::listed))]
 fn list_behind(
     alloc: Global,
     tokens: &mut Cursor<'_>,
@@ -270,7 +270,7 @@ fn list_behind(
 }
 
 /// The members of a list behind IN: the operand is one of them.
-#[tactic(auto, unfolding(crate::specs::CondReader::members))]
+#[tactic(auto, unfolding(read_laws::specs::CondReader::members))]
 fn members(
     alloc: Global,
     tokens: &mut Cursor<'_>,

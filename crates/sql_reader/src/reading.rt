@@ -1,9 +1,9 @@
 ghost use Rattle.std.specs.Prelude.{◌≡◌, ℤ, [], Some, true, false, IfOk, IsErrOf};
 ghost use Rattle.sql_grammar.specs.Reads.{tokens_in};
 ghost use Rattle.sql_tree.specs.Tree.{ExprTree, CondTree, expr_tree, cond_tree};
-ghost use Rattle.sql_reader.specs.Bounded.{bounded};
-ghost use Rattle.sql_reader.specs.CondReader as reader;
-ghost use Rattle.sql_reader.specs.Derived.{IsExpr, IsReadExpr, IsCond, IsHaving, IsReadCond};
+ghost use Rattle.read_laws.specs.Bounded.{bounded};
+ghost use Rattle.read_laws.specs.CondReader as reader;
+ghost use Rattle.read_laws.specs.DerivedExprs.{IsExpr, IsReadExpr, IsCond, IsHaving, IsReadCond};
 
 use crate::conditions::whole_cond;
 use crate::cursor::Cursor;

@@ -1,13 +1,13 @@
 //! What a reader leaves out past its limits is told by signs: a column, a Huge, arithmetic over columns.
 ghost use Rattle.std.specs.Prelude.{◌≡◌, ◌&&◌, not, if◌then◌else◌, IfOk};
 ghost use Rattle.sql_grammar.specs.Refused as refused;
-ghost use Rattle.sql_refusals.specs.Unread.{unread_cell};
+ghost use Rattle.read_laws.specs.Unread.{unread_cell};
 ghost use Rattle.sql_tree.specs.Tree.{cond_tree, expr_tree};
 ghost use Rattle.sql_tree.specs.Tree.CondTree.{Both, Compare, IsNull};
 ghost use Rattle.sql_tree.specs.Tree.ExprTree.{Literal, Operator};
 ghost use Rattle.sql_tree.specs.declared.tree.ArithOp.TheVariants as arith;
 ghost use Rattle.sql_tree.specs.declared.tree.CmpOp.TheVariants as compare;
-ghost use Rattle.sql_reader.specs.Bounded as kept;
+ghost use Rattle.read_laws.specs.Bounded as kept;
 
 use crate::cursor::beside;
 use crate::number::unread;

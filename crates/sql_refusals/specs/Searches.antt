@@ -5,7 +5,7 @@ use Rattle.sql_grammar.specs.Refused.{expr_nodes}
 use Rattle.sql_tree.specs.Tree.{ExprTree}
 use Rattle.sql_refusals.specs.declared.exprs.Sought.{Sought}
 use Rattle.sql_refusals.specs.declared.exprs.Sought.TheVariants.{Large, Unread}
-use Rattle.sql_refusals.specs.Unread.{has_literal, is_unread_cell}
+use Rattle.read_laws.specs.Unread.{has_literal, is_unread_cell}
 
 -- the expression is one that is looked for
 abbrev pub is_sought : Sought → ExprTree → Bool

@@ -5,7 +5,7 @@ ghost use Rattle.std.specs.Option.{option_copied, option_map};
 ghost use Rattle.sql_tree.specs.Exprs.{cond_exprs, exprs_of_cond};
 ghost use Rattle.sql_grammar.specs.Refused.{stmt_exprs};
 ghost use Rattle.sql_refusals.specs.Searches.{is_sought};
-ghost use Rattle.sql_refusals.specs.Unread.{has_literal, is_unread_cell};
+ghost use Rattle.read_laws.specs.Unread.{has_literal, is_unread_cell};
 ghost use Rattle.sql_tree.specs.Tree.{cond_tree, expr_tree, item_tree, query_tree, set_tree, stmt_tree};
 ghost use Rattle.sql_tree.specs.Tree.StmtTree.{Select};
 

@@ -3,8 +3,8 @@
 //!
 //! It stands on `sql_tree` and on the definitions of `sql_grammar`, and decides each of them exactly:
 //! `first_rule`, `left_out`, `statement_bytes`, `first_limit`. A reader gives a Huge for a number of more
-//! than 64 bits, which no literal gives, so a Huge passes the limit of literals (`specs/Unread`);
-//! `limits_as_read` is the law that the limits of a statement are then those of what was read. Memory
+//! than 64 bits, which no literal gives, so a Huge passes the limit of literals (`Unread` of `read_laws`);
+//! `limits_as_read` is the law there that the limits of a statement are then those of what was read. Memory
 //! running out is the only answer that may come instead.
 //!
 //! The tests of one expression or condition (`is_large_expr`, `has_column` and those beside them) are
@@ -13,7 +13,6 @@
 
 mod around;
 mod exprs;
-mod laws;
 mod limits;
 mod nodes;
 mod numbers;
@@ -21,9 +20,9 @@ mod profile;
 mod rules;
 
 pub use exprs::cond_has_unread;
-pub use laws::limits_as_read;
 pub use limits::{first_limit, statement_bytes};
 pub use nodes::{is_large_cond, is_large_expr};
 pub use numbers::has_unread;
 pub use profile::{has_column, has_column_arithmetic, is_column_arithmetic, left_out};
+pub use read_laws::limits_as_read;
 pub use rules::first_rule;

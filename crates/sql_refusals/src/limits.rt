@@ -3,7 +3,7 @@ ghost use Rattle.std.specs.List.{list_any};
 ghost use Rattle.std.specs.Option.{option_copied};
 ghost use Rattle.sql_grammar.specs.Reads.{statement_bytes as bytes_between, last_end, tokens_in};
 ghost use Rattle.sql_grammar.specs.Refused.{columns_pass, first_passed, is_long_name, passes_conditions, query_passes};
-ghost use Rattle.sql_refusals.specs.Unread.{read_limits, passes_literal_as_read};
+ghost use Rattle.read_laws.specs.Unread.{read_limits, passes_literal_as_read};
 ghost use Rattle.sql_tree.specs.Tree.{stmt_tree};
 
 use crate::exprs::{Sought, any_expr};

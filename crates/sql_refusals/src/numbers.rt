@@ -2,7 +2,7 @@
 ghost use Rattle.std.specs.Prelude.{◌≡◌, not, pos};
 ghost use Rattle.std.specs.List.{list_any};
 ghost use Rattle.sql_grammar.specs.Refused.{has_wide_number, is_out_of_range, is_wide_limit, is_wide_place};
-ghost use Rattle.sql_refusals.specs.Unread.{has_literal, is_unread_cell, stmt_has_wide_number};
+ghost use Rattle.read_laws.specs.Unread.{has_literal, is_unread_cell, stmt_has_wide_number};
 ghost use Rattle.sql_tree.specs.Tree.{expr_tree, query_tree, stmt_tree};
 
 use cell_core::{Cell, Column, Sequence};
@@ -130,7 +130,7 @@ fn is_past_limit(limit: Option<u64>) -> bool
 }
 
 /// Whether a number is past the greatest one of signed 64 bits.
-#[tactic(auto, using(crate::proofs::NumberLemmas::past_range))]
+#[tactic(auto, using(read_laws::proofs::NumberLemmas::past_range))]
 fn is_past(number: u64) -> bool
     ensures { result ≡ is_out_of_range (pos number) }
 {

@@ -1,11 +1,1 @@
-pub mod ListLemmas
-pub mod NumberLemmas
-pub mod JoinLemmas
-pub mod PartFound
-pub mod StmtFound
-pub mod QueryFound
-pub mod EndLemmas
-pub mod PartTold
-pub mod StmtTold
-pub mod QueryTold
-pub mod StmtLaws
+mod AloneLemmas

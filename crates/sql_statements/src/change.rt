@@ -3,8 +3,8 @@ ghost use Rattle.std.specs.Option.{option_map};
 ghost use Rattle.sql_grammar.specs.Reads.{tokens_in};
 ghost use Rattle.sql_tree.specs.Tree.{cond_tree, set_tree, stmt_tree};
 ghost use Rattle.sql_tree.specs.declared.token.Keyword.TheVariants as word;
-ghost use Rattle.sql_reader.specs.Bounded.{bounded};
-ghost use Rattle.sql_statements.specs.Reader as reader;
+ghost use Rattle.read_laws.specs.Bounded.{bounded};
+ghost use Rattle.read_laws.specs.StmtReader as reader;
 
 use crate::part::name;
 use cell_core::{Sequence, Word};
@@ -13,7 +13,7 @@ use sql_tree::{Cond, Expr, Keyword, Stmt, Symbol};
 use std::alloc::Global;
 
 /// What follows DELETE: FROM, a table and a condition or none.
-#[tactic(auto, unfolding(crate::specs::Reader::delete))]
+#[tactic(auto, unfolding(read_laws::specs::StmtReader::delete))]
 pub(crate) fn delete(alloc: Global, tokens: &mut Cursor<'_>) -> Result<Stmt, TreeError>
     ensures found { IfOk result (λ statement. reader.delete bounded
         (tokens_in tokens.old.rest.now) ≡ Some (stmt_tree statement, tokens_in tokens.new.rest.now)) }
@@ -27,7 +27,7 @@ pub(crate) fn delete(alloc: Global, tokens: &mut Cursor<'_>) -> Result<Stmt, Tre
 }
 
 /// What follows UPDATE: a table, SET, what is set, and a condition or none.
-#[tactic(auto, unfolding(crate::specs::Reader::update))]
+#[tactic(auto, unfolding(read_laws::specs::StmtReader::update))]
 pub(crate) fn update(alloc: Global, tokens: &mut Cursor<'_>) -> Result<Stmt, TreeError>
     ensures found { IfOk result (λ statement. reader.update bounded
         (tokens_in tokens.old.rest.now) ≡ Some (stmt_tree statement, tokens_in tokens.new.rest.now)) }
@@ -42,7 +42,7 @@ pub(crate) fn update(alloc: Global, tokens: &mut Cursor<'_>) -> Result<Stmt, Tre
 }
 
 /// One set or more, with commas between them.
-#[tactic(auto, unfolding(crate::specs::Reader::listed), using(crate::proofs::ListLemmas::map_one))]
+#[tactic(auto, unfolding(read_laws::specs::StmtReader::listed), using(read_laws::proofs::ListLemmas::map_one))]
 fn sets(alloc: Global, tokens: &mut Cursor<'_>) -> Result<Sequence<(Word, Expr)>, TreeError>
     ensures found { IfOk result (λ sets. reader.listed (reader.set bounded)
         (tokens_in tokens.old.rest.now) ≡ Some (map set_tree sets, tokens_in tokens.new.rest.now)) }
@@ -64,7 +64,7 @@ fn sets(alloc: Global, tokens: &mut Cursor<'_>) -> Result<Sequence<(Word, Expr)>
 }
 
 /// A column, `=` and its value.
-#[tactic(auto, unfolding(crate::specs::Reader::set))]
+#[tactic(auto, unfolding(read_laws::specs::StmtReader::set))]
 fn set(alloc: Global, tokens: &mut Cursor<'_>) -> Result<(Word, Expr), TreeError>
     ensures found { IfOk result (λ set. reader.set bounded (tokens_in tokens.old.rest.now)
         ≡ Some (set_tree set, tokens_in tokens.new.rest.now)) }
@@ -78,7 +78,7 @@ fn set(alloc: Global, tokens: &mut Cursor<'_>) -> Result<(Word, Expr), TreeError
 }
 
 /// The condition behind WHERE, or none.
-#[tactic(auto, unfolding(crate::specs::Reader::where_cond))]
+#[tactic(auto, unfolding(read_laws::specs::StmtReader::where_cond))]
 pub(crate) fn where_cond(alloc: Global, tokens: &mut Cursor<'_>) -> Result<Option<Cond>, TreeError>
     ensures found { IfOk result (λ cond. reader.optional word.Where (reader.where_cond bounded)
         (tokens_in tokens.old.rest.now)

@@ -3,10 +3,10 @@ ghost use Rattle.sql_grammar.specs.Grammar.{number_of};
 ghost use Rattle.sql_grammar.specs.Reads.{tokens_in};
 ghost use Rattle.sql_grammar.specs.Statements.{length_of};
 ghost use Rattle.sql_tree.specs.Tree.{stmt_tree};
-ghost use Rattle.sql_reader.specs.Bounded.{bounded};
-ghost use Rattle.sql_reader.specs.Chain.{first_token, after_first};
-ghost use Rattle.sql_statements.specs.Derived.{length_32};
-ghost use Rattle.sql_statements.specs.Reader as reader;
+ghost use Rattle.read_laws.specs.Bounded.{bounded};
+ghost use Rattle.read_laws.specs.Chain.{first_token, after_first};
+ghost use Rattle.read_laws.specs.DerivedStmts.{length_32};
+ghost use Rattle.read_laws.specs.StmtReader as reader;
 
 use crate::part::{Part, enclosed, name, takes};
 use crate::values::literal;
@@ -20,7 +20,7 @@ use text_bytes::number_64;
 const PAST_WIDTHS: u32 = 65536;
 
 /// What follows CREATE: TABLE, a name and column definitions.
-#[tactic(auto, unfolding(crate::specs::Reader::create))]
+#[tactic(auto, unfolding(read_laws::specs::StmtReader::create))]
 pub(crate) fn create(alloc: Global, tokens: &mut Cursor<'_>) -> Result<Stmt, TreeError>
     ensures found { IfOk result (λ statement. reader.create length_32 bounded
         (tokens_in tokens.old.rest.now) ≡ Some (stmt_tree statement, tokens_in tokens.new.rest.now)) }
@@ -34,7 +34,7 @@ pub(crate) fn create(alloc: Global, tokens: &mut Cursor<'_>) -> Result<Stmt, Tre
 }
 
 /// What follows DROP: TABLE and a name.
-#[tactic(auto, unfolding(crate::specs::Reader::drop_table))]
+#[tactic(auto, unfolding(read_laws::specs::StmtReader::drop_table))]
 pub(crate) fn drop_table(tokens: &mut Cursor<'_>) -> Result<Stmt, TreeError>
     ensures found { IfOk result (λ statement. reader.drop_table (tokens_in tokens.old.rest.now)
         ≡ Some (stmt_tree statement, tokens_in tokens.new.rest.now)) }
@@ -47,7 +47,7 @@ pub(crate) fn drop_table(tokens: &mut Cursor<'_>) -> Result<Stmt, TreeError>
 }
 
 /// What follows ALTER: TABLE, a name, ADD, perhaps COLUMN, and a column definition.
-#[tactic(auto, unfolding(crate::specs::Reader::alter))]
+#[tactic(auto, unfolding(read_laws::specs::StmtReader::alter))]
 pub(crate) fn alter(tokens: &mut Cursor<'_>) -> Result<Stmt, TreeError>
     ensures found { IfOk result (λ statement. reader.alter length_32 bounded
         (tokens_in tokens.old.rest.now) ≡ Some (stmt_tree statement, tokens_in tokens.new.rest.now)) }
@@ -63,7 +63,7 @@ pub(crate) fn alter(tokens: &mut Cursor<'_>) -> Result<Stmt, TreeError>
 }
 
 /// A column definition: a name, a type, and what follows the type.
-#[tactic(auto, unfolding(crate::specs::Reader::coldef))]
+#[tactic(auto, unfolding(read_laws::specs::StmtReader::coldef))]
 fn coldef(tokens: &mut Cursor<'_>) -> Result<Column, TreeError>
     ensures found { IfOk result (λ column. reader.coldef length_32 bounded (tokens_in tokens.old.rest.now)
         ≡ Some (column, tokens_in tokens.new.rest.now)) }
@@ -103,7 +103,7 @@ fn column_type(tokens: &mut Cursor<'_>) -> Result<(Kind, u32), TreeError>
 }
 
 /// The length behind VARCHAR, in parentheses.
-#[tactic(auto, unfolding(crate::specs::Reader::varchar))]
+#[tactic(auto, unfolding(read_laws::specs::StmtReader::varchar))]
 fn varchar(tokens: &mut Cursor<'_>) -> Result<(Kind, u32), TreeError>
     ensures found { IfOk result (λ type. reader.varchar length_32 (tokens_in tokens.old.rest.now)
         ≡ Some (type, tokens_in tokens.new.rest.now)) }
@@ -119,7 +119,7 @@ fn varchar(tokens: &mut Cursor<'_>) -> Result<(Kind, u32), TreeError>
 }
 
 /// The width that digits write; the most of its type where they write more.
-#[tactic(auto, using(crate::proofs::NumberLemmas::great_length, crate::proofs::NumberLemmas::small_length))]
+#[tactic(auto, using(read_laws::proofs::NumberLemmas::great_length, read_laws::proofs::NumberLemmas::small_length))]
 fn width(digits: &Digits) -> u32
     ensures { result ≡ length_32 (length_of (number_of digits.now)) }
 {
@@ -143,7 +143,7 @@ fn narrow(number: u64) -> u32
 
 /// Whether NOT NULL stands behind a type, and the default, which is Nil where none is written. NOT NULL
 /// may stand before DEFAULT and its literal or behind these.
-#[tactic(auto, unfolding(crate::specs::Reader::column_end))]
+#[tactic(auto, unfolding(read_laws::specs::StmtReader::column_end))]
 fn column_end(tokens: &mut Cursor<'_>) -> Result<(bool, Cell), TreeError>
     ensures found { IfOk result (λ ends. reader.column_end bounded (tokens_in tokens.old.rest.now)
         ≡ Some (ends, tokens_in tokens.new.rest.now)) }
@@ -164,7 +164,7 @@ fn column_end(tokens: &mut Cursor<'_>) -> Result<(bool, Cell), TreeError>
 }
 
 /// Whether NOT NULL stands here, which may be left out.
-#[tactic(auto, unfolding(crate::specs::Reader::not_null))]
+#[tactic(auto, unfolding(read_laws::specs::StmtReader::not_null))]
 fn not_null(tokens: &mut Cursor<'_>) -> Result<bool, TreeError>
     ensures found { IfOk result (λ required. reader.not_null (tokens_in tokens.old.rest.now)
         ≡ Some (required, tokens_in tokens.new.rest.now)) }

@@ -2,28 +2,18 @@ ghost use Rattle.std.specs.Prelude.{◌≡◌, ◌∷◌, [], List, Some, None, 
 ghost use Rattle.std.specs.Option.{option_map};
 ghost use Rattle.sql_grammar.specs.Reads.{tokens_in};
 ghost use Rattle.sql_tree.specs.Tree.{cond_tree};
-ghost use Rattle.sql_reader.specs.Bounded.{bounded};
-ghost use Rattle.sql_statements.specs.Reader as reader;
+ghost use Rattle.read_laws.specs.Bounded.{bounded};
+ghost use Rattle.read_laws.specs.StmtReader as reader;
 
 use crate::part::name;
 use cell_core::{Memory, Sequence, Word};
+use read_laws::Joint;
 use sql_reader::{Cursor, TreeError, both, is_key, whole_cond};
 use sql_tree::{Cond, FromItem, Keyword, Symbol, Token};
 use std::alloc::Global;
 
-/// What joins a source to those before it.
-#[derive(Clone, Copy)]
-pub(crate) enum Joint {
-    /// `,`
-    Comma,
-    /// `INNER`, before JOIN
-    Inner,
-    /// `JOIN`
-    Join,
-}
-
 /// The tables of FROM, and the conditions of ON, joined by AND.
-#[tactic(auto, unfolding(crate::specs::Reader::sources))]
+#[tactic(auto, unfolding(read_laws::specs::StmtReader::sources))]
 pub(crate) fn sources(
     alloc: Global,
     tokens: &mut Cursor<'_>,
@@ -63,7 +53,7 @@ fn joint_of(token: Option<&Token>) -> Option<Joint>
 }
 
 /// A source behind what joins it, and the condition of its ON.
-#[tactic(auto, unfolding(crate::specs::Reader::joined))]
+#[tactic(auto, unfolding(read_laws::specs::StmtReader::joined))]
 fn joined(
     alloc: Global,
     tokens: &mut Cursor<'_>,
@@ -89,7 +79,7 @@ fn joined(
 }
 
 /// A source, ON and its condition.
-#[tactic(auto, unfolding(crate::specs::Reader::source_on, crate::specs::Reader::where_cond))]
+#[tactic(auto, unfolding(read_laws::specs::StmtReader::source_on, read_laws::specs::StmtReader::where_cond))]
 fn source_on(alloc: Global, tokens: &mut Cursor<'_>) -> Result<(FromItem, Option<Cond>), TreeError>
     ensures found { IfOk result (λ next. reader.source_on bounded
         (tokens_in tokens.old.rest.now)
@@ -104,7 +94,7 @@ fn source_on(alloc: Global, tokens: &mut Cursor<'_>) -> Result<(FromItem, Option
 }
 
 /// A table, with a name of its own or without.
-#[tactic(auto, unfolding(crate::specs::Reader::source))]
+#[tactic(auto, unfolding(read_laws::specs::StmtReader::source))]
 fn source(tokens: &mut Cursor<'_>) -> Result<FromItem, TreeError>
     ensures found { IfOk result (λ source. reader.source (tokens_in tokens.old.rest.now)
         ≡ Some (source, tokens_in tokens.new.rest.now)) }
@@ -117,7 +107,7 @@ fn source(tokens: &mut Cursor<'_>) -> Result<FromItem, TreeError>
 }
 
 /// The name behind a table or an item, with AS or without, or none.
-#[tactic(auto, unfolding(crate::specs::Reader::alias))]
+#[tactic(auto, unfolding(read_laws::specs::StmtReader::alias))]
 pub(crate) fn alias(tokens: &mut Cursor<'_>) -> Result<Option<Word>, TreeError>
     ensures found { IfOk result (λ alias. reader.alias (tokens_in tokens.old.rest.now)
         ≡ Some (alias, tokens_in tokens.new.rest.now)) }

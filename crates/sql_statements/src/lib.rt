@@ -1,10 +1,10 @@
 //! The reader of SQL's statements: which statement tokens derive.
 //!
-//! It stands on `sql_reader`, which reads expressions and conditions, and on the grammar of
-//! `sql_grammar`. The definitions in `specs/Derived` are what a reader has to believe: a statement that is
-//! read is one that the grammar's rules write with these tokens, as far as it is kept. It promises that
-//! `read_stmt` gives the statement of the tokens exactly where they derive one, and that no tokens derive
-//! two (`one_stmt`).
+//! It stands on `sql_reader`, which reads expressions and conditions, on the grammar of `sql_grammar` and on
+//! the reader on plain lists of `read_laws`. `DerivedStmts` there is what a reader has to believe: a
+//! statement that is read is one that the grammar's rules write with these tokens, as far as it is kept. It
+//! promises that `read_stmt` gives the statement of the tokens exactly where they derive one; no tokens
+//! derive two (`one_stmt`, a law of `read_laws`).
 //!
 //! Expressions and conditions are kept as `sql_reader` keeps them: those of more than 64 and of more than
 //! 128 nodes are cut off a little past these limits, so a text of any length makes small trees. The
@@ -15,11 +15,10 @@
 mod change;
 mod define;
 mod from;
-mod laws;
 mod part;
 mod query;
 mod stmt;
 mod values;
 
-pub use laws::one_stmt;
+pub use read_laws::one_stmt;
 pub use stmt::read_stmt;

@@ -1,7 +1,7 @@
 ghost use Rattle.std.specs.Prelude.{◌≡◌, [], Some, None, IfOk, IsErrOf};
 ghost use Rattle.sql_grammar.specs.Reads.{tokens_in};
-ghost use Rattle.sql_reader.specs.Chain.{Parser};
-ghost use Rattle.sql_statements.specs.Reader as reader;
+ghost use Rattle.read_laws.specs.Chain.{Parser};
+ghost use Rattle.read_laws.specs.StmtReader as reader;
 
 use cell_core::{Sequence, Word};
 use sql_reader::{Cursor, TreeError, comma, is_key};
@@ -21,7 +21,7 @@ pub(crate) trait Part: Drop + Sized {
 }
 
 /// One part or more, with commas between them.
-#[tactic(auto, unfolding(crate::specs::Reader::listed))]
+#[tactic(auto, unfolding(read_laws::specs::StmtReader::listed))]
 pub(crate) fn listed<P: Part>(
     alloc: Global,
     tokens: &mut Cursor<'_>,
@@ -46,7 +46,7 @@ pub(crate) fn listed<P: Part>(
 }
 
 /// One part or more in parentheses, with commas between them.
-#[tactic(auto, unfolding(crate::specs::Reader::enclosed))]
+#[tactic(auto, unfolding(read_laws::specs::StmtReader::enclosed))]
 pub(crate) fn enclosed<P: Part>(
     alloc: Global,
     tokens: &mut Cursor<'_>,
@@ -63,7 +63,7 @@ pub(crate) fn enclosed<P: Part>(
 }
 
 /// A list behind a word and BY; no parts where the word doesn't stand here.
-#[tactic(auto, unfolding(crate::specs::Reader::listed_by))]
+#[tactic(auto, unfolding(read_laws::specs::StmtReader::listed_by))]
 pub(crate) fn listed_by<P: Part>(
     alloc: Global,
     tokens: &mut Cursor<'_>,
@@ -96,7 +96,7 @@ pub(crate) fn takes(tokens: &mut Cursor<'_>, word: Keyword) -> bool
 }
 
 /// A name, bare or in quotes.
-#[tactic(auto, unfolding(crate::specs::Reader::name))]
+#[tactic(auto, unfolding(read_laws::specs::StmtReader::name))]
 pub(crate) fn name(tokens: &mut Cursor<'_>) -> Result<Word, TreeError>
     ensures found { IfOk result (λ name. reader.name (tokens_in tokens.old.rest.now)
         ≡ Some (name, tokens_in tokens.new.rest.now)) }
@@ -110,7 +110,7 @@ pub(crate) fn name(tokens: &mut Cursor<'_>) -> Result<Word, TreeError>
 }
 
 /// A column: `column` or `table.column`.
-#[tactic(auto, unfolding(crate::specs::Reader::column))]
+#[tactic(auto, unfolding(read_laws::specs::StmtReader::column))]
 pub(crate) fn column(tokens: &mut Cursor<'_>) -> Result<ColRef, TreeError>
     ensures found { IfOk result (λ column. reader.column (tokens_in tokens.old.rest.now)
         ≡ Some (column, tokens_in tokens.new.rest.now)) }

@@ -4,9 +4,9 @@ ghost use Rattle.sql_grammar.specs.Grammar.{number_of};
 ghost use Rattle.sql_grammar.specs.Reads.{tokens_in};
 ghost use Rattle.sql_tree.specs.Tree.{cond_tree, item_tree, query_tree};
 ghost use Rattle.sql_tree.specs.declared.token.Keyword.TheVariants as word;
-ghost use Rattle.sql_reader.specs.Bounded.{bounded};
-ghost use Rattle.sql_statements.specs.Derived.{count_64};
-ghost use Rattle.sql_statements.specs.Reader as reader;
+ghost use Rattle.read_laws.specs.Bounded.{bounded};
+ghost use Rattle.read_laws.specs.DerivedStmts.{count_64};
+ghost use Rattle.read_laws.specs.StmtReader as reader;
 
 use crate::change::where_cond;
 use crate::from::{alias, also, sources};
@@ -18,7 +18,7 @@ use std::alloc::Global;
 use text_bytes::number_64;
 
 /// What follows SELECT.
-#[tactic(auto, unfolding(crate::specs::Reader::query))]
+#[tactic(auto, unfolding(read_laws::specs::StmtReader::query))]
 pub(crate) fn query(alloc: Global, tokens: &mut Cursor<'_>) -> Result<Query, TreeError>
     ensures found { IfOk result (λ query. reader.query bounded count_64
         (tokens_in tokens.old.rest.now) ≡ Some (query_tree query, tokens_in tokens.new.rest.now)) }
@@ -31,7 +31,7 @@ pub(crate) fn query(alloc: Global, tokens: &mut Cursor<'_>) -> Result<Query, Tre
 }
 
 /// The query of its items and its FROM, or without.
-#[tactic(auto, unfolding(crate::specs::Reader::optional_from))]
+#[tactic(auto, unfolding(read_laws::specs::StmtReader::optional_from))]
 fn optional_from(
     alloc: Global,
     tokens: &mut Cursor<'_>,
@@ -61,7 +61,7 @@ fn optional_from(
 }
 
 /// The query of what follows FROM.
-#[tactic(auto, unfolding(crate::specs::Reader::from))]
+#[tactic(auto, unfolding(read_laws::specs::StmtReader::from))]
 fn from(
     alloc: Global,
     tokens: &mut Cursor<'_>,
@@ -95,7 +95,7 @@ fn from(
 }
 
 /// The items, none for `*`.
-#[tactic(auto, unfolding(crate::specs::Reader::items))]
+#[tactic(auto, unfolding(read_laws::specs::StmtReader::items))]
 fn items(alloc: Global, tokens: &mut Cursor<'_>) -> Result<Sequence<Item>, TreeError>
     ensures found { IfOk result (λ items. reader.items bounded (tokens_in tokens.old.rest.now)
         ≡ Some (map item_tree items, tokens_in tokens.new.rest.now)) }
@@ -110,7 +110,7 @@ fn items(alloc: Global, tokens: &mut Cursor<'_>) -> Result<Sequence<Item>, TreeE
 }
 
 /// One item or more, with commas between them.
-#[tactic(auto, unfolding(crate::specs::Reader::listed), using(crate::proofs::ListLemmas::map_one))]
+#[tactic(auto, unfolding(read_laws::specs::StmtReader::listed), using(read_laws::proofs::ListLemmas::map_one))]
 fn some_items(alloc: Global, tokens: &mut Cursor<'_>) -> Result<Sequence<Item>, TreeError>
     ensures found { IfOk result (λ items. reader.listed (reader.item bounded)
         (tokens_in tokens.old.rest.now)
@@ -133,7 +133,7 @@ fn some_items(alloc: Global, tokens: &mut Cursor<'_>) -> Result<Sequence<Item>, 
 }
 
 /// An item, with a name or without.
-#[tactic(auto, unfolding(crate::specs::Reader::item))]
+#[tactic(auto, unfolding(read_laws::specs::StmtReader::item))]
 fn item(alloc: Global, tokens: &mut Cursor<'_>) -> Result<Item, TreeError>
     ensures found { IfOk result (λ item. reader.item bounded (tokens_in tokens.old.rest.now)
         ≡ Some (item_tree item, tokens_in tokens.new.rest.now)) }
@@ -146,7 +146,7 @@ fn item(alloc: Global, tokens: &mut Cursor<'_>) -> Result<Item, TreeError>
 }
 
 /// The condition behind HAVING, or none.
-#[tactic(auto, unfolding(crate::specs::Reader::having_cond))]
+#[tactic(auto, unfolding(read_laws::specs::StmtReader::having_cond))]
 fn having(alloc: Global, tokens: &mut Cursor<'_>) -> Result<Option<Cond>, TreeError>
     ensures found { IfOk result (λ cond.
         reader.optional word.Having (reader.having_cond bounded) (tokens_in tokens.old.rest.now)
@@ -163,7 +163,7 @@ fn having(alloc: Global, tokens: &mut Cursor<'_>) -> Result<Option<Cond>, TreeEr
 }
 
 /// The most rows behind LIMIT, or none.
-#[tactic(auto, unfolding(crate::specs::Reader::counted))]
+#[tactic(auto, unfolding(read_laws::specs::StmtReader::counted))]
 fn limit(tokens: &mut Cursor<'_>) -> Result<Option<u64>, TreeError>
     ensures found { IfOk result (λ limit. reader.optional word.Limit (reader.counted bounded count_64)
         (tokens_in tokens.old.rest.now) ≡ Some (limit, tokens_in tokens.new.rest.now)) }
@@ -182,7 +182,7 @@ fn limit(tokens: &mut Cursor<'_>) -> Result<Option<u64>, TreeError>
 }
 
 /// A key of ORDER BY.
-#[tactic(auto, unfolding(crate::specs::Reader::key))]
+#[tactic(auto, unfolding(read_laws::specs::StmtReader::key))]
 fn sort_key(tokens: &mut Cursor<'_>) -> Result<SortKey, TreeError>
     ensures found { IfOk result (λ key. reader.key bounded count_64
         (tokens_in tokens.old.rest.now) ≡ Some (key, tokens_in tokens.new.rest.now)) }
@@ -195,7 +195,7 @@ fn sort_key(tokens: &mut Cursor<'_>) -> Result<SortKey, TreeError>
 }
 
 /// What a key sorts by: a position or a column.
-#[tactic(auto, unfolding(crate::specs::Reader::place))]
+#[tactic(auto, unfolding(read_laws::specs::StmtReader::place))]
 fn place(tokens: &mut Cursor<'_>) -> Result<Place, TreeError>
     ensures found { IfOk result (λ place. reader.place bounded count_64
         (tokens_in tokens.old.rest.now) ≡ Some (place, tokens_in tokens.new.rest.now)) }
@@ -211,7 +211,7 @@ fn place(tokens: &mut Cursor<'_>) -> Result<Place, TreeError>
 }
 
 /// Whether low values come first, which ASC or DESC tells.
-#[tactic(auto, unfolding(crate::specs::Reader::ascending))]
+#[tactic(auto, unfolding(read_laws::specs::StmtReader::ascending))]
 fn ascending(tokens: &mut Cursor<'_>) -> bool
     ensures { reader.ascending (tokens_in tokens.old.rest.now)
         ≡ Some (result, tokens_in tokens.new.rest.now) }

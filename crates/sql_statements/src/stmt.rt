@@ -2,9 +2,9 @@ ghost use Rattle.std.specs.Prelude.{◌≡◌, ◌<◌, [], length, Some, None, 
 ghost use Rattle.sql_grammar.specs.Reads.{tokens_in};
 ghost use Rattle.sql_grammar.specs.Statements.{Derives};
 ghost use Rattle.sql_tree.specs.Tree.{StmtTree, stmt_tree};
-ghost use Rattle.sql_reader.specs.Bounded.{bounded};
-ghost use Rattle.sql_statements.specs.Derived.{IsReadStmt, count_64, length_32};
-ghost use Rattle.sql_statements.specs.Reader as reader;
+ghost use Rattle.read_laws.specs.Bounded.{bounded};
+ghost use Rattle.read_laws.specs.DerivedStmts.{IsReadStmt, count_64, length_32};
+ghost use Rattle.read_laws.specs.StmtReader as reader;
 
 use crate::change::{delete, update};
 use crate::define::{alter, create, drop_table};
@@ -48,7 +48,7 @@ fn alone(rest: &Cursor<'_>, read: Stmt) -> Result<Stmt, TreeError>
 }
 
 /// A statement.
-#[tactic(auto, unfolding(crate::specs::Reader::stmt))]
+#[tactic(auto, unfolding(read_laws::specs::StmtReader::stmt))]
 fn stmt(alloc: Global, tokens: &mut Cursor<'_>) -> Result<Stmt, TreeError>
     ensures found { IfOk result (λ s. reader.stmt bounded count_64 length_32
         (tokens_in tokens.old.rest.now) ≡ Some (stmt_tree s, tokens_in tokens.new.rest.now)) }
@@ -69,7 +69,7 @@ fn stmt(alloc: Global, tokens: &mut Cursor<'_>) -> Result<Stmt, TreeError>
 }
 
 /// What follows EXPLAIN: a query.
-#[tactic(auto, unfolding(crate::specs::Reader::explain))]
+#[tactic(auto, unfolding(read_laws::specs::StmtReader::explain))]
 fn explain(alloc: Global, tokens: &mut Cursor<'_>) -> Result<Stmt, TreeError>
     ensures found { IfOk result (λ s. reader.explain bounded count_64
         (tokens_in tokens.old.rest.now) ≡ Some (stmt_tree s, tokens_in tokens.new.rest.now)) }

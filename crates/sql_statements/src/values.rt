@@ -1,8 +1,8 @@
 ghost use Rattle.std.specs.Prelude.{◌≡◌, Some, None, IfOk, IsErrOf};
 ghost use Rattle.sql_grammar.specs.Reads.{tokens_in};
 ghost use Rattle.sql_tree.specs.Tree.{stmt_tree};
-ghost use Rattle.sql_reader.specs.Bounded.{bounded};
-ghost use Rattle.sql_statements.specs.Reader as reader;
+ghost use Rattle.read_laws.specs.Bounded.{bounded};
+ghost use Rattle.read_laws.specs.StmtReader as reader;
 
 use crate::part::{Part, enclosed, listed, name};
 use cell_core::{Cell, Sequence, Word};
@@ -11,7 +11,7 @@ use sql_tree::{Keyword, Stmt, Symbol, Token};
 use std::alloc::Global;
 
 /// What follows INSERT: INTO, a table, its columns or none, VALUES and rows.
-#[tactic(auto, unfolding(crate::specs::Reader::insert))]
+#[tactic(auto, unfolding(read_laws::specs::StmtReader::insert))]
 pub(crate) fn insert(alloc: Global, tokens: &mut Cursor<'_>) -> Result<Stmt, TreeError>
     ensures found { IfOk result (λ statement. reader.insert bounded
         (tokens_in tokens.old.rest.now) ≡ Some (stmt_tree statement, tokens_in tokens.new.rest.now)) }
@@ -31,7 +31,7 @@ pub(crate) fn insert(alloc: Global, tokens: &mut Cursor<'_>) -> Result<Stmt, Tre
 }
 
 /// The columns in parentheses, or none.
-#[tactic(auto, unfolding(crate::specs::Reader::names))]
+#[tactic(auto, unfolding(read_laws::specs::StmtReader::names))]
 fn names(alloc: Global, tokens: &mut Cursor<'_>) -> Result<Sequence<Word>, TreeError>
     ensures found { IfOk result (λ names. reader.names (tokens_in tokens.old.rest.now)
         ≡ Some (names, tokens_in tokens.new.rest.now)) }
@@ -45,7 +45,7 @@ fn names(alloc: Global, tokens: &mut Cursor<'_>) -> Result<Sequence<Word>, TreeE
 }
 
 /// A row: literals in parentheses.
-#[tactic(auto, unfolding(crate::specs::Reader::row))]
+#[tactic(auto, unfolding(read_laws::specs::StmtReader::row))]
 fn row(alloc: Global, tokens: &mut Cursor<'_>) -> Result<Sequence<Cell>, TreeError>
     ensures found { IfOk result (λ row. reader.row bounded (tokens_in tokens.old.rest.now)
         ≡ Some (row, tokens_in tokens.new.rest.now)) }
@@ -56,7 +56,7 @@ fn row(alloc: Global, tokens: &mut Cursor<'_>) -> Result<Sequence<Cell>, TreeErr
 }
 
 /// A literal: digits, digits behind a `-`, a string, NULL, or DATE and a string that names a day.
-#[tactic(auto, unfolding(crate::specs::Reader::literal))]
+#[tactic(auto, unfolding(read_laws::specs::StmtReader::literal))]
 pub(crate) fn literal(tokens: &mut Cursor<'_>) -> Result<Cell, TreeError>
     ensures found { IfOk result (λ literal. reader.literal bounded
         (tokens_in tokens.old.rest.now) ≡ Some (literal, tokens_in tokens.new.rest.now)) }
@@ -74,7 +74,7 @@ pub(crate) fn literal(tokens: &mut Cursor<'_>) -> Result<Cell, TreeError>
 }
 
 /// The digits behind a `-`.
-#[tactic(auto, unfolding(crate::specs::Reader::negative_literal))]
+#[tactic(auto, unfolding(read_laws::specs::StmtReader::negative_literal))]
 fn negative_literal(tokens: &mut Cursor<'_>) -> Result<Cell, TreeError>
     ensures found { IfOk result (λ literal. reader.negative_literal bounded
         (tokens_in tokens.old.rest.now) ≡ Some (literal, tokens_in tokens.new.rest.now)) }
@@ -88,7 +88,7 @@ fn negative_literal(tokens: &mut Cursor<'_>) -> Result<Cell, TreeError>
 }
 
 /// What follows DATE: a string that names a day.
-#[tactic(auto, unfolding(crate::specs::Reader::day_literal))]
+#[tactic(auto, unfolding(read_laws::specs::StmtReader::day_literal))]
 fn day_literal(tokens: &mut Cursor<'_>) -> Result<Cell, TreeError>
     ensures found { IfOk result (λ literal. reader.day_literal (tokens_in tokens.old.rest.now)
         ≡ Some (literal, tokens_in tokens.new.rest.now)) }

@@ -3,7 +3,7 @@ ghost use Rattle.std.specs.Char.{to_ascii_lowercase};
 ghost use Rattle.std.specs.List.{list_all};
 ghost use Rattle.sql_tree.specs.Bytes as classes;
 ghost use Rattle.sql_tree.specs.Words as words;
-ghost use Rattle.sql_tokens.specs.Reader as reader;
+ghost use Rattle.read_laws.specs.TokenReader as reader;
 
 use crate::block::block_length;
 use crate::quoted::quoted;

@@ -1,7 +1,7 @@
 ghost use Rattle.std.specs.Prelude.{◌≡◌, ◌<◌, ◌≤◌, ◌+◌, ℕ, List, [], ◌∷◌, ◌++◌, length, take, drop, false, IfOk, IfSome, IfNone, IsTrue, OnOk, IsErrOf};
 ghost use Rattle.sql_tree.specs.Pieces as told;
 ghost use Rattle.sql_tree.specs.declared.inside.Inside.TheVariants.{Outside};
-ghost use Rattle.sql_tokens.specs.Reader as reader;
+ghost use Rattle.read_laws.specs.TokenReader as reader;
 
 use cell_core::{Memory, Word, word_of};
 use sql_tree::Inside;

@@ -1,5 +1,5 @@
 ghost use Rattle.std.specs.Prelude.{◌≡◌, ◌<◌, ◌≤◌, ◌++◌, length, Some, None, true, false, IfOk, OnOk, OnErr, IsErrOf, IsUtf8};
-ghost use Rattle.sql_tokens.specs.Reader as reader;
+ghost use Rattle.read_laws.specs.TokenReader as reader;
 
 use crate::reading::TokensError;
 use cell_core::{Memory, Word, word_of};

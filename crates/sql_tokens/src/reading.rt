@@ -1,7 +1,7 @@
 ghost use Rattle.std.specs.Prelude.{◌≡◌, ◌≤◌, ◌++◌, [], Some, None, length, drop, IfOk, OnOk, IsErrOf};
 ghost use Rattle.sql_tree.specs.Tokens.{AreTokens, with_token};
-ghost use Rattle.sql_tokens.specs.Laws.{HasNoTokens};
-ghost use Rattle.sql_tokens.specs.Reader as reader;
+ghost use Rattle.read_laws.specs.TokenLaws.{HasNoTokens};
+ghost use Rattle.read_laws.specs.TokenReader as reader;
 
 use crate::part::part;
 use cell_core::{Memory, Sequence};

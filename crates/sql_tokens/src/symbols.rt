@@ -1,5 +1,5 @@
 ghost use Rattle.std.specs.Prelude.{◌≡◌, ◌==◌, ◌&&◌};
-ghost use Rattle.sql_tokens.specs.Reader as reader;
+ghost use Rattle.read_laws.specs.TokenReader as reader;
 
 use sql_tree::{PAIRS, SINGLES, Symbol};
 
@@ -14,7 +14,7 @@ pub(crate) fn pair(first: u8, after: &[u8]) -> Option<Symbol>
 }
 
 /// The symbol of two bytes.
-#[tactic(auto, unfolding(crate::specs::Reader::pair_of))]
+#[tactic(auto, unfolding(read_laws::specs::TokenReader::pair_of))]
 fn pair_of(first: u8, second: u8) -> Option<Symbol>
     ensures { result ≡ reader.pair_of first second }
 {
@@ -35,7 +35,7 @@ fn find_pair(pairs: &[((u8, u8), Symbol)], first: u8, second: u8) -> Option<Symb
 }
 
 /// The symbol of one byte.
-#[tactic(auto, unfolding(crate::specs::Reader::single_of))]
+#[tactic(auto, unfolding(read_laws::specs::TokenReader::single_of))]
 pub(crate) fn single(byte: u8) -> Option<Symbol>
     ensures { result ≡ reader.single_of byte }
 {

@@ -1,7 +1,7 @@
 use Rattle.std.proofs.Common.{◌≡◌, Err, ap, sym, subst, ◌∙◌}
-use Rattle.sql_parse.proofs.TextsRead.{by_levels}
+use Rattle.read_laws.proofs.TextsRead.{by_levels}
 use Rattle.sql_parse.proofs.steps.check_levels.Goals as goal
-use Rattle.sql_parse.specs.Steps.{AreAnswered}
+use Rattle.read_laws.specs.AnsweredTokens.{AreAnswered}
 use Rattle.sql_semantics.specs.declared.refusal.Refusal.{Refusal}
 use Rattle.sql_semantics.specs.declared.refusal.Refusal.TheVariants.{Limit}
 

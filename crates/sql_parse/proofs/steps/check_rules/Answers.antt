@@ -1,9 +1,9 @@
 use Rattle.std.proofs.Common.{◌≡◌, List, ℕ, Option, Err, subst}
 use Rattle.sql_grammar.specs.Reads.{tokens_in}
 use Rattle.sql_grammar.specs.Refused.{IsFirstRule}
-use Rattle.sql_parse.proofs.TextsRead.{by_rule}
+use Rattle.read_laws.proofs.TextsRead.{by_rule}
 use Rattle.sql_parse.proofs.steps.check_rules.Goals as goal
-use Rattle.sql_parse.specs.Steps.{AreAnswered}
+use Rattle.read_laws.specs.AnsweredTokens.{AreAnswered}
 use Rattle.sql_semantics.specs.declared.refusal.Refusal.{Refusal}
 use Rattle.sql_semantics.specs.declared.refusal.Refusal.TheVariants.{Unsupported}
 

@@ -1,6 +1,7 @@
 use Rattle.std.proofs.Common.{◌≡◌}
 use Rattle.sql_parse.proofs.ErrorLemmas.{error_made}
-use Rattle.sql_parse.proofs.TextsRead.{by_left_out, by_limit, if_within}
+use Rattle.read_laws.proofs.TextsRead.{by_left_out, by_limit}
+use Rattle.sql_parse.proofs.ResultLemmas.{if_within}
 use Rattle.sql_parse.proofs.text.check_stmt.Goals as goal
 use Rattle.sql_parse.specs.declared.error.ParseError.TheVariants.{Refused}
 use Rattle.sql_tree.specs.Tree.{stmt_tree}

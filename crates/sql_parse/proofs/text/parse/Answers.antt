@@ -1,7 +1,8 @@
 use Rattle.std.proofs.Common.{Err}
 use Rattle.sql_parse.proofs.ErrorLemmas.{error_made, refused_tokens}
 use Rattle.sql_parse.proofs.FormedStmts.{if_formed}
-use Rattle.sql_parse.proofs.TextsRead.{by_tokens, if_answered}
+use Rattle.read_laws.proofs.TextsRead.{by_tokens}
+use Rattle.sql_parse.proofs.ResultLemmas.{if_answered}
 use Rattle.sql_parse.proofs.text.parse.Goals as goal
 
 pub returns-in_err-tokens-clause-refused : goal.returns-in_err-tokens-clause-refused

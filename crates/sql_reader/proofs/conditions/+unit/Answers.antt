@@ -6,12 +6,12 @@ use Rattle.sql_grammar.specs.Reads.{tokens_in}
 use Rattle.sql_tree.specs.Tree.{expr_tree, cond_tree}
 use Rattle.sql_tree.specs.Tree.CondTree.{Both, Either}
 use Rattle.sql_tree.specs.declared.token.Symbol.TheVariants as symbol
-use Rattle.sql_reader.specs.Parts.{is_symbol}
+use Rattle.read_laws.specs.Parts.{is_symbol}
 use Rattle.sql_reader.proofs.InsideLaws.{cond_in_parentheses, cond_from_operand, from_none, from_test, from_closed, from_open, operand_none, operand_goes_on_from, as_operand, as_condition, found_inside}
-use Rattle.sql_reader.specs.Chain.{first_token}
-use Rattle.sql_reader.specs.CondReader as reader
-use Rattle.sql_reader.specs.Bounded.{bounded, bounded_join}
-use Rattle.sql_reader.proofs.ChainLemmas.{chain_ends, turn_goes_on, turn_breaks, last_turn, same_err}
+use Rattle.read_laws.specs.Chain.{first_token}
+use Rattle.read_laws.specs.CondReader as reader
+use Rattle.read_laws.specs.Bounded.{bounded, bounded_join}
+use Rattle.read_laws.proofs.ChainLemmas.{chain_ends, turn_goes_on, turn_breaks, last_turn, same_err}
 use Rattle.sql_reader.proofs.conditions.+unit.Goals as goal
 
 pub cond_behind-returns-in_default-clause-found : goal.cond_behind-returns-in_default-clause-found

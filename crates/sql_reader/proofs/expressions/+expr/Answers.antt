@@ -4,10 +4,10 @@ use Rattle.std.proofs.lemmas.Grind.{common_steps}
 use Rattle.std.proofs.lemmas.Result.{err_from_is_err_and}
 use Rattle.sql_grammar.specs.Reads.{tokens_in}
 use Rattle.sql_tree.specs.Tree.{expr_tree}
-use Rattle.sql_reader.specs.Chain.{first_token}
-use Rattle.sql_reader.specs.Bounded.{bounded, bounded_operator}
-use Rattle.sql_reader.specs.Reader as reader
-use Rattle.sql_reader.proofs.ChainLemmas.{chain_ends, turn_goes_on, turn_breaks, last_turn, same_err}
+use Rattle.read_laws.specs.Chain.{first_token}
+use Rattle.read_laws.specs.Bounded.{bounded, bounded_operator}
+use Rattle.read_laws.specs.ExprReader as reader
+use Rattle.read_laws.proofs.ChainLemmas.{chain_ends, turn_goes_on, turn_breaks, last_turn, same_err}
 use Rattle.sql_reader.proofs.expressions.+expr.Goals as goal
 
 pub expr_behind-returns-in_default-clause-found : goal.expr_behind-returns-in_default-clause-found

@@ -1,9 +1,9 @@
 use Rattle.std.proofs.Common.{◌≡◌, ◌+◌, ◌-◌, ◌*◌}
 use Rattle.sql_grammar.specs.Reads.{tokens_in}
 use Rattle.sql_tree.specs.Tree.{expr_tree}
-use Rattle.sql_reader.specs.Chain.{chain}
-use Rattle.sql_reader.specs.Bounded.{bounded, bounded_operator}
-use Rattle.sql_reader.specs.Reader as reader
+use Rattle.read_laws.specs.Chain.{chain}
+use Rattle.read_laws.specs.Bounded.{bounded, bounded_operator}
+use Rattle.read_laws.specs.ExprReader as reader
 use Rattle.sql_reader.proofs.expressions.+expr.Given as goal
 
 abbrev pub decreases-expr : goal.decreases-expr

@@ -6,11 +6,11 @@ use Rattle.sql_grammar.specs.Reads.{tokens_in}
 use Rattle.sql_tree.specs.Tree.{cond_tree, expr_tree}
 use Rattle.sql_tree.specs.Tree.CondTree.{Compare, Either}
 use Rattle.sql_tree.specs.declared.tree.CmpOp.TheVariants as compare
-use Rattle.sql_reader.specs.Chain.{first_token}
-use Rattle.sql_reader.specs.CondReader as reader
-use Rattle.sql_reader.specs.Bounded.{bounded, bounded_join}
-use Rattle.sql_reader.specs.Parts.{comma_in}
-use Rattle.sql_reader.proofs.ChainLemmas.{chain_ends, turn_goes_on, turn_breaks, last_turn, same_err}
+use Rattle.read_laws.specs.Chain.{first_token}
+use Rattle.read_laws.specs.CondReader as reader
+use Rattle.read_laws.specs.Bounded.{bounded, bounded_join}
+use Rattle.read_laws.specs.Parts.{comma_in}
+use Rattle.read_laws.proofs.ChainLemmas.{chain_ends, turn_goes_on, turn_breaks, last_turn, same_err}
 use Rattle.sql_reader.proofs.predicates.members.Goals as goal
 
 pub returns-in_default-clause-found : goal.returns-in_default-clause-found

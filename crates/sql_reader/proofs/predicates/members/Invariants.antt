@@ -1,10 +1,10 @@
 use Rattle.std.proofs.Common.{◌≡◌, ◌-◌}
 use Rattle.sql_grammar.specs.Reads.{tokens_in}
 use Rattle.sql_tree.specs.Tree.{cond_tree, expr_tree}
-use Rattle.sql_reader.specs.Chain.{chain}
-use Rattle.sql_reader.specs.Bounded.{bounded}
-use Rattle.sql_reader.specs.CondReader as reader
-use Rattle.sql_reader.specs.Parts.{comma_in}
+use Rattle.read_laws.specs.Chain.{chain}
+use Rattle.read_laws.specs.Bounded.{bounded}
+use Rattle.read_laws.specs.CondReader as reader
+use Rattle.read_laws.specs.Parts.{comma_in}
 use Rattle.sql_reader.proofs.predicates.members.Given as goal
 
 abbrev pub invariant-members : goal.invariant-members

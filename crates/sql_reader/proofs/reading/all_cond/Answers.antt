@@ -2,9 +2,9 @@ use Rattle.std.proofs.Common.{ap, sym, ◌∙◌}
 use Rattle.std.proofs.lemmas.Result.{err_from_is_err_and}
 use Rattle.sql_grammar.specs.Reads.{tokens_in}
 use Rattle.sql_tree.specs.Tree.{cond_tree}
-use Rattle.sql_reader.specs.CondReader as reader
-use Rattle.sql_reader.specs.Bounded.{bounded}
-use Rattle.sql_reader.proofs.ChainLemmas.{same_err, left_over, nothing_found}
+use Rattle.read_laws.specs.CondReader as reader
+use Rattle.read_laws.specs.Bounded.{bounded}
+use Rattle.read_laws.proofs.ChainLemmas.{same_err, left_over, nothing_found}
 use Rattle.sql_reader.proofs.reading.all_cond.Goals as goal
 
 pub returns-clause-none : goal.returns-clause-none

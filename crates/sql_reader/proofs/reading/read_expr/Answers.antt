@@ -2,10 +2,10 @@ use Rattle.std.proofs.Common.{◌≡◌, length, ap, sym, ◌∙◌}
 use Rattle.std.proofs.lemmas.Result.{err_from_is_err_and}
 use Rattle.sql_grammar.specs.Reads.{tokens_in}
 use Rattle.sql_tree.specs.Tree.{expr_tree}
-use Rattle.sql_reader.specs.Bounded.{bounded}
-use Rattle.sql_reader.specs.Reader as reader
-use Rattle.sql_reader.proofs.ChainLemmas.{same_err}
-use Rattle.sql_reader.proofs.ExprLaws.{whole_found, none_found, left_found}
+use Rattle.read_laws.specs.Bounded.{bounded}
+use Rattle.read_laws.specs.ExprReader as reader
+use Rattle.read_laws.proofs.ChainLemmas.{same_err}
+use Rattle.read_laws.proofs.ExprLaws.{whole_found, none_found, left_found}
 use Rattle.sql_reader.proofs.reading.read_expr.Goals as goal
 
 pub returns-in_err-end-clause-none : goal.returns-in_err-end-clause-none

@@ -1,7 +1,7 @@
 use Rattle.std.proofs.lemmas.Result.{IfOk-weaker}
 use Rattle.sql_grammar.specs.Reads.{tokens_in}
 use Rattle.sql_tree.specs.Tree.{cond_tree}
-use Rattle.sql_reader.proofs.CondLaws.{having_read, having_told}
+use Rattle.read_laws.proofs.CondLaws.{having_read, having_told}
 use Rattle.sql_reader.proofs.reading.read_having.Goals as goal
 
 pub returns-clause-cond : goal.returns-clause-cond

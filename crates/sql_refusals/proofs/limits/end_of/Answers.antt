@@ -1,5 +1,5 @@
 use Rattle.std.proofs.Common.{sym}
-use Rattle.sql_refusals.proofs.LimitLemmas.{ends_alone, ends_with}
+use Rattle.read_laws.proofs.LimitLemmas.{ends_alone, ends_with}
 use Rattle.sql_refusals.proofs.limits.end_of.Goals as goal
 
 pub returns-in-None : goal.returns-in-None

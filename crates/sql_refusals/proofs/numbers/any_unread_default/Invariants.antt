@@ -1,7 +1,7 @@
 use Rattle.std.proofs.Common.{◌≡◌, length}
 use Rattle.std.specs.List.{list_any}
 use Rattle.cell_core.specs.declared.table.Column.{Column}
-use Rattle.sql_refusals.specs.Unread.{is_unread_cell}
+use Rattle.read_laws.specs.Unread.{is_unread_cell}
 use Rattle.sql_refusals.proofs.numbers.any_unread_default.Given as goal
 
 -- what is left tells as all do

@@ -1,6 +1,6 @@
 use Rattle.std.proofs.Common.{◌≡◌, length}
 use Rattle.std.specs.List.{list_any}
-use Rattle.sql_refusals.specs.Unread.{is_unread_cell}
+use Rattle.read_laws.specs.Unread.{is_unread_cell}
 use Rattle.sql_refusals.proofs.numbers.any_unread_row.Given as goal
 
 -- what is left tells as all do

@@ -1,5 +1,5 @@
 use Rattle.std.proofs.Common.{◌∙◌, sym, arith, below_more}
-use Rattle.sql_refusals.proofs.RuleLemmas.{no_rule_past}
+use Rattle.read_laws.proofs.RuleLemmas.{no_rule_past}
 use Rattle.sql_refusals.proofs.rules.first_rule.Goals as goal
 
 pub tokens-preserved : goal.tokens-preserved

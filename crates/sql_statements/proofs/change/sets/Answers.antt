@@ -3,13 +3,13 @@ use Rattle.std.proofs.Common.{◌≡◌, None, map, ap, sym, ◌∙◌, arith, r
 use Rattle.std.proofs.lemmas.Grind.{common_steps}
 use Rattle.std.proofs.lemmas.Result.{err_from_is_err_and}
 use Rattle.sql_grammar.specs.Reads.{tokens_in}
-use Rattle.sql_reader.specs.Chain.{first_token}
-use Rattle.sql_reader.specs.Bounded.{bounded}
-use Rattle.sql_reader.specs.Parts.{comma_in}
-use Rattle.sql_reader.proofs.ChainLemmas.{chain_ends, turn_goes_on, turn_breaks, last_turn, same_err}
+use Rattle.read_laws.specs.Chain.{first_token}
+use Rattle.read_laws.specs.Bounded.{bounded}
+use Rattle.read_laws.specs.Parts.{comma_in}
+use Rattle.read_laws.proofs.ChainLemmas.{chain_ends, turn_goes_on, turn_breaks, last_turn, same_err}
 use Rattle.sql_tree.specs.Tree.{set_tree}
-use Rattle.sql_statements.specs.Reader as reader
-use Rattle.sql_statements.proofs.ListLemmas.{map_one}
+use Rattle.read_laws.specs.StmtReader as reader
+use Rattle.read_laws.proofs.ListLemmas.{map_one}
 use Rattle.sql_statements.proofs.change.sets.Goals as goal
 
 pub returns-in_default-clause-found : goal.returns-in_default-clause-found

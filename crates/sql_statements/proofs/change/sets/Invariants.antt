@@ -1,10 +1,10 @@
 use Rattle.std.proofs.Common.{◌≡◌, ◌-◌, map}
 use Rattle.sql_grammar.specs.Reads.{tokens_in}
-use Rattle.sql_reader.specs.Chain.{chain}
-use Rattle.sql_reader.specs.Bounded.{bounded}
-use Rattle.sql_reader.specs.Parts.{comma_in}
+use Rattle.read_laws.specs.Chain.{chain}
+use Rattle.read_laws.specs.Bounded.{bounded}
+use Rattle.read_laws.specs.Parts.{comma_in}
 use Rattle.sql_tree.specs.Tree.{set_tree}
-use Rattle.sql_statements.specs.Reader as reader
+use Rattle.read_laws.specs.StmtReader as reader
 use Rattle.sql_statements.proofs.change.sets.Given as goal
 
 abbrev pub invariant-sets : goal.invariant-sets

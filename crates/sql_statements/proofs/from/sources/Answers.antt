@@ -4,12 +4,12 @@ use Rattle.std.specs.Option.{option_map}
 use Rattle.std.proofs.lemmas.Grind.{common_steps}
 use Rattle.std.proofs.lemmas.Result.{err_from_is_err_and}
 use Rattle.sql_grammar.specs.Reads.{tokens_in}
-use Rattle.sql_reader.specs.Chain.{first_token}
-use Rattle.sql_reader.specs.Bounded.{bounded}
-use Rattle.sql_reader.proofs.ChainLemmas.{same_err}
+use Rattle.read_laws.specs.Chain.{first_token}
+use Rattle.read_laws.specs.Bounded.{bounded}
+use Rattle.read_laws.proofs.ChainLemmas.{same_err}
 use Rattle.sql_tree.specs.Tree.{cond_tree}
-use Rattle.sql_statements.specs.Reader as reader
-use Rattle.sql_statements.proofs.JoinLemmas.{joins_end, turn_goes_on, turn_breaks, last_turn, same_pair}
+use Rattle.read_laws.specs.StmtReader as reader
+use Rattle.read_laws.proofs.JoinLemmas.{joins_end, turn_goes_on, turn_breaks, last_turn, same_pair}
 use Rattle.sql_statements.proofs.from.sources.Goals as goal
 
 pub returns-in_default-clause-found : goal.returns-in_default-clause-found

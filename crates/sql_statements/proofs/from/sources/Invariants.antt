@@ -1,9 +1,9 @@
 use Rattle.std.proofs.Common.{◌≡◌, ◌-◌}
 use Rattle.std.specs.Option.{option_map}
 use Rattle.sql_grammar.specs.Reads.{tokens_in}
-use Rattle.sql_reader.specs.Bounded.{bounded}
+use Rattle.read_laws.specs.Bounded.{bounded}
 use Rattle.sql_tree.specs.Tree.{cond_tree}
-use Rattle.sql_statements.specs.Reader as reader
+use Rattle.read_laws.specs.StmtReader as reader
 use Rattle.sql_statements.proofs.from.sources.Given as goal
 
 abbrev pub invariant-joins : goal.invariant-joins

@@ -1,8 +1,8 @@
 use Rattle.std.proofs.Common.{◌≡◌, ◌-◌}
 use Rattle.sql_grammar.specs.Reads.{tokens_in}
-use Rattle.sql_reader.specs.Chain.{chain}
-use Rattle.sql_reader.specs.Parts.{comma_in}
-use Rattle.sql_statements.specs.Reader as reader
+use Rattle.read_laws.specs.Chain.{chain}
+use Rattle.read_laws.specs.Parts.{comma_in}
+use Rattle.read_laws.specs.StmtReader as reader
 use Rattle.sql_statements.proofs.part.listed.Given as goal
 
 abbrev pub invariant-parts : goal.invariant-parts

@@ -1,5 +1,5 @@
 use Rattle.std.proofs.Common.{◌≡◌, ◌+◌, length}
-use Rattle.sql_tokens.specs.Reader as reader
+use Rattle.read_laws.specs.TokenReader as reader
 use Rattle.sql_tokens.proofs.block.block_length.Given as goal
 
 abbrev pub invariant-bytes : goal.invariant-bytes

@@ -3,7 +3,7 @@ use Rattle.std.specs.Char.{to_ascii_lowercase}
 use Rattle.std.specs.Prelude.{IsAscii}
 use Rattle.std.proofs.lemmas.Result.{IfOk-weaker}
 use Rattle.sql_tree.specs.Bytes as reading
-use Rattle.sql_tokens.proofs.ByteLemmas.{ascii_low_bytes, low_all}
+use Rattle.read_laws.proofs.ByteLemmas.{ascii_low_bytes, low_all}
 use Rattle.sql_tokens.proofs.part.low_word.Goals as goal
 
 pub ascii_word-requires : goal.ascii_word-requires

@@ -1,7 +1,7 @@
 use Rattle.std.proofs.Common.{◌≡◌, ◌∷◌, ap, ◌∙◌, take}
 use Rattle.std.specs.List.{list_all}
 use Rattle.sql_tree.specs.Bytes.{is_word_byte}
-use Rattle.sql_tokens.proofs.ByteLemmas.{word_front}
+use Rattle.read_laws.proofs.ByteLemmas.{word_front}
 use Rattle.sql_tokens.proofs.part.word.Goals as goal
 
 pub low_word-requires : goal.low_word-requires

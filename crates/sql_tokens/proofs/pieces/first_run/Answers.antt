@@ -1,8 +1,8 @@
 use Rattle.std.proofs.Common.{◌≡◌, ◌-◌, ap, sym, ◌∙◌, arith}
 use Rattle.std.proofs.lemmas.Str.{IsCharBoundary-before_ascii, IsCharBoundary-after_ascii}
 use Rattle.sql_tree.specs.declared.inside.Inside.TheVariants.{Outside}
-use Rattle.sql_tokens.specs.Reader.{run_length}
-use Rattle.sql_tokens.proofs.PieceLemmas.{run_first, run_whole}
+use Rattle.read_laws.specs.TokenReader.{run_length}
+use Rattle.read_laws.proofs.PieceLemmas.{run_first, run_whole}
 use Rattle.sql_tokens.proofs.pieces.first_run.Goals as goal
 
 pub range-requires-clause-end_boundary : goal.range-requires-clause-end_boundary

@@ -1,6 +1,6 @@
 use Rattle.std.proofs.Common.{◌≡◌, ◌+◌, length}
 use Rattle.sql_tree.specs.declared.inside.Inside.TheVariants.{Outside}
-use Rattle.sql_tokens.specs.Reader as reader
+use Rattle.read_laws.specs.TokenReader as reader
 use Rattle.sql_tokens.proofs.pieces.run_length.Given as goal
 
 abbrev pub invariant-bytes : goal.invariant-bytes

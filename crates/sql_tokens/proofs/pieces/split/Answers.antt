@@ -1,7 +1,7 @@
 use Rattle.std.proofs.Common.{rules, sym, ◌∙◌, append-nil}
 use Rattle.std.proofs.lemmas.Result.{err_from_is_err_and}
 use Rattle.text_bytes.proofs.FoundLemmas.{same_err}
-use Rattle.sql_tokens.proofs.PieceLemmas.{told_more, too_many}
+use Rattle.read_laws.proofs.PieceLemmas.{told_more, too_many}
 use Rattle.sql_tokens.proofs.pieces.split.Goals as goal
 
 pub runs-preserved : goal.runs-preserved

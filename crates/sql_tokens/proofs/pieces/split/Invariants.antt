@@ -2,7 +2,7 @@ use Rattle.std.proofs.Common.{◌≡◌, ◌++◌, ◌≤◌, length}
 use Rattle.std.specs.Prelude.{IsUtf8}
 use Rattle.sql_tree.specs.Pieces.{runs_of}
 use Rattle.sql_tree.specs.declared.inside.Inside.TheVariants.{Outside}
-use Rattle.sql_tokens.specs.Reader.{kept_runs}
+use Rattle.read_laws.specs.TokenReader.{kept_runs}
 use Rattle.sql_tokens.proofs.pieces.split.Given as goal
 
 -- the pieces so far and those of the rest are the pieces, and there are no more than may be

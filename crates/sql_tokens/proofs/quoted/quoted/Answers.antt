@@ -1,6 +1,6 @@
 use Rattle.std.proofs.Common.{subst, sym}
 use Rattle.std.specs.Str.{IsUtf8}
-use Rattle.sql_tokens.proofs.QuotedLemmas.{quoted_text}
+use Rattle.read_laws.proofs.QuotedLemmas.{quoted_text}
 use Rattle.sql_tokens.proofs.quoted.quoted.Goals as goal
 
 pub unreachable-requires : goal.unreachable-requires

@@ -1,5 +1,5 @@
 use Rattle.std.proofs.Common.{◌≡◌, ◌+◌, length, false}
-use Rattle.sql_tokens.specs.Reader as reader
+use Rattle.read_laws.specs.TokenReader as reader
 use Rattle.sql_tokens.proofs.quoted.quoted_bytes.Given as goal
 use Rattle.text_bytes.proofs.FoundLemmas.{resumed}
 

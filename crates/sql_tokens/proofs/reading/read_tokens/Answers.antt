@@ -1,7 +1,7 @@
 use Rattle.std.proofs.Common.{subst, ◌≡◌, ◌++◌, ◌∷◌, length, take}
 use Rattle.std.proofs.lemmas.List.{take_rest}
-use Rattle.sql_tokens.specs.Reader as reader
-use Rattle.sql_tokens.proofs.TokenLemmas.{Continues, tokens_step}
+use Rattle.read_laws.specs.TokenReader as reader
+use Rattle.read_laws.proofs.TokenLemmas.{Continues, tokens_step}
 use Rattle.text_bytes.proofs.ByteLemmas.{part_moved}
 use Rattle.sql_tokens.proofs.reading.read_tokens.Goals as goal
 

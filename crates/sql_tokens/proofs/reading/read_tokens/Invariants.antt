@@ -1,6 +1,6 @@
 use Rattle.std.proofs.Common.{◌≡◌, ◌++◌, List, ℕ, length}
-use Rattle.sql_tokens.specs.Reader as reader
-use Rattle.sql_tokens.proofs.TokenLemmas.{Continues}
+use Rattle.read_laws.specs.TokenReader as reader
+use Rattle.read_laws.proofs.TokenLemmas.{Continues}
 use Rattle.sql_tokens.proofs.reading.read_tokens.Given as goal
 
 abbrev pub invariant-parts : goal.invariant-parts

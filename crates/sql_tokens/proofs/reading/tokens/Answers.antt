@@ -1,5 +1,5 @@
 use Rattle.text_bytes.proofs.FoundLemmas.{same_err}
-use Rattle.sql_tokens.proofs.TokensRead.{tokens_sound, no_tokens}
+use Rattle.read_laws.proofs.TokensRead.{tokens_sound, no_tokens}
 use Rattle.sql_tokens.proofs.reading.tokens.Goals as goal
 
 pub returns-in-Ok-clause-tokens : goal.returns-in-Ok-clause-tokens

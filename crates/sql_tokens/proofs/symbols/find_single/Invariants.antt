@@ -1,6 +1,6 @@
 use Rattle.std.proofs.Common.{◌≡◌, length}
 use Rattle.std.specs.Prelude.{◌==◌}
-use Rattle.sql_tokens.specs.Reader as reader
+use Rattle.read_laws.specs.TokenReader as reader
 use Rattle.sql_tokens.proofs.symbols.find_single.Given as goal
 
 abbrev pub invariant-singles : goal.invariant-singles

@@ -1,0 +1,15 @@
+pub mod TokenReader
+pub mod TokenLaws
+pub mod Unread
+pub mod LimitLaws
+pub mod Bounded
+pub mod Chain
+pub mod Parts
+pub mod ExprReader
+pub mod CondReader
+pub mod DerivedExprs
+pub mod StmtReader
+pub mod DerivedStmts
+pub mod Answered
+pub mod AnsweredTokens
+pub mod Readings

@@ -1,5 +1,0 @@
-use Rattle.sql_tokens.proofs.TokensRead.{one_list_of}
-use Rattle.sql_tokens.proofs.laws.one_list.Goals as goal
-
-pub returns : goal.returns
-returns c = one_list_of

@@ -1,6 +1,0 @@
-ghost use Rattle.sql_tokens.specs.Laws.{OneList};
-
-/// A text has one list of tokens at most.
-pub fn one_list()
-    ensures { OneList }
-{}
