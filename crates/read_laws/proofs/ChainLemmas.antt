@@ -1,15 +1,11 @@
 -- Parts one after the other, and parts between operators.
 use Rattle.std.proofs.Common.{◌≡◌, ℕ, zero, suc, ◌+◌, ◌-◌, ◌<◌, ◌≤◌, arith, List, [], ◌∷◌, length, Bool, true, false, cond, Option, Some, None, refl, ap, sym, ◌∙◌, ◌⊎◌, inl, inr}
-use Rattle.std.specs.Prelude.{Err, IsErrOf}
 use Rattle.sql_tree.specs.declared.token.Token.{Token}
-use Rattle.read_laws.specs.Chain.{Found, Parser, first_token, after_first, then_read, or_read, given, chain}
+use Rattle.text_bytes.specs.Found.{then_read}
+use Rattle.text_bytes.proofs.FoundLemmas.{then_found, pair_found, value_found}
+use Rattle.read_laws.specs.Chain.{Found, Parser, first_token, after_first, or_read, given, chain}
 
--- what is found, each of the two readers found
-pub then_found : {X Y : Type 0} (o : Option X) (f : X → Option Y) (y : Y) → then_read o f ≡ Some y → (x : X) × (o ≡ Some x) × (f x ≡ Some y)
-then_found None f y h = cc
-then_found (Some x) f y h = (x, refl, h)
-
--- and what each of the two finds is found
+-- what each of two readers finds is found
 pub then_told : {X Y : Type 0} (o : Option X) (x : X) (f : X → Option Y) (y : Option Y) → o ≡ Some x → f x ≡ y → then_read o f ≡ y
 then_told o x f y first second = ap (λ o. then_read o f) first ∙ second
 
@@ -58,35 +54,10 @@ pub cond_found : {X : Type 0} (b : Bool) (x y : X) → cond b (Some x) None ≡ 
 cond_found true x y h = (refl, cc)
 cond_found false x y h = cc
 
--- where a test has to hold before a reader, it holds and the reader found it
-pub guard_found : {X : Type 0} (b : Bool) (o : Option X) (y : X) → cond b o None ≡ Some y → (b ≡ true) × (o ≡ Some y)
-guard_found true o y h = (refl, h)
-guard_found false o y h = cc
-
 -- what is found, the first choice or the second found
 pub or_found : {X : Type 0} (first second : Option X) (y : X) → or_read first second ≡ Some y → (first ≡ Some y) ⊎ (second ≡ Some y)
 or_found None second y h = inr h
 or_found (Some x) second y h = inl h
-
--- one error is another's, whatever the values are
-pub same_err : {T U E : Type 0} (e f : E) → IsErrOf {T = T} {E = E} (Err e) f → IsErrOf {T = U} {E = E} (Err e) f
-same_err e f h = let same : e ≡ f = cc in ap Err same
-
-first_or : {X Y : Type 0} → X → Option (X × Y) → X
-first_or x None = x
-first_or x (Some pair) = pair.0
-
-second_or : {X Y : Type 0} → Y → Option (X × Y) → Y
-second_or y None = y
-second_or y (Some pair) = pair.1
-
--- the parts of a pair that is found
-pub pair_found : {X Y : Type 0} (x a : X) (y b : Y) → ◌≡◌ {A = Option (X × Y)} (Some (x, y)) (Some (a, b)) → (x ≡ a) × (y ≡ b)
-unfolding first_or second_or
-pair_found x a y b h = (ap (first_or x) h, ap (second_or y) h)
-
-pub value_found : {X : Type 0} (x y : X) → Some x ≡ Some y → x ≡ y
-value_found x y h = cc
 
 -- what is found is all of the tokens where none is left, and nothing is all of them where some are left
 -- or nothing is found

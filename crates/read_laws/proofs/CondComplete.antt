@@ -9,7 +9,7 @@ use Rattle.sql_grammar.specs.Grammar.ConjRule.{Conjunction}
 use Rattle.sql_grammar.specs.Grammar.UnitsRule.{NoUnit, MoreUnits}
 use Rattle.sql_grammar.specs.Grammar.UnitRule.{NotUnit, CondUnit, TestUnit}
 use Rattle.read_laws.specs.Bounded.{Builder}
-use Rattle.read_laws.specs.Chain.{Parser, first_token, then_read, chain}
+use Rattle.read_laws.specs.Chain.{Parser, first_token, chain}
 use Rattle.read_laws.specs.CondReader.{comparison_in, or_in, and_in, or_member, both_of, either_of, denied, within, members, listed, range, null_test, word_test, test_behind, any_test, conjunction, condition, enclosed, unit}
 use Rattle.read_laws.specs.DerivedExprs.{expr_with, cond_with}
 use Rattle.read_laws.specs.Parts.{is_key, is_symbol, comma_in}
@@ -24,6 +24,7 @@ use Rattle.sql_tree.specs.declared.token.Symbol.TheVariants as symbol
 use Rattle.sql_tree.specs.declared.token.Token.{Token}
 use Rattle.sql_tree.specs.declared.token.Token.TheVariants.{Key}
 use Rattle.sql_tree.specs.declared.tree.CmpOp.TheVariants as compare
+use Rattle.text_bytes.specs.Found.{then_read}
 
 -- ## What may follow a part
 

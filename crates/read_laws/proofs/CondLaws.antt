@@ -2,10 +2,10 @@
 use Rattle.std.proofs.Common.{◌≡◌, ◌≢◌, ◌-◌, ℕ, zero, suc, List, [], length, Some, None, refl, ap, sym, ◌∙◌, subst, arith}
 use Rattle.sql_grammar.specs.Grammar.{ExprRule, write_expr, expr_of, ValueRule, write_value, value_of, CondRule, write_cond, cond_of}
 use Rattle.read_laws.specs.Bounded.{Builder, as_written, bounded}
-use Rattle.read_laws.specs.Chain.{Found, Parser, then_read, chain}
+use Rattle.read_laws.specs.Chain.{Found, Parser, chain}
 use Rattle.read_laws.specs.CondReader.{or_in, either_of, whole_expr, value, conjunction_behind, conjunction, condition_behind, condition, unit_of, unit, whole_cond}
 use Rattle.read_laws.specs.DerivedExprs.{expr_with, cond_with, IsCondOver, IsCond, IsHaving, IsReadCond}
-use Rattle.read_laws.proofs.ChainLemmas.{pair_found}
+use Rattle.text_bytes.specs.Found.{then_read}
 use Rattle.read_laws.proofs.CondSound.{whole_found, value_sound, cond_found_by, unit_found}
 use Rattle.read_laws.proofs.CondComplete.{EndsCond, cond_told}
 use Rattle.read_laws.proofs.ExprSound.{IsSound}
@@ -14,6 +14,7 @@ use Rattle.read_laws.proofs.OperandComplete.{IsOperand, expr_operand, value_oper
 use Rattle.sql_tree.specs.Tree.{ExprTree, CondTree}
 use Rattle.sql_tree.specs.Tree.CondTree.{Compare, Within, IsNull, Negation, Both, Either}
 use Rattle.sql_tree.specs.declared.token.Token.{Token}
+use Rattle.text_bytes.proofs.FoundLemmas.{pair_found}
 
 -- a unit of no level, and of one more
 pub unit_none : (build : Builder) (operand : Parser ExprTree) (n : ℕ) (ts : List Token) → n ≡ 0 → unit build operand n ts ≡ None

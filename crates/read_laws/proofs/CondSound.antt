@@ -11,13 +11,13 @@ use Rattle.sql_grammar.specs.Grammar.ConjRule.{Conjunction}
 use Rattle.sql_grammar.specs.Grammar.UnitsRule.{NoUnit, MoreUnits}
 use Rattle.sql_grammar.specs.Grammar.UnitRule.{NotUnit, CondUnit, TestUnit}
 use Rattle.read_laws.specs.Bounded.{Builder}
-use Rattle.read_laws.specs.Chain.{Found, Parser, first_token, after_first, then_read, or_read, chain}
+use Rattle.read_laws.specs.Chain.{Found, Parser, first_token, after_first, or_read, chain}
 use Rattle.read_laws.specs.CondReader as reader
 use Rattle.read_laws.specs.CondReader.{aggregate_in, comparison_in, or_in, and_in, is_all, or_member, both_of, either_of, denied, whole_expr, argument, value, within, members, listed, range_at, range, null_test, word_test, test_behind, any_test, conjunction, condition, enclosed, unit}
 use Rattle.read_laws.specs.DerivedExprs.{expr_with, cond_with}
 use Rattle.read_laws.specs.Parts.{is_key, comma_in}
 use Rattle.read_laws.specs.ExprReader.{closed, factor}
-use Rattle.read_laws.proofs.ChainLemmas.{then_found, given_found, guard_found, or_found, pair_found, value_found, chain_found, no_steps_found}
+use Rattle.read_laws.proofs.ChainLemmas.{given_found, or_found, chain_found, no_steps_found}
 use Rattle.read_laws.proofs.ExprSound.{IsWritten, IsSound, expr_found, factor_found}
 use Rattle.read_laws.proofs.TokenTests.{key_found, symbol_found, comma_found, closed_found}
 use Rattle.sql_tree.specs.Tree.{ExprTree, CondTree}
@@ -33,6 +33,8 @@ use Rattle.sql_tree.specs.declared.tree.AggOp.{AggOp}
 use Rattle.sql_tree.specs.declared.tree.AggOp.TheVariants as aggregate
 use Rattle.sql_tree.specs.declared.tree.CmpOp.{CmpOp}
 use Rattle.sql_tree.specs.declared.tree.CmpOp.TheVariants as compare
+use Rattle.text_bytes.specs.Found.{then_read}
+use Rattle.text_bytes.proofs.FoundLemmas.{then_found, guard_found, pair_found, value_found}
 
 -- ## Tokens
 

@@ -12,7 +12,7 @@ use Rattle.sql_grammar.specs.Grammar.FactorsRule.{NoFactor, MoreFactors}
 use Rattle.sql_grammar.specs.Grammar.FactorRule.{Number, Operand}
 use Rattle.sql_grammar.specs.Grammar.OperandRule.{NegativeNumber, StringOperand, DateOperand, NullOperand, ColumnOperand, Negated, Parenthesised}
 use Rattle.read_laws.specs.Bounded.{Builder}
-use Rattle.read_laws.specs.Chain.{Found, first_token, after_first, then_read, given, chain}
+use Rattle.read_laws.specs.Chain.{Found, first_token, after_first, given, chain}
 use Rattle.read_laws.specs.DerivedExprs.{expr_with}
 use Rattle.read_laws.specs.ExprReader.{sign_in, star_in, is_dot, digits_in, name_in, column, date, term, expr, negative, factor, closed}
 use Rattle.read_laws.proofs.ChainLemmas.{then_told, chain_ends, chain_goes_on}
@@ -24,6 +24,7 @@ use Rattle.sql_tree.specs.declared.token.Symbol.TheVariants as symbol
 use Rattle.sql_tree.specs.declared.token.Token.{Token}
 use Rattle.sql_tree.specs.declared.tree.ArithOp.TheVariants as arithmetic
 use Rattle.sql_tree.specs.declared.tree.ColRef.{ColRef}
+use Rattle.text_bytes.specs.Found.{then_read}
 
 -- ## What may follow a part
 

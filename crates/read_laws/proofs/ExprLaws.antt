@@ -4,15 +4,17 @@ use Rattle.cell_core.specs.declared.cell.Cell.{Cell}
 use Rattle.cell_core.specs.declared.cell.Cell.TheVariants as cell
 use Rattle.sql_grammar.specs.Grammar.{write_expr, expr_of}
 use Rattle.read_laws.specs.Bounded.{Builder, as_written, bounded}
-use Rattle.read_laws.specs.Chain.{Found, Parser, first_token, after_first, then_read, chain}
+use Rattle.read_laws.specs.Chain.{Found, Parser, first_token, after_first, chain}
 use Rattle.read_laws.specs.DerivedExprs.{IsExpr, IsReadExpr, cell_with, expr_with}
 use Rattle.read_laws.specs.ExprReader.{sign_in, term_behind, term, expr_behind, expr, factor_at, factor}
-use Rattle.read_laws.proofs.ChainLemmas.{pair_found, all_found}
+use Rattle.read_laws.proofs.ChainLemmas.{all_found}
 use Rattle.read_laws.proofs.ExprComplete.{expr_told, EndsExpr}
 use Rattle.read_laws.proofs.ExprSound.{expr_found, factor_found}
 use Rattle.sql_tree.specs.Tree.{ExprTree}
 use Rattle.sql_tree.specs.Tree.ExprTree.{Literal, ColumnOf, Operator, AggregateAll, Aggregate}
 use Rattle.sql_tree.specs.declared.token.Token.{Token}
+use Rattle.text_bytes.specs.Found.{then_read}
+use Rattle.text_bytes.proofs.FoundLemmas.{pair_found}
 
 -- behind all tokens nothing goes on
 none_ends : EndsExpr []

@@ -11,10 +11,10 @@ use Rattle.sql_grammar.specs.Grammar.FactorsRule.{NoFactor, MoreFactors}
 use Rattle.sql_grammar.specs.Grammar.FactorRule.{Number, Operand}
 use Rattle.sql_grammar.specs.Grammar.OperandRule.{NegativeNumber, StringOperand, DateOperand, NullOperand, ColumnOperand, Negated, Parenthesised}
 use Rattle.read_laws.specs.Bounded.{Builder}
-use Rattle.read_laws.specs.Chain.{Found, Parser, first_token, after_first, then_read, chain}
+use Rattle.read_laws.specs.Chain.{Found, Parser, first_token, after_first, chain}
 use Rattle.read_laws.specs.DerivedExprs.{expr_with}
 use Rattle.read_laws.specs.ExprReader.{sign_in, star_in, is_dot, digits_in, name_in, column, date, term, expr, negative, factor_at, factor}
-use Rattle.read_laws.proofs.ChainLemmas.{then_found, given_found, pair_found, chain_found, no_steps_found}
+use Rattle.read_laws.proofs.ChainLemmas.{given_found, chain_found, no_steps_found}
 use Rattle.text_bytes.proofs.DayLemmas.{day_found}
 use Rattle.read_laws.proofs.TokenTests.{sign_found, star_found, dot_found, digits_found, text_found, name_found, closed_found}
 use Rattle.sql_tree.specs.Tree.{ExprTree}
@@ -26,6 +26,8 @@ use Rattle.sql_tree.specs.declared.token.Token.TheVariants.{Name, Quoted, Text, 
 use Rattle.sql_tree.specs.declared.token.Token.TheVariants as token
 use Rattle.sql_tree.specs.declared.tree.ArithOp.TheVariants as arithmetic
 use Rattle.sql_tree.specs.declared.tree.ColRef.{ColRef}
+use Rattle.text_bytes.specs.Found.{then_read}
+use Rattle.text_bytes.proofs.FoundLemmas.{then_found, pair_found}
 
 -- a derivation writes the tokens before the rest, and stands for the value
 pub record IsWritten {D X : Type 0} (write : D → List Token → List Token) (meaning : D → X) (ts : List Token) (x : X) (rest : List Token) : Type 0 where

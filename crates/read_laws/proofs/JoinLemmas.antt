@@ -1,13 +1,14 @@
 -- The steps by which sources are joined.
 use Rattle.std.proofs.Common.{◌≡◌, ℕ, zero, suc, ◌+◌, ◌-◌, ◌<◌, ◌≤◌, arith, List, Option, Some, None, refl, ap, sym, ◌∙◌, ◌⊎◌, inl, inr}
 use Rattle.read_laws.specs.Bounded.{Builder}
-use Rattle.read_laws.specs.Chain.{Found, first_token, after_first, then_read, given}
-use Rattle.read_laws.proofs.ChainLemmas.{then_found, pair_found}
+use Rattle.read_laws.specs.Chain.{Found, first_token, after_first, given}
+use Rattle.text_bytes.specs.Found.{then_read}
 use Rattle.sql_tree.specs.Tree.{CondTree}
 use Rattle.sql_tree.specs.declared.token.Token.{Token}
 use Rattle.sql_tree.specs.declared.tree.FromItem.{FromItem}
 use Rattle.read_laws.specs.StmtReader.{Sources, with_source, joint_in, joined, joins}
 use Rattle.read_laws.specs.declared.joint.Joint.{Joint}
+use Rattle.text_bytes.proofs.FoundLemmas.{then_found, pair_found}
 
 pub same_pair : {X Y : Type 0} (a b : X) (c d : Y) → a ≡ b → c ≡ d → ◌≡◌ {A = X × Y} (a, c) (b, d)
 same_pair {X} {Y} a b c d e f = ap (λ (x : X). let p : X × Y = (x, c) in p) e ∙ ap (λ (y : Y). let p : X × Y = (b, y) in p) f

@@ -11,7 +11,7 @@ use Rattle.sql_grammar.specs.Grammar.OperandRule.{NegativeNumber, StringOperand,
 use Rattle.sql_grammar.specs.Grammar.AggRule.{CountAll, AggregateOf}
 use Rattle.sql_grammar.specs.Grammar.ValueRule.{ExprValue, AggValue}
 use Rattle.read_laws.specs.Bounded.{Builder}
-use Rattle.read_laws.specs.Chain.{Parser, first_token, then_read}
+use Rattle.read_laws.specs.Chain.{Parser, first_token}
 use Rattle.read_laws.specs.CondReader.{aggregate_in, is_all, whole_expr, argument, value}
 use Rattle.read_laws.specs.DerivedExprs.{expr_with}
 use Rattle.read_laws.specs.Parts.{is_key, is_symbol}
@@ -26,6 +26,7 @@ use Rattle.sql_tree.specs.declared.token.Token.TheVariants.{Name, Quoted, Text, 
 use Rattle.sql_tree.specs.declared.token.Token.TheVariants as token
 use Rattle.sql_tree.specs.declared.tree.AggOp.{AggOp}
 use Rattle.sql_tree.specs.declared.tree.AggOp.TheVariants as aggregate
+use Rattle.text_bytes.specs.Found.{then_read}
 
 -- ## The first token of an expression
 

@@ -4,11 +4,11 @@ use Rattle.std.specs.Option.{option_map}
 use Rattle.sql_grammar.specs.Grammar.{sign, write_more, write_some, write_enclosed, write_behind, all_of, any_of, write_name, name_of, write_column, column_of}
 use Rattle.sql_grammar.specs.Statements.{write_column_list, write_alias, alias_of, write_source, source_of}
 use Rattle.sql_grammar.specs.Statements.AliasRule.{NoAlias, BareAlias, AsAlias}
-use Rattle.read_laws.specs.Chain.{Found, Parser, first_token, after_first, then_read, given, chain}
+use Rattle.read_laws.specs.Chain.{Found, Parser, first_token, after_first, given, chain}
 use Rattle.read_laws.specs.Parts.{is_key, is_symbol, behind_key, comma_in}
 use Rattle.read_laws.specs.ExprReader.{name_in}
 use Rattle.read_laws.specs.ExprReader as expressions
-use Rattle.read_laws.proofs.ChainLemmas.{then_found, given_found, guard_found, pair_found, chain_found, no_steps_found}
+use Rattle.read_laws.proofs.ChainLemmas.{given_found, chain_found, no_steps_found}
 use Rattle.read_laws.proofs.ExprSound.{IsWritten, IsSound, column_found}
 use Rattle.read_laws.proofs.TokenTests.{name_found, key_found, symbol_found, comma_found, closed_found}
 use Rattle.sql_tree.specs.declared.token.Keyword.{Keyword}
@@ -18,6 +18,8 @@ use Rattle.sql_tree.specs.declared.token.Token.{Token}
 use Rattle.sql_tree.specs.declared.token.Token.TheVariants.{Key}
 use Rattle.sql_tree.specs.declared.tree.FromItem.{FromItem}
 use Rattle.read_laws.specs.StmtReader.{name, column, one_more, listed, enclosed, present, optional, listed_by, flag, names, alias, source}
+use Rattle.text_bytes.specs.Found.{then_read}
+use Rattle.text_bytes.proofs.FoundLemmas.{then_found, guard_found, pair_found}
 
 -- ## Names
 

@@ -9,11 +9,11 @@ use Rattle.sql_grammar.specs.Statements.PlaceRule.{PositionKey, ColumnKey}
 use Rattle.sql_grammar.specs.Statements.OrderRule.{NoOrder, AscOrder, DescOrder}
 use Rattle.sql_grammar.specs.Statements.StmtRule.{SelectRule, ExplainRule}
 use Rattle.read_laws.specs.Bounded.{Builder, as_written}
-use Rattle.read_laws.specs.Chain.{Found, first_token, after_first, then_read}
+use Rattle.read_laws.specs.Chain.{Found, first_token, after_first}
 use Rattle.read_laws.specs.DerivedExprs.{cond_with}
 use Rattle.read_laws.specs.Parts.{is_key, is_symbol}
 use Rattle.read_laws.specs.ExprReader.{digits_in}
-use Rattle.read_laws.proofs.ChainLemmas.{then_found, given_found, guard_found, pair_found, value_found}
+use Rattle.read_laws.proofs.ChainLemmas.{given_found}
 use Rattle.read_laws.proofs.CondSound.{value_sound}
 use Rattle.read_laws.proofs.CondLaws.{having_sound}
 use Rattle.read_laws.proofs.ExprSound.{IsWritten, IsSound}
@@ -37,6 +37,8 @@ use Rattle.read_laws.specs.StmtReader.{listed, flag, Sources, joint_in, also, wi
 use Rattle.read_laws.proofs.JoinLemmas.{same_pair, joins_found, no_joins_found}
 use Rattle.read_laws.proofs.PartSound.{column_sound, alias_sound, source_sound, flag_found, listed_found, listed_by_found, optional_found, groups_sound}
 use Rattle.read_laws.proofs.StmtSound.{where_cond_sound, IsForm, create_found, drop_found, alter_found, insert_found, delete_found, update_found}
+use Rattle.text_bytes.specs.Found.{then_read}
+use Rattle.text_bytes.proofs.FoundLemmas.{then_found, guard_found, pair_found, value_found}
 
 -- ## Sources
 

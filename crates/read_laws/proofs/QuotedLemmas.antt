@@ -1,5 +1,5 @@
 -- What stands between marks, each mark in it doubled.
-use Rattle.std.proofs.Common.{◌≡◌, ℕ, suc, ◌<◌, ◌+◌, List, [], ◌∷◌, ◌++◌, length, drop, Bool, true, false, not, cond, Option, Some, None, refl, ap, sym, ◌∙◌, arith, subst, append_assoc}
+use Rattle.std.proofs.Common.{◌≡◌, ℕ, suc, ◌<◌, ◌+◌, List, [], ◌∷◌, ◌++◌, length, drop, Bool, true, false, not, cond, Some, refl, ap, sym, ◌∙◌, arith, subst, append_assoc}
 use Rattle.std.specs.Prelude.{◌==◌, flat_map}
 use Rattle.std.specs.Str.{IsUtf8}
 use Rattle.std.proofs.lemmas.Bool.{eqb-true, eq-eqb}

@@ -7,7 +7,7 @@ use Rattle.sql_grammar.specs.Statements.{write_stmt, stmt_of, Derives}
 use Rattle.read_laws.specs.Bounded.{Builder, as_written, bounded}
 use Rattle.read_laws.specs.Chain.{Found}
 use Rattle.read_laws.specs.DerivedExprs.{cond_with}
-use Rattle.read_laws.proofs.ChainLemmas.{pair_found}
+use Rattle.text_bytes.proofs.FoundLemmas.{pair_found}
 use Rattle.read_laws.proofs.CondLaws.{same_cond}
 use Rattle.read_laws.proofs.ExprLaws.{same_cell, same_tree}
 use Rattle.sql_tree.specs.Tree.{ExprTree, CondTree, ItemTree, QueryTree, StmtTree}

@@ -12,10 +12,10 @@ use Rattle.sql_grammar.specs.Statements.TypeRule.{IntType, IntegerType, BigintTy
 use Rattle.sql_grammar.specs.Statements.ColumnEnd.{PlainEnd, NotNullEnd, DefaultEnd, NotNullDefault, DefaultNotNull}
 use Rattle.sql_grammar.specs.Statements.StmtRule.{CreateRule, DropRule, AlterRule, InsertRule, DeleteRule, UpdateRule}
 use Rattle.read_laws.specs.Bounded.{Builder}
-use Rattle.read_laws.specs.Chain.{Found, first_token, after_first, then_read}
+use Rattle.read_laws.specs.Chain.{Found, first_token, after_first}
 use Rattle.read_laws.specs.DerivedExprs.{cell_with, expr_with, cond_with}
 use Rattle.read_laws.specs.Parts.{is_key, behind_key}
-use Rattle.read_laws.proofs.ChainLemmas.{then_found, guard_found, pair_found}
+use Rattle.text_bytes.specs.Found.{then_read}
 use Rattle.read_laws.proofs.CondSound.{whole_found}
 use Rattle.read_laws.proofs.CondLaws.{where_sound}
 use Rattle.text_bytes.proofs.DayLemmas.{day_found}
@@ -31,6 +31,7 @@ use Rattle.sql_tree.specs.declared.token.Token.TheVariants as token
 use Rattle.read_laws.specs.DerivedStmts.{column_with, set_with, stmt_with}
 use Rattle.read_laws.specs.StmtReader.{flag, not_null, default_end, column_end, varchar, type_at, coldef, create, alter, drop_table, day_literal, negative_literal, literal, row, insert, where_cond, delete, set, update}
 use Rattle.read_laws.proofs.PartSound.{name_sound, names_sound, flag_found, listed_found, enclosed_found, optional_found}
+use Rattle.text_bytes.proofs.FoundLemmas.{then_found, guard_found, pair_found}
 
 ap_three : {A B C X : Type 0} (f : A → B → C → X) (a a' : A) (b b' : B) (c c' : C) → a ≡ a' → b ≡ b' → c ≡ c' → f a b c ≡ f a' b' c'
 ap_three f a a' b b' c c' p q r = cc

@@ -7,7 +7,7 @@ use Rattle.sql_grammar.specs.Grammar.NameRule.{BareName, QuotedName}
 use Rattle.read_laws.specs.Chain.{first_token, after_first}
 use Rattle.read_laws.specs.Parts.{is_key, is_symbol, comma_in}
 use Rattle.read_laws.specs.ExprReader.{sign_in, star_in, is_dot, is_close, digits_in, text_in, name_in, closed}
-use Rattle.read_laws.proofs.ChainLemmas.{cond_found, pair_found, value_found}
+use Rattle.read_laws.proofs.ChainLemmas.{cond_found}
 use Rattle.sql_tree.specs.contracts.token.Keyword.{the_type as the_keywords}
 use Rattle.sql_tree.specs.contracts.token.Symbol.{the_type as the_symbols}
 use Rattle.sql_tree.specs.declared.token.Keyword.{Keyword}
@@ -18,6 +18,7 @@ use Rattle.sql_tree.specs.declared.token.Token.TheVariants.{Name, Quoted, Text, 
 use Rattle.sql_tree.specs.declared.token.Token.TheVariants as token
 use Rattle.sql_tree.specs.declared.tree.ArithOp.{ArithOp}
 use Rattle.sql_tree.specs.declared.tree.ArithOp.TheVariants as arith
+use Rattle.text_bytes.proofs.FoundLemmas.{pair_found, value_found}
 
 pub sign_told : (s : SignRule) → sign_in (Some (write_sign s)) ≡ Some (sign_op s)
 sign_told PlusSign = refl

@@ -1,4 +1,4 @@
--- Helpers of the proof, which private contracts alone cite: what tokens are answered with.
+-- What the tokens of a text are answered with. Private contracts alone cite this.
 use Rattle.std.specs.Prelude.{◌≡◌, List, Result}
 use Rattle.sql_grammar.specs.Reads.{Reading, TokensRead}
 use Rattle.read_laws.specs.Answered.{answered}

@@ -2,6 +2,7 @@
 -- operators.
 use Rattle.std.specs.Prelude.{ℕ, zero, suc, List, [], ◌∷◌, Option, Some, None}
 use Rattle.sql_tree.specs.declared.token.Token.{Token}
+use Rattle.text_bytes.specs.Found.{then_read}
 
 -- what a reader finds: a value and the tokens behind it
 abbrev pub Found : Type 0 → Type 0
@@ -19,11 +20,6 @@ first_token (t ∷ tokens) = Some t
 abbrev pub after_first : List Token → List Token
 after_first [] = []
 after_first (t ∷ tokens) = tokens
-
--- what follows a value that was found
-abbrev pub then_read : {X Y : Type 0} → Option X → (X → Option Y) → Option Y
-then_read None f = None
-then_read (Some x) f = f x
 
 -- the first choice, or the second where there is no first
 abbrev pub or_read : {X : Type 0} → Option X → Option X → Option X

@@ -1,8 +1,8 @@
--- What the functions that read aggregates and conditions compute, on plain lists of tokens: a definition
--- for each. The public clauses don't speak of these.
-use Rattle.std.specs.Prelude.{◌≡◌, ℕ, zero, suc, List, length, Bool, true, false, if◌then◌else◌, Option, Some, None}
+-- A reader of aggregates and conditions, on plain lists of tokens: a definition for each of its steps. What
+-- it finds is what tokens derive (proofs/CondLaws).
+use Rattle.std.specs.Prelude.{ℕ, zero, suc, List, length, Bool, true, false, if◌then◌else◌, Option, Some, None}
 use Rattle.read_laws.specs.Bounded.{Builder}
-use Rattle.read_laws.specs.Chain.{Found, Parser, first_token, after_first, then_read, or_read, given, chain}
+use Rattle.read_laws.specs.Chain.{Found, Parser, first_token, after_first, or_read, given, chain}
 use Rattle.read_laws.specs.Parts.{is_key, behind_key, behind_symbol, comma_in}
 use Rattle.read_laws.specs.ExprReader.{expr_behind, expr, factor, closed}
 use Rattle.sql_tree.specs.Tree.{ExprTree, CondTree}
@@ -19,6 +19,7 @@ use Rattle.sql_tree.specs.declared.tree.AggOp.{AggOp}
 use Rattle.sql_tree.specs.declared.tree.AggOp.TheVariants as aggregate
 use Rattle.sql_tree.specs.declared.tree.CmpOp.{CmpOp}
 use Rattle.sql_tree.specs.declared.tree.CmpOp.TheVariants as compare
+use Rattle.text_bytes.specs.Found.{then_read}
 
 -- ## Tokens
 

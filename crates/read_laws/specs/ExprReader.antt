@@ -1,5 +1,5 @@
--- What the functions that read expressions compute, on plain lists of tokens: a definition for each.
--- The public clauses don't speak of these.
+-- A reader of expressions, on plain lists of tokens: a definition for each of its steps. What it finds is
+-- what tokens derive (proofs/ExprLaws).
 use Rattle.std.specs.Prelude.{ℕ, zero, suc, List, length, Bool, true, false, nat_le, nat_lt, ◌^◌, neg_ℤ, if◌then◌else◌, Option, Some, None, pos}
 use Rattle.cell_core.specs.declared.cell.Cell.{Cell}
 use Rattle.cell_core.specs.declared.cell.Cell.TheVariants as cell
@@ -7,7 +7,7 @@ use Rattle.sql_grammar.specs.Grammar.{number_of, negative_of}
 use Rattle.read_laws.specs.Bounded.{Builder}
 use Rattle.read_laws.specs.Unread.{unread_cell}
 use Rattle.text_bytes.specs.Days.{day_named}
-use Rattle.read_laws.specs.Chain.{Found, Parser, first_token, after_first, then_read, given, chain}
+use Rattle.read_laws.specs.Chain.{Found, Parser, first_token, after_first, given, chain}
 use Rattle.sql_tree.specs.Tree.{ExprTree}
 use Rattle.sql_tree.specs.Tree.ExprTree.{Literal, ColumnOf}
 use Rattle.sql_tree.specs.declared.token.Keyword.TheVariants as word
@@ -18,6 +18,7 @@ use Rattle.sql_tree.specs.declared.token.Token.TheVariants as token
 use Rattle.sql_tree.specs.declared.tree.ArithOp.{ArithOp}
 use Rattle.sql_tree.specs.declared.tree.ArithOp.TheVariants as arith
 use Rattle.sql_tree.specs.declared.tree.ColRef.{ColRef}
+use Rattle.text_bytes.specs.Found.{then_read}
 
 -- ## Tokens
 

@@ -1,5 +1,5 @@
--- What the functions that read statements compute, on plain lists of tokens: a definition for each. The
--- public clauses don't speak of these.
+-- A reader of statements, on plain lists of tokens: a definition for each of its steps. What it finds is
+-- what tokens derive (proofs/StmtLaws).
 use Rattle.std.specs.Prelude.{ℕ, zero, suc, List, [], ◌∷◌, ◌++◌, length, Bool, true, false, if◌then◌else◌, Option, Some, None, pos}
 use Rattle.cell_core.specs.declared.cell.Cell.{Cell}
 use Rattle.cell_core.specs.declared.cell.Cell.TheVariants as cell
@@ -9,7 +9,7 @@ use Rattle.cell_core.specs.declared.table.Column.{Column}
 use Rattle.sql_grammar.specs.Grammar.{number_of, negative_of}
 use Rattle.sql_grammar.specs.Statements.{length_of}
 use Rattle.read_laws.specs.Bounded.{Builder}
-use Rattle.read_laws.specs.Chain.{Found, Parser, first_token, after_first, then_read, given, chain}
+use Rattle.read_laws.specs.Chain.{Found, Parser, first_token, after_first, given, chain}
 use Rattle.read_laws.specs.CondReader.{whole_expr, value, whole_cond}
 use Rattle.read_laws.specs.Parts.{is_key, is_symbol, behind_key, behind_symbol, comma_in}
 use Rattle.read_laws.specs.ExprReader.{digits_in, text_in, name_in, closed}
@@ -31,6 +31,7 @@ use Rattle.sql_tree.specs.declared.tree.FromItem.{FromItem}
 use Rattle.sql_tree.specs.declared.tree.Place.{Place}
 use Rattle.sql_tree.specs.declared.tree.Place.TheVariants.{Position, Named}
 use Rattle.sql_tree.specs.declared.tree.SortKey.{SortKey}
+use Rattle.text_bytes.specs.Found.{then_read}
 
 -- ## Names, lists and parts that may be left out
 

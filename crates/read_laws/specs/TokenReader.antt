@@ -1,6 +1,6 @@
--- What the private functions compute: a definition for each, on plain lists. The public clauses don't
--- speak of these: proofs/ shows that they are the definitions of pieces and tokens.
-use Rattle.std.specs.Prelude.{ℕ, zero, suc, ◌+◌, List, [], ◌∷◌, ◌++◌, length, map, filter, take, drop, Bool, false, not, ◌&&◌, ◌==◌, if◌then◌else◌, Option, Some, None}
+-- A reader of pieces and tokens, on plain lists: a definition for each of its steps. No public clause
+-- speaks of these: proofs/ shows that they are the definitions of pieces and tokens.
+use Rattle.std.specs.Prelude.{ℕ, zero, suc, ◌+◌, List, [], ◌∷◌, length, map, filter, take, drop, Bool, false, not, ◌&&◌, ◌==◌, if◌then◌else◌, Option, Some, None}
 use Rattle.std.specs.List.{prefix_len}
 use Rattle.sql_tree.specs.Bytes.{is_blank, is_letter, is_digit, is_word_byte, is_in_line, low, begins, begins_with}
 use Rattle.sql_tree.specs.Pieces.{ends_piece, next_inside, says_something}

@@ -3,7 +3,7 @@ use Rattle.std.proofs.Common.{◌≡◌, ◌≢◌, ◌-◌, ℕ, zero, suc, Lis
 use Rattle.std.specs.Prelude.{Result, Ok, Err, IfOk}
 use Rattle.sql_grammar.specs.Grammar.{sign}
 use Rattle.read_laws.specs.Bounded.{bounded}
-use Rattle.read_laws.specs.Chain.{Found, Parser, first_token, after_first, then_read, chain}
+use Rattle.read_laws.specs.Chain.{Found, Parser, first_token, after_first, chain}
 use Rattle.read_laws.specs.CondReader.{aggregate_in, whole_expr, value, operand, range, word_test, test_behind, any_test, condition, closed_condition, operand_inside, condition_inside, operand_from, enclosed, unit_of, unit, test_from, condition_from}
 use Rattle.sql_reader.specs.Inside.{IsInside}
 use Rattle.read_laws.specs.Parts.{is_key, is_symbol}
@@ -11,7 +11,7 @@ use Rattle.read_laws.specs.ExprReader.{sign_in, closed, term_behind, term, expr_
 use Rattle.sql_reader.specs.declared.conditions.Inside.{Inside}
 use Rattle.sql_reader.specs.declared.reading.TreeError.{TreeError}
 use Rattle.sql_reader.specs.declared.conditions.Inside.TheVariants.{Operand, Condition}
-use Rattle.read_laws.proofs.ChainLemmas.{then_found, then_told, then_none, given_none, branch_false, branch_true, or_none, or_first}
+use Rattle.read_laws.proofs.ChainLemmas.{then_told, then_none, given_none, branch_false, branch_true, or_none, or_first}
 use Rattle.read_laws.proofs.CondLaws.{unit_inner, condition_goes_on, condition_none}
 use Rattle.read_laws.proofs.OperandComplete.{expr_operand, value_operand}
 use Rattle.read_laws.proofs.TokenTests.{key_found, symbol_found, closed_found}
@@ -23,6 +23,8 @@ use Rattle.sql_tree.specs.declared.token.Symbol.TheVariants as symbol
 use Rattle.sql_tree.specs.declared.token.Token.{Token}
 use Rattle.sql_tree.specs.declared.token.Token.TheVariants.{Key}
 use Rattle.sql_tree.specs.declared.token.Token.TheVariants as token
+use Rattle.text_bytes.specs.Found.{then_read}
+use Rattle.text_bytes.proofs.FoundLemmas.{then_found}
 
 -- ## Behind a `(`
 

@@ -11,8 +11,9 @@ use Rattle.sql_reader.proofs.InsideLaws.{cond_in_parentheses, cond_from_operand,
 use Rattle.read_laws.specs.Chain.{first_token}
 use Rattle.read_laws.specs.CondReader as reader
 use Rattle.read_laws.specs.Bounded.{bounded, bounded_join}
-use Rattle.read_laws.proofs.ChainLemmas.{chain_ends, turn_goes_on, turn_breaks, last_turn, same_err}
+use Rattle.read_laws.proofs.ChainLemmas.{chain_ends, turn_goes_on, turn_breaks, last_turn}
 use Rattle.sql_reader.proofs.conditions.+unit.Goals as goal
+use Rattle.text_bytes.proofs.FoundLemmas.{same_err}
 
 pub cond_behind-returns-in_default-clause-found : goal.cond_behind-returns-in_default-clause-found
 cond_behind-returns-in_default-clause-found t c =

@@ -7,8 +7,9 @@ use Rattle.sql_tree.specs.Tree.{expr_tree}
 use Rattle.read_laws.specs.Chain.{first_token}
 use Rattle.read_laws.specs.Bounded.{bounded, bounded_operator}
 use Rattle.read_laws.specs.ExprReader as reader
-use Rattle.read_laws.proofs.ChainLemmas.{chain_ends, turn_goes_on, turn_breaks, last_turn, same_err}
+use Rattle.read_laws.proofs.ChainLemmas.{chain_ends, turn_goes_on, turn_breaks, last_turn}
 use Rattle.sql_reader.proofs.expressions.+expr.Goals as goal
+use Rattle.text_bytes.proofs.FoundLemmas.{same_err}
 
 pub expr_behind-returns-in_default-clause-found : goal.expr_behind-returns-in_default-clause-found
 expr_behind-returns-in_default-clause-found t c =

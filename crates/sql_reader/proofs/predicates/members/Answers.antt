@@ -10,8 +10,9 @@ use Rattle.read_laws.specs.Chain.{first_token}
 use Rattle.read_laws.specs.CondReader as reader
 use Rattle.read_laws.specs.Bounded.{bounded, bounded_join}
 use Rattle.read_laws.specs.Parts.{comma_in}
-use Rattle.read_laws.proofs.ChainLemmas.{chain_ends, turn_goes_on, turn_breaks, last_turn, same_err}
+use Rattle.read_laws.proofs.ChainLemmas.{chain_ends, turn_goes_on, turn_breaks, last_turn}
 use Rattle.sql_reader.proofs.predicates.members.Goals as goal
+use Rattle.text_bytes.proofs.FoundLemmas.{same_err}
 
 pub returns-in_default-clause-found : goal.returns-in_default-clause-found
 returns-in_default-clause-found c =

@@ -4,8 +4,9 @@ use Rattle.sql_grammar.specs.Reads.{tokens_in}
 use Rattle.sql_tree.specs.Tree.{cond_tree}
 use Rattle.read_laws.specs.CondReader as reader
 use Rattle.read_laws.specs.Bounded.{bounded}
-use Rattle.read_laws.proofs.ChainLemmas.{same_err, left_over, nothing_found}
+use Rattle.read_laws.proofs.ChainLemmas.{left_over, nothing_found}
 use Rattle.sql_reader.proofs.reading.all_cond.Goals as goal
+use Rattle.text_bytes.proofs.FoundLemmas.{same_err}
 
 pub returns-clause-none : goal.returns-clause-none
 returns-clause-none c h = left_over _ (cond_tree c.in_ok-read.read) (tokens_in c.whole_cond.new.tokens.rest.now)

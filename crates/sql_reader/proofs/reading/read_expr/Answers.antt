@@ -4,7 +4,7 @@ use Rattle.sql_grammar.specs.Reads.{tokens_in}
 use Rattle.sql_tree.specs.Tree.{expr_tree}
 use Rattle.read_laws.specs.Bounded.{bounded}
 use Rattle.read_laws.specs.ExprReader as reader
-use Rattle.read_laws.proofs.ChainLemmas.{same_err}
+use Rattle.text_bytes.proofs.FoundLemmas.{same_err}
 use Rattle.read_laws.proofs.ExprLaws.{whole_found, none_found, left_found}
 use Rattle.sql_reader.proofs.reading.read_expr.Goals as goal
 

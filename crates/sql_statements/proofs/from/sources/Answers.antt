@@ -6,7 +6,7 @@ use Rattle.std.proofs.lemmas.Result.{err_from_is_err_and}
 use Rattle.sql_grammar.specs.Reads.{tokens_in}
 use Rattle.read_laws.specs.Chain.{first_token}
 use Rattle.read_laws.specs.Bounded.{bounded}
-use Rattle.read_laws.proofs.ChainLemmas.{same_err}
+use Rattle.text_bytes.proofs.FoundLemmas.{same_err}
 use Rattle.sql_tree.specs.Tree.{cond_tree}
 use Rattle.read_laws.specs.StmtReader as reader
 use Rattle.read_laws.proofs.JoinLemmas.{joins_end, turn_goes_on, turn_breaks, last_turn, same_pair}

@@ -5,9 +5,10 @@ use Rattle.std.proofs.lemmas.Result.{err_from_is_err_and}
 use Rattle.sql_grammar.specs.Reads.{tokens_in}
 use Rattle.read_laws.specs.Chain.{first_token}
 use Rattle.read_laws.specs.Parts.{comma_in}
-use Rattle.read_laws.proofs.ChainLemmas.{chain_ends, turn_goes_on, turn_breaks, last_turn, same_err}
+use Rattle.read_laws.proofs.ChainLemmas.{chain_ends, turn_goes_on, turn_breaks, last_turn}
 use Rattle.read_laws.specs.StmtReader as reader
 use Rattle.sql_statements.proofs.part.listed.Goals as goal
+use Rattle.text_bytes.proofs.FoundLemmas.{same_err}
 
 pub returns-in_default-clause-found : goal.returns-in_default-clause-found
 returns-in_default-clause-found g c =

@@ -3,12 +3,13 @@ use Rattle.std.proofs.lemmas.Result.{err_from_is_err_and}
 use Rattle.sql_grammar.specs.Reads.{tokens_in}
 use Rattle.sql_tree.specs.Tree.{stmt_tree}
 use Rattle.read_laws.specs.Bounded.{bounded}
-use Rattle.read_laws.proofs.ChainLemmas.{same_err, left_over, nothing_found}
+use Rattle.read_laws.proofs.ChainLemmas.{left_over, nothing_found}
 use Rattle.read_laws.specs.DerivedStmts.{IsReadStmt, count_64, length_32}
 use Rattle.read_laws.specs.StmtReader as reader
 use Rattle.read_laws.proofs.StmtLaws.{stmt_read, read_told}
 use Rattle.sql_statements.proofs.AloneLemmas.{if_alone}
 use Rattle.sql_statements.proofs.stmt.read_stmt.Goals as goal
+use Rattle.text_bytes.proofs.FoundLemmas.{same_err}
 
 pub returns-clause-none : goal.returns-clause-none
 returns-clause-none c = λ h s is.
