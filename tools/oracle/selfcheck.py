@@ -93,7 +93,7 @@ def check_query(db, text):
     # the choices of rows that a condition keeps
     t = translate.Translator(typed)
     t.choose(typed.query().cond)
-    rows = mal.Plan(t.instrs, mal.Out(list(t.R), None, [], None))
+    rows = mal.Plan(t.instrs, mal.Out(list(t.rows), None, [], None))
     values = []
     try:
         for i in rows.instrs:
@@ -104,7 +104,7 @@ def check_query(db, text):
         need(mine == meaning.kept(typed, typed.query().cond, db), 'kept choices', text)
         for a in rows.out.cols:
             b = values[a[1]]
-            need(b.heads == mal.dense(len(b)), 'heads of R', text)
+            need(b.heads == mal.dense(len(b)), 'heads of rows', text)
     except Overflow:
         pass
     return 'overflow' if want[0] == 'overflow' else 'rows'

@@ -40,7 +40,7 @@ class Translator:
         self.typed = typed
         self.instrs = []
         self.flags = []
-        self.R = []
+        self.rows = []
 
     # -- emitting
     def emit(self, op, *args):
@@ -109,11 +109,11 @@ class Translator:
             return self.emit('select', b, NONE, k, YES, YES if op == '<=' else NO)
         return self.emit('select', b, k, NONE, YES if op == '>=' else NO, YES)
 
-    def S(self, c):
+    def selected(self, c):
         at = self.column_condition(c)
         if c[0] == 'or':
-            a = self.S(c[1])
-            b = self.S(c[2])
+            a = self.selected(c[1])
+            b = self.selected(c[2])
             return self.emit('kunion', a, b)
         if self.is_range_leaf(c):
             return self.select_leaf(c, at)
@@ -122,20 +122,20 @@ class Translator:
         b = self.select_leaf(leaf, at)
         return self.emit('kdifference', a, b)
 
-    # -- P1
+    # -- the rows of one table that its column conditions keep
     def candidate(self, j, conds):
         if not conds:
             return self.emit('mirror', self.bind(j, 0))
         if self.is_range_leaf(conds[0]):
-            c = self.emit('mirror', self.S(conds[0]))
+            c = self.emit('mirror', self.selected(conds[0]))
         else:
             m = self.emit('mirror', self.bind(j, 0))
-            c = self.emit('semijoin', m, self.S(conds[0]))
+            c = self.emit('semijoin', m, self.selected(conds[0]))
         for d in conds[1:]:
-            c = self.emit('semijoin', c, self.S(d))
+            c = self.emit('semijoin', c, self.selected(d))
         return c
 
-    # -- P1 to P3
+    # -- the rows that are kept: candidates, joins, other conditions
     def choose(self, cond):
         parts = conjuncts(cond)
         places = [self.column_condition(c) for c in parts]
@@ -144,7 +144,7 @@ class Translator:
         own = [[c for c, p in zip(parts, places) if p is not None and p[0] == j]
                for j in range(n)]
         c1 = self.candidate(0, own[0])
-        self.R = [self.emit('reverse', self.emit('markT', c1, BASE))]
+        self.rows = [self.emit('reverse', self.emit('markT', c1, BASE))]
         for j in range(1, n):
             cj = self.candidate(j, own[j])
             link = None
@@ -160,21 +160,21 @@ class Translator:
                 b = self.bind(*mine)
                 if own[j]:
                     b = self.emit('semijoin', b, cj)
-                left = self.emit('join', self.R[other[0]], self.bind(*other))
+                left = self.emit('join', self.rows[other[0]], self.bind(*other))
                 J = self.emit('join', left, self.emit('reverse', b))
             else:
-                J = self.emit('cross', self.R[0], cj)
+                J = self.emit('cross', self.rows[0], cj)
             new = self.emit('reverse', self.emit('markT', self.emit('reverse', J), BASE))
             N = self.emit('reverse', self.emit('markT', J, BASE))
-            self.R = [self.emit('join', N, r) for r in self.R] + [new]
+            self.rows = [self.emit('join', N, r) for r in self.rows] + [new]
         for c, u in zip(parts, used):
             if u:
                 continue
             V = self.cond_value(c, self.value)
             if not self.is_bat(V):
-                V = self.emit('project', self.R[0], V)
+                V = self.emit('project', self.rows[0], V)
             N = self.narrowing(V)
-            self.R = [self.emit('join', N, r) for r in self.R]
+            self.rows = [self.emit('join', N, r) for r in self.rows]
 
     def link(self, c, j):
         """(column of table j, column of an earlier table) of an `=`."""
@@ -194,7 +194,7 @@ class Translator:
     # -- values
     def column_value(self, e):
         j, c = self.typed.place(e)
-        return self.emit('join', self.R[j], self.bind(j, c))
+        return self.emit('join', self.rows[j], self.bind(j, c))
 
     def value(self, e):
         if e[0] == 'lit':
@@ -227,18 +227,18 @@ class Translator:
         b = self.cond_value(c[2], leaf)
         return self.emit(c[0], a, b)
 
-    # -- P4
+    # -- items, groups and the output
     def argument(self, e):
         """An aggregate's argument as a BAT."""
         v = self.value(e)
-        return v if self.is_bat(v) else self.emit('project', self.R[0], v)
+        return v if self.is_bat(v) else self.emit('project', self.rows[0], v)
 
     def whole_value(self, e):
         """Grouped without GROUP BY."""
         if e[0] != 'agg':
             return self.value(e)
         if e[2] is None:
-            return self.emit('count', self.R[0])
+            return self.emit('count', self.rows[0])
         return self.emit(e[1].lower(), self.argument(e[2]))
 
     def groups_of(self, bats):
@@ -252,7 +252,7 @@ class Translator:
         def of(e):
             if e[0] == 'agg':
                 if e[2] is None:
-                    return self.emit('subcount', self.R[0], g)
+                    return self.emit('subcount', self.rows[0], g)
                 return self.emit('sub' + e[1].lower(), self.argument(e[2]), g)
             if has_column(e):
                 return self.emit('join', H, self.value(e))
@@ -267,7 +267,7 @@ class Translator:
         if not is_grouped(q):
             cols = [self.value(e) for e in items]
             if not any(self.is_bat(c) for c in cols):
-                cols[0] = self.emit('project', self.R[0], cols[0])
+                cols[0] = self.emit('project', self.rows[0], cols[0])
         elif not q.groups:
             cols = [self.whole_value(e) for e in items]
             if q.having is not None:
@@ -301,7 +301,7 @@ def compile_write(typed):
         return None
     t = Translator(typed)
     t.choose(stmt.cond)
-    cols = [t.R[0]]
+    cols = [t.rows[0]]
     if isinstance(stmt, Update):
         cols += [t.value(e) for _, e in stmt.sets]
     return Plan(t.instrs, Out(cols, None, [], None))
