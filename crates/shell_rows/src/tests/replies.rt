@@ -1,7 +1,6 @@
 //! Scripts, each statement beside its reply. The replies are those of an independent implementation,
-//! which was written from the same specification in Python and is kept beside the project: put the
-//! statements of a table into a file, each with a `;`, and run `oracle/recycle --stage 3 --language 17
-//! run FILE`.
+//! which was written from the same rules in Python: put the statements of a table into a file, each
+//! with a `;`, and run `tools/oracle/recycle --no-pool run FILE`.
 
 /// A statement, and its reply without the number before it.
 pub type Replied = (&'static str, &'static str);

@@ -1,0 +1,1 @@
+SELECT SUM(money) FROM accounts;
