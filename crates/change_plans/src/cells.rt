@@ -3,7 +3,7 @@ ghost use Rattle.std.specs.Prelude.{◌≡◌};
 ghost use Rattle.change_plans.specs.Decisions.{is_any_refused as is_any_refused_of, is_refused_there as is_refused_there_of, is_row_refused as is_row_refused_of, refuses as refuses_of};
 
 use cell_core::{Cell, Column, Sequence, Word};
-use sql_changes::{is_null_refused, is_too_long};
+use row_values::{is_null_refused, is_too_long};
 
 /// What a column may refuse.
 #[derive(Clone, Copy)]

@@ -8,10 +8,10 @@ ghost use Rattle.sql_changes.specs.Plans.{grown};
 
 use crate::carry::find_once;
 use crate::copy::copy_table;
-use crate::stored::{is_null_refused, is_too_long};
 use cell_core::{
     Cell, Column, Db, Memory, Sequence, Table, Word, copy_cells, copy_columns, word_of,
 };
+use row_values::{is_null_refused, is_too_long};
 use sql_semantics::Refusal;
 use std::alloc::Global;
 use std::mem;

@@ -10,7 +10,7 @@ use crate::fate::Fate;
 use crate::hits::is_true_of;
 use crate::plan::{PlannedChange, Work};
 use cell_core::{Memory, Sequence, Table};
-use sql_meaning::{LentRow, cond_overflows};
+use row_values::{LentRow, cond_overflows};
 use sql_semantics::Refusal;
 use sql_tree::Cond;
 use std::alloc::Global;

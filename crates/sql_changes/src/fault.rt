@@ -8,9 +8,8 @@ ghost use Rattle.sql_semantics.specs.Effect.{is_too_long as is_too_long_of, is_n
 ghost use Rattle.sql_changes.specs.Faults.{has_fault as has_fault_of, is_refused_there};
 
 use crate::hits::{cell_of, overflows_for, value_of};
-use crate::stored::{is_null_refused, is_too_long};
 use cell_core::{Cell, Column, Memory, Table, Word};
-use sql_meaning::LentRow;
+use row_values::{LentRow, is_null_refused, is_too_long};
 use sql_tree::Expr;
 
 /// What may be wrong with a value for a row.

@@ -7,7 +7,7 @@ ghost use Rattle.sql_semantics.specs.Kept.{is_kept as is_kept_of};
 ghost use Rattle.sql_semantics.specs.Effect.{own_table, is_hit};
 
 use cell_core::{Cell, Memory, Table};
-use sql_meaning::{LentRow, cell_over, cond_overflows, is_kept, overflows_over, value_over};
+use row_values::{LentRow, cell_over, cond_overflows, is_kept, overflows_over, value_over};
 use sql_semantics::Called;
 use sql_tree::{Cond, Expr};
 use std::alloc::Global;

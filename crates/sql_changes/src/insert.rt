@@ -9,8 +9,8 @@ ghost use Rattle.sql_changes.specs.Plans.{change_of};
 ghost use Rattle.sql_changes.specs.Parts.{insert_refusal};
 
 use crate::plan::{PlannedChange, Work};
-use crate::stored::{are_rows_too_long, has_null_row};
 use cell_core::{Cell, Column, Memory, Sequence, Table, Word, copy_rows, word_of};
+use row_values::{are_rows_too_long, has_null_row};
 use sql_semantics::{Refusal, targets};
 use std::alloc::Global;
 

@@ -1,15 +1,14 @@
 //! The plain programs of what SQL changes: what a statement does to a database, in place (`change`)
 //! or on a copy (`slow_effect`).
 //!
-//! It stands on `sql_semantics`, whose definition of the effect it gives exactly, and on the values and
-//! conditions of `sql_meaning`. A change of a table is first planned, over rows that are lent, and
-//! then carried out: all memory is taken before the table changes. INSERT leaves the rows that are
-//! there where they are, DELETE moves those that stay, and UPDATE makes rows for those alone of which
-//! its condition is true. ALTER makes the rows of its table anew.
+//! It stands on `sql_semantics`, whose definition of the effect it gives exactly, and on `row_values` for
+//! values, conditions and the cells that a column refuses. A change of a table is first planned, over rows
+//! that are lent, and then carried out: all memory is taken before the table changes. INSERT leaves the
+//! rows that are there where they are, DELETE moves those that stay, and UPDATE makes rows for those alone
+//! of which its condition is true. ALTER makes the rows of its table anew.
 //!
 //! What is decided without the rows of a table has calls of its own, for a store that keeps no rows: the
-//! rows that an INSERT adds (`rows_to_add`), why a column isn't added (`why_not_added`), and which cells a
-//! column refuses (`is_too_long`, `is_null_refused`, `has_long_default`).
+//! rows that an INSERT adds (`rows_to_add`), and why a column isn't added (`why_not_added`).
 #![tactic(auto)]
 
 mod alter;
@@ -22,10 +21,8 @@ mod fault;
 mod hits;
 mod insert;
 mod plan;
-mod stored;
 mod update;
 
 pub use alter::why_not_added;
 pub use effect::{change, slow_effect};
 pub use insert::{AddedRows, rows_to_add};
-pub use stored::{has_long_default, is_null_refused, is_too_long};

@@ -13,7 +13,7 @@ use crate::fault::{Fault, has_any_fault};
 use crate::hits::{cell_of, hits, is_true_of};
 use crate::plan::{PlannedChange, Work};
 use cell_core::{Cell, Column, Memory, Sequence, Table, Word};
-use sql_meaning::{LentRow, cond_overflows, constant_overflows};
+use row_values::{LentRow, cond_overflows, constant_overflows};
 use sql_semantics::Refusal;
 use sql_tree::{Cond, Expr};
 use std::alloc::Global;

@@ -1,4 +1,3 @@
-pub mod ValueLemmas
 pub mod ListLemmas
 pub mod KeptLemmas
 pub mod GroupLemmas

@@ -1,4 +1,3 @@
-pub mod Scopes
 pub mod Behind
 pub mod Members
 pub mod Shown

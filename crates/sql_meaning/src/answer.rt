@@ -11,10 +11,10 @@ ghost use Rattle.sql_semantics.specs.Answer.{key_place as key_place_of, limited,
 use crate::groups::{distinct, groups_of};
 use crate::kept::kept_choices;
 use crate::overflow::{constants_overflow, shown_overflow};
-use crate::row::LentRow;
 use crate::rows::{choice_rows, group_rows};
 use crate::tables::{Named, called_all, from_tables};
 use cell_core::{Cell, Db, Memory, RunError, Sequence, sort_rows_by};
+use row_values::LentRow;
 use sql_semantics::{Called, Typed, all_columns, is_grouped, key_place};
 use sql_tree::{Item, Query, SortKey, Stmt};
 use std::alloc::Global;
@@ -149,28 +149,19 @@ fn answer_over(
     }
 }
 
-/// What a query answers over a database, computed row by row as its meaning says. `Overflow` comes
-/// where arithmetic over constants alone leaves 64 bits, or that of an item or of HAVING does for a
-/// kept choice of rows. The statement is a SELECT or an EXPLAIN.
-pub fn slow_answer(
+/// What a query answers over a database, computed row by row as its meaning says; none where it
+/// overflows: arithmetic over constants alone leaves 64 bits, or that of an item or of HAVING does for a
+/// kept choice of rows.
+pub fn plain_answer(
     alloc: Global,
-    query: &Typed,
+    query: &Query,
     db: &Db,
-) -> Result<Sequence<Sequence<Cell>>, RunError>
-    requires { IsSome (query_of (stmt_tree query.now.stmt)) }
-    ensures rows { IfOk result (λ rows. answer_of_stmt (stmt_tree query.now.stmt) db.now ≡ Some rows) }
-    ensures overflow { result ≡ Err RunError.Overflow → answer_of_stmt (stmt_tree query.now.stmt) db.now ≡ None }
+) -> Result<Option<Sequence<Sequence<Cell>>>, Memory>
+    ensures { IfOk result (λ answer. answer ≡ answer_of (query_tree query.now) db.now) }
 {
-    match &query.stmt {
-        Stmt::Query(query) => rows_or_overflow(answer_of_query(alloc, query, db)?),
-        Stmt::Explain(query) => rows_or_overflow(answer_of_query(alloc, query, db)?),
-        Stmt::Create { .. }
-        | Stmt::Drop { .. }
-        | Stmt::Alter { .. }
-        | Stmt::Insert { .. }
-        | Stmt::Delete { .. }
-        | Stmt::Update { .. } => unreachable!(),
-    }
+    let tables = from_tables(alloc, query.froms.as_slice(), db)?;
+    let answer = answer_over(alloc, &tables, query)?;
+    Ok(answer)
 }
 
 /// The rows of an answer; none is an overflow.
@@ -186,15 +177,25 @@ fn rows_or_overflow(
     }
 }
 
-/// What a query answers over a database, or none where it overflows.
-fn answer_of_query(
+/// What a checked SELECT or EXPLAIN answers over a database: the rows of its `plain_answer`, or
+/// `Overflow` where it has none.
+pub fn slow_answer(
     alloc: Global,
-    query: &Query,
+    query: &Typed,
     db: &Db,
-) -> Result<Option<Sequence<Sequence<Cell>>>, Memory>
-    ensures { IfOk result (λ answer. answer ≡ answer_of (query_tree query.now) db.now) }
+) -> Result<Sequence<Sequence<Cell>>, RunError>
+    requires { IsSome (query_of (stmt_tree query.now.stmt)) }
+    ensures rows { IfOk result (λ rows. answer_of_stmt (stmt_tree query.now.stmt) db.now ≡ Some rows) }
+    ensures overflow { result ≡ Err RunError.Overflow → answer_of_stmt (stmt_tree query.now.stmt) db.now ≡ None }
 {
-    let tables = from_tables(alloc, query.froms.as_slice(), db)?;
-    let answer = answer_over(alloc, &tables, query)?;
-    Ok(answer)
+    match &query.stmt {
+        Stmt::Query(query) => rows_or_overflow(plain_answer(alloc, query, db)?),
+        Stmt::Explain(query) => rows_or_overflow(plain_answer(alloc, query, db)?),
+        Stmt::Create { .. }
+        | Stmt::Drop { .. }
+        | Stmt::Alter { .. }
+        | Stmt::Insert { .. }
+        | Stmt::Delete { .. }
+        | Stmt::Update { .. } => unreachable!(),
+    }
 }

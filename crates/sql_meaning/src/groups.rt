@@ -5,9 +5,8 @@ ghost use Rattle.sql_semantics.specs.Rows.{same_cells as same_cells_of, group_ke
 ghost use Rattle.sql_meaning.specs.Members.{members_by};
 
 use crate::kept::again;
-use crate::row::LentRow;
-use crate::value::column_cell;
 use cell_core::{Cell, Memory, Sequence, copy_cells};
+use row_values::{LentRow, column_cell};
 use sql_semantics::Called;
 use sql_tree::ColRef;
 use std::alloc::Global;

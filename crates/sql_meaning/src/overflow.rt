@@ -8,10 +8,8 @@ ghost use Rattle.sql_semantics.specs.Values.{constant_overflows as constant_over
 ghost use Rattle.sql_semantics.specs.Rows.{overflows_for};
 ghost use Rattle.sql_semantics.specs.Exprs.{exprs_of};
 
-use crate::kept::cond_overflows;
-use crate::row::LentRow;
-use crate::value::{constant_overflows, value_over};
 use cell_core::{Memory, Sequence};
+use row_values::{LentRow, cond_overflows, constant_overflows, value_over};
 use sql_semantics::Called;
 use sql_tree::{Cond, Expr, Item};
 
@@ -30,7 +28,7 @@ fn items_overflow(items: &[Item]) -> Result<bool, Memory>
 }
 
 /// The same of items, HAVING and the condition.
-#[tactic(auto, using(crate::proofs::ListLemmas::any_in_both))]
+#[tactic(auto, using(row_values::proofs::ListLemmas::any_in_both))]
 pub(crate) fn constants_overflow(
     items: &[Item],
     having: &Option<Cond>,
@@ -77,7 +75,7 @@ fn part_overflows(
 }
 
 /// The same of items.
-#[tactic(auto, using(crate::proofs::ListLemmas::any_in_both))]
+#[tactic(auto, using(row_values::proofs::ListLemmas::any_in_both))]
 fn items_overflow_over(
     sources: &[Called<'_>],
     choices: &[Sequence<LentRow<'_>>],
@@ -96,7 +94,7 @@ fn items_overflow_over(
 }
 
 /// The same of the sides of a condition's tests.
-#[tactic(auto, using(crate::proofs::ListLemmas::any_in_both, crate::proofs::ListLemmas::flat_in_both))]
+#[tactic(auto, using(row_values::proofs::ListLemmas::any_in_both, crate::proofs::ListLemmas::flat_in_both))]
 fn tree_overflows_over(
     sources: &[Called<'_>],
     choices: &[Sequence<LentRow<'_>>],
@@ -141,7 +139,7 @@ fn having_overflows_over(
 }
 
 /// Whether an expression of items or HAVING leaves the range for some kept choice.
-#[tactic(auto, using(crate::proofs::ListLemmas::any_in_both, crate::proofs::ListLemmas::flat_in_both))]
+#[tactic(auto, using(row_values::proofs::ListLemmas::any_in_both, crate::proofs::ListLemmas::flat_in_both))]
 pub(crate) fn shown_overflow(
     sources: &[Called<'_>],
     choices: &[Sequence<LentRow<'_>>],

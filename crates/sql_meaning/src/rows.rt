@@ -6,10 +6,8 @@ ghost use Rattle.sql_semantics.specs.Rows.{choice_row as choice_row_of};
 ghost use Rattle.sql_meaning.specs.Shown.{row_of_group, is_group_shown, rows_of_shown};
 ghost use Rattle.sql_semantics.specs.Exprs.{exprs_of};
 
-use crate::row::LentRow;
-use crate::scope::{Scope, group_cell, holds};
-use crate::value::cell_over;
 use cell_core::{Cell, Memory, Sequence};
+use row_values::{LentRow, Scope, cell_over, group_cell, holds};
 use sql_semantics::Called;
 use sql_tree::{Cond, Item};
 use std::alloc::Global;

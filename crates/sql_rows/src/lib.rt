@@ -1,7 +1,7 @@
 //! Tests of what SQL means: scripts that are read, checked and run, by their plain meaning and by their
 //! plans, against what an independent implementation of the language prints; the plans of random queries, printed
-//! and read again; and each other public call
-//! of `sql_semantics`, `sql_meaning` and `sql_changes` once with enough memory.
+//! and read again; and each other public call of `sql_semantics`, `row_values`, `sql_meaning` and `sql_changes`
+//! once with enough memory.
 #![tactic(auto)]
 
 #[cfg(test)]

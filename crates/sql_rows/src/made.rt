@@ -1,6 +1,6 @@
 //! Tables and statements made by hand.
 use cell_core::{Cell, Column, Kind, Memory, Sequence, word_of};
-use sql_tree::{ArithOp, CmpOp, ColRef, Cond, Expr};
+use sql_tree::{AggOp, ArithOp, CmpOp, ColRef, Cond, Expr};
 use std::alloc::Global;
 
 /// The sequence of one.
@@ -61,4 +61,17 @@ pub(crate) fn not_one(alloc: Global) -> Result<Option<Cond>, Memory> {
         right: Expr::Lit(Cell::Int(1)),
     };
     Ok(Some(Cond::Not(Box::new(alloc, equal)?)))
+}
+
+/// `COUNT(*) > 1`
+pub(crate) fn count_above_one() -> Option<Cond> {
+    let count = Expr::Agg {
+        f: AggOp::Count,
+        of: None,
+    };
+    Some(Cond::Cmp {
+        op: CmpOp::Gt,
+        left: count,
+        right: Expr::Lit(Cell::Int(1)),
+    })
 }

@@ -2,23 +2,25 @@
 ghost use Rattle.sql_grammar.specs.Formed.{IsFormed};
 ghost use Rattle.sql_tree.specs.Tree.{stmt_tree};
 
-use crate::made::{columns, named, not_one, one, row, times_largest};
+use crate::made::{columns, count_above_one, named, not_one, one, row, times_largest};
 use crate::run::{Way, told};
 use crate::scripts::{
     DEFAULTS, DEFAULTS_TOLD, DIGITS, DIGITS_TOLD, NULLS, NULLS_TOLD, REFUSED, REFUSED_TOLD, WIDE,
     WIDE_TOLD,
 };
-use cell_core::{Cell, Memory, Word, word_of};
-use sql_check::{CheckError, check};
-use sql_meaning::{
-    LentRow, cell_over, cond_overflows, constant_overflows, is_kept, overflows_over, value_over,
+use cell_core::{Cell, Db, Memory, Sequence, Table, Word, word_of};
+use row_values::{
+    LentRow, Scope, are_rows_too_long, cell_over, column_cell, cond_overflows, constant_overflows,
+    group_cell, has_null_row, holds, is_kept, overflows_over, value_over,
 };
+use sql_check::{CheckError, check};
+use sql_meaning::plain_answer;
 use sql_parse::parse;
 use sql_semantics::{
     Called, Found, Refusal, Schema, Source, Typed, all_columns, column_place, find_column,
     key_place,
 };
-use sql_tree::{Cond, Expr, Place, Stmt};
+use sql_tree::{AggOp, ColRef, Cond, Expr, Place, Query, Stmt};
 use std::alloc::Global;
 use std::test::Fail;
 
@@ -96,6 +98,56 @@ fn constants(rt: HostRuntime) -> Result<(), Fail> {
     let alloc = rt.alloc();
     assert_eq!(rt; overflows_alone(alloc, -1)?, (false, false));
     assert_eq!(rt; overflows_alone(alloc, 2)?, (true, true));
+    Ok(())
+}
+
+/// The cell of a column over the row of 1 and Nil.
+fn cell_of_column(alloc: Global, name: &str) -> Result<Cell, Memory> {
+    let source = source(alloc)?;
+    let row = row(alloc, number(Some(1)), Cell::Nil)?;
+    let reference = ColRef {
+        table: None,
+        column: word_of(alloc, name)?,
+    };
+    let called = [Called::new(&source.table, &source.columns)];
+    column_cell(&called, &[LentRow::new(&row)], &reference)
+}
+
+#[test]
+fn cells_of_columns(rt: HostRuntime) -> Result<(), Fail> {
+    let alloc = rt.alloc();
+    for (name, want) in [("a", number(Some(1))), ("b", Cell::Nil), ("c", Cell::Nil)] {
+        let cell = cell_of_column(alloc, name)?;
+        assert!(rt; cell == want);
+    }
+    Ok(())
+}
+
+/// The number of rows of a group of two choices, and whether `COUNT(*) > 1` holds of it.
+fn counted_of_two(alloc: Global) -> Result<(Cell, bool), Memory> {
+    let row = row(alloc, number(Some(1)), Cell::Nil)?;
+    let mut group = one(alloc, one(alloc, LentRow::new(&row))?)?;
+    group.push(one(alloc, LentRow::new(&row))?)?;
+    let count = Expr::Agg {
+        f: AggOp::Count,
+        of: None,
+    };
+    let cell = group_cell(alloc, &[], group.as_slice(), &count)?;
+    let is_above = holds(
+        alloc,
+        &[],
+        &Scope::Group(group.as_slice()),
+        &count_above_one(),
+    )?;
+    Ok((cell, is_above))
+}
+
+#[test]
+fn a_group_is_counted(rt: HostRuntime) -> Result<(), Fail> {
+    let alloc = rt.alloc();
+    let (cell, is_above) = counted_of_two(alloc)?;
+    assert!(rt; cell == Cell::Int(2));
+    assert!(rt; is_above);
     Ok(())
 }
 
@@ -182,6 +234,47 @@ fn columns_have_places(rt: HostRuntime) -> Result<(), Fail> {
         let place = place_in_delete(&typed, &word_of(alloc, name)?);
         assert_eq!(rt; place, want);
     }
+    Ok(())
+}
+
+/// The table `t` with one row, of 1 and Nil.
+fn table_of_one(alloc: Global) -> Result<Table, Memory> {
+    Ok(Table {
+        name: word_of(alloc, "t")?,
+        columns: columns(alloc)?,
+        rows: one(alloc, row(alloc, number(Some(1)), Cell::Nil)?)?,
+    })
+}
+
+/// The rows of a query over that table.
+fn answer_of(alloc: Global, query: &Query) -> Result<Option<Sequence<Sequence<Cell>>>, Memory> {
+    let tables = one(alloc, table_of_one(alloc)?)?;
+    plain_answer(alloc, query, &Db { tables })
+}
+
+#[test]
+fn a_query_has_its_plain_answer(rt: HostRuntime) -> Result<(), Fail> {
+    let alloc = rt.alloc();
+    let Ok(Stmt::Query(query)) = &parse(alloc, "SELECT b, a FROM t") else {
+        return Err(Fail::from("a query is read as something else"));
+    };
+    let Some(rows) = answer_of(alloc, query)? else {
+        return Err(Fail::from("the query overflows"));
+    };
+    let [first] = rows.as_slice() else {
+        return Err(Fail::from("the query has no row, or more than one"));
+    };
+    assert!(rt; first.as_slice() == [Cell::Nil, Cell::Int(1)].as_slice());
+    Ok(())
+}
+
+#[test]
+fn columns_refuse_cells(rt: HostRuntime) -> Result<(), Fail> {
+    let alloc = rt.alloc();
+    let table = table_of_one(alloc)?;
+    let (columns, rows) = (table.columns.as_slice(), table.rows.as_slice());
+    assert!(rt; !are_rows_too_long(columns, rows));
+    assert!(rt; !has_null_row(columns, rows));
     Ok(())
 }
 

@@ -11,8 +11,8 @@ use cell_core::{Cell, Memory};
 use sql_semantics::{Called, column_place};
 use sql_tree::{ColRef, Expr};
 
-/// The cell of the column that a reference means.
-pub(crate) fn column_cell(
+/// The cell of the column that a reference means, which is Nil where it means none.
+pub fn column_cell(
     sources: &[Called<'_>],
     choice: &[LentRow<'_>],
     reference: &ColRef,

@@ -1,7 +1,7 @@
 use Rattle.std.proofs.Common.{◌≡◌, ◌++◌, map, length}
 use Rattle.sql_tree.specs.Tree.{expr_tree}
 use Rattle.sql_semantics.specs.Values.{cell_over}
-use Rattle.sql_meaning.proofs.scope.cells_over.Given as goal
+use Rattle.row_values.proofs.scope.cells_over.Given as goal
 
 -- what is made so far, and what the rest gives, is what all give
 abbrev pub invariant-choices : goal.invariant-choices

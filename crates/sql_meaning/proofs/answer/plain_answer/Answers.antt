@@ -1,6 +1,6 @@
 use Rattle.sql_tree.specs.Tree.{query_tree}
 use Rattle.sql_meaning.proofs.AnswerLemmas.{answer_is}
-use Rattle.sql_meaning.proofs.answer.answer_of_query.Goals as goal
+use Rattle.sql_meaning.proofs.answer.plain_answer.Goals as goal
 
 pub returns : goal.returns
 returns c =

@@ -1,11 +1,11 @@
 use Rattle.std.proofs.Common.{◌≡◌, length}
-use Rattle.sql_semantics.specs.Effect.{is_too_long_row}
-use Rattle.sql_changes.proofs.stored.is_too_long_row.Given as goal
+use Rattle.sql_semantics.specs.Effect.{is_null_row}
+use Rattle.row_values.proofs.stored.is_null_row.Given as goal
 
 -- the rest decides as all do
 abbrev pub invariant-columns : goal.invariant-columns
 invariant-columns l =
-    is_too_long_row l.targets l.cells ≡ is_too_long_row l.columns l.row
+    is_null_row l.targets l.cells ≡ is_null_row l.columns l.row
 
 abbrev pub decreases-columns : goal.decreases-columns
 decreases-columns l = length l.targets

@@ -1,5 +1,5 @@
-use Rattle.sql_meaning.proofs.ValueLemmas.{column_cell_is}
-use Rattle.sql_meaning.proofs.value.column_cell.Goals as goal
+use Rattle.row_values.proofs.ValueLemmas.{column_cell_is}
+use Rattle.row_values.proofs.value.column_cell.Goals as goal
 
 pub returns : goal.returns
 returns c =

@@ -58,8 +58,8 @@ fn is_too_long_row(columns: &[Column], row: &[Cell]) -> bool
     false
 }
 
-/// Whether a value of one of the rows is.
-pub(crate) fn are_rows_too_long(columns: &[Column], rows: &[Sequence<Cell>]) -> bool
+/// Whether one of the rows has a value that is too long for its column.
+pub fn are_rows_too_long(columns: &[Column], rows: &[Sequence<Cell>]) -> bool
     ensures { result ≡ list_any (is_too_long_row_of columns.now) rows.now }
 {
     let mut rest = rows;
@@ -90,8 +90,8 @@ fn is_null_row(columns: &[Column], row: &[Cell]) -> bool
     false
 }
 
-/// Whether one of the rows has.
-pub(crate) fn has_null_row(columns: &[Column], rows: &[Sequence<Cell>]) -> bool
+/// Whether one of the rows has Nil for a column that refuses it.
+pub fn has_null_row(columns: &[Column], rows: &[Sequence<Cell>]) -> bool
     ensures { result ≡ list_any (is_null_row_of columns.now) rows.now }
 {
     let mut rest = rows;

@@ -4,8 +4,8 @@ use Rattle.cell_core.specs.declared.cell.Cell.{Cell}
 use Rattle.sql_tree.specs.Tree.{ExprTree}
 use Rattle.sql_semantics.specs.Sources.{NamedSource}
 use Rattle.sql_semantics.specs.Values.{cell_over, group_cell}
-use Rattle.sql_meaning.specs.declared.scope.Scope.{Scope}
-use Rattle.sql_meaning.specs.declared.scope.Scope.TheVariants.{Choice, Group}
+use Rattle.row_values.specs.declared.scope.Scope.{Scope}
+use Rattle.row_values.specs.declared.scope.Scope.TheVariants.{Choice, Group}
 
 -- the cell of an expression
 abbrev pub cell_in : List NamedSource → Scope → ExprTree → Cell

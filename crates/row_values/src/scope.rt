@@ -4,7 +4,7 @@ ghost use Rattle.std.specs.Option.{option_map};
 ghost use Rattle.sql_tree.specs.Tree.{cond_tree, expr_tree};
 ghost use Rattle.sql_semantics.specs.Values.{cell_over as cell_over_of, group_cell as group_cell_of, first_choice as first_choice_of};
 ghost use Rattle.sql_semantics.specs.Truth.{truth as truth_of, holds as holds_of};
-ghost use Rattle.sql_meaning.specs.Scopes.{cell_in as cell_in_of};
+ghost use Rattle.row_values.specs.Scopes.{cell_in as cell_in_of};
 
 use crate::calc::{aggregate, compare_by, count};
 use crate::row::LentRow;
@@ -17,7 +17,7 @@ use std::alloc::Global;
 
 /// What an expression is taken over.
 #[derive(Drop)]
-pub(crate) enum Scope<'a> {
+pub enum Scope<'a> {
     /// A choice of one row for each table.
     Choice(&'a [LentRow<'a>]),
     /// A group of choices.
@@ -53,7 +53,7 @@ fn first_choice<'a, 'b>(group: &'b [Sequence<LentRow<'a>>]) -> &'b [LentRow<'a>]
 }
 
 /// The cell of an item or of a side of a test over a group.
-pub(crate) fn group_cell(
+pub fn group_cell(
     alloc: Global,
     sources: &[Called<'_>],
     group: &[Sequence<LentRow<'_>>],
@@ -133,7 +133,7 @@ fn truth(
 }
 
 /// Whether a condition is true, or there is none.
-pub(crate) fn holds(
+pub fn holds(
     alloc: Global,
     sources: &[Called<'_>],
     scope: &Scope<'_>,
