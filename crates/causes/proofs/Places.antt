@@ -1,6 +1,6 @@
 -- Where the file with a name stands.
 use Rattle.std.proofs.Common.{◌≡◌, ℕ, zero, suc, ◌+◌, ◌<◌, Bool, true, false, cond, not, List, [], ◌∷◌, length, map, None, Some, refl, sym, ap, ◌∙◌, arith}
-use Rattle.std.specs.Prelude.{option_map, find, slice_get, position, nat_lt, bytes_eq, Vec}
+use Rattle.std.specs.Prelude.{Option, option_map, find, slice_get, position, nat_lt, bytes_eq, Vec}
 use Rattle.std.specs.List.{position_or_len}
 use Rattle.std.proofs.lemmas.List.{length-map}
 use Rattle.std.proofs.lemmas.List.Folds.{find_at}
@@ -8,7 +8,7 @@ use Rattle.std.proofs.lemmas.List.Quantifiers.{position-Some}
 use Rattle.std.proofs.lemmas.List.Sums.{position_or_len_is}
 use Rattle.std.proofs.lemmas.Option.{slice_get_past}
 use borrow.Author.Tests.{ltb-false}
-use Rattle.causes.specs.InMemory.{bytes_at, bytes_of_name, files_of}
+use Rattle.causes.specs.InMemory.{bytes_at, bytes_of_name, files_of, place_in}
 
 -- a map moves no element
 position_or_len-map : {X Y : Type 0} (q : Y → Bool) (g : X → Y) (xs : List X) → position_or_len q (map g xs) ≡ position_or_len (λ x. q (g x)) xs
@@ -59,3 +59,11 @@ pub absent-bytes : {A : Type 0} (all files : List (List ℕ × Vec ℕ A)) (show
     → None ≡ position (λ file. bytes_eq file.0 name) all → all ≡ files → files_of files ≡ shown → bytes_of_name shown name ≡ None
 absent-bytes all files shown name e same seen =
     ap (λ fs. bytes_of_name fs name) (sym seen) ∙ bytes_of_name-absent files name (e ∙ ap (λ fs. position (λ file. bytes_eq file.0 name) fs) same)
+
+-- the place of a name among the files that are searched is its place among those that are shown
+pub place-shown : {A : Type 0} (all files : List (List ℕ × Vec ℕ A)) (shown : List (List ℕ × List ℕ)) (name : List ℕ) (place : Option ℕ)
+    → place ≡ position (λ file. bytes_eq file.0 name) all → all ≡ files → files_of files ≡ shown → place ≡ place_in shown name
+place-shown all files shown name place e same seen =
+    e ∙ ap (λ fs. position (λ file. bytes_eq file.0 name) fs) same
+    ∙ sym (position-map (λ file. bytes_eq file.0 name) (λ file. (file.0, file.1.items)) files)
+    ∙ ap (λ fs. place_in fs name) seen

@@ -1,5 +1,5 @@
 ghost use Rattle.causes.specs.Faults.{Rose, next_count};
-ghost use Rattle.causes.specs.InMemory.{bytes_of_name, files_of};
+ghost use Rattle.causes.specs.InMemory.{bytes_of_name, files_of, place_in};
 ghost use Rattle.std.specs.Io.KnownBytes.{Keeps, ReadConsumes};
 ghost use Rattle.std.specs.Io.{ReadsAtMost};
 ghost use Rattle.std.specs.Prelude.{◌≡◌, ℕ, ◌<◌, ◌≤◌, ◌↔◌, ◌⊎◌, List, length, Contains, IsErr, IsNone, IsSome, None, OnErr, OnOk};
@@ -19,6 +19,8 @@ use std::marker::Model;
 pub struct MemScripts {
     files: OpenFiles,
     calls: FailingCalls,
+    /// Where the file of the last fault stands; none where no file has the name, or no fault came yet.
+    failed: Option<usize>,
 }
 
 impl Model for MemScripts {
@@ -29,9 +31,11 @@ impl Model for MemScripts {
     ghost view = { λ s. record {
       files = s.files.files;
       failing = s.calls.listed.items;
+      started = s.files.started;
       remaining = s.files.remaining;
       calls = s.calls.calls;
       faults = s.calls.faults;
+      failed = s.failed;
     } };
 }
 
@@ -40,14 +44,25 @@ impl MemScripts {
     pub fn new(files: Vec<(Word, Vec<u8>)>, failing: Vec<u64>) -> MemScripts
         ensures files { result.files ≡ files_of files.items }
         ensures failing { result.failing ≡ failing.items }
+        ensures started { result.started ≡ None }
         ensures remaining { result.remaining ≡ None }
         ensures calls { result.calls ≡ 0 }
         ensures faults { result.faults ≡ 0 }
+        ensures failed { result.failed ≡ None }
     {
         MemScripts {
             files: OpenFiles::new(files),
             calls: FailingCalls::new(failing),
+            failed: None,
         }
+    }
+
+    /// How many calls of `start` and `read` there were, which is the number of the last one, as the failing
+    /// calls are numbered; 2^64 - 1 stands for that many or more.
+    pub fn calls(&self) -> u64
+        ensures { result ≡ self.now.calls }
+    {
+        self.calls.calls
     }
 }
 
@@ -56,28 +71,40 @@ impl Scripts for MemScripts {
 
     ghost is_started = { λ s. IsSome s.remaining };
 
+    // Names of no file aren't told apart.
+    ghost is_reading = { λ s name. s.started ≡ place_in s.files name };
+
     ghost remaining = { λ s. s.remaining };
 
     ghost faults = { λ s. s.faults };
 
+    // Names of no file aren't told apart.
+    ghost failed_at = { λ s name. s.failed ≡ place_in s.files name };
+
     fn start(&mut self, name: &str) -> Result<(), Failed>
         ensures started { OnOk result (IsSome self.new.remaining) }
+        ensures reading { OnOk result (self.new.started ≡ place_in self.new.files name.now) }
         ensures begins { OnOk result (self.new.remaining ≡ bytes_of_name self.old.files name.now) }
         ensures kept { OnErr result (Keeps self.old.remaining self.new.remaining) }
+        ensures reads_on { OnErr result (self.new.started ≡ self.old.started) }
         ensures same { (other : List ℕ) →
             bytes_of_name self.new.files other ≡ bytes_of_name self.old.files other }
+
         ensures later { self.old.faults ≤ self.new.faults }
         ensures failed { OnErr result (Rose self.old.faults self.new.faults) }
+        ensures failed_here { OnErr result (self.new.failed ≡ place_in self.new.files name.now) }
+        ensures uncounted { OnOk result (self.new.faults ≡ self.old.faults) }
+        ensures unfailed { OnOk result (self.new.failed ≡ self.old.failed) }
 
         ensures numbered { self.new.calls ≡ next_count self.old.calls }
         ensures exactly { IsErr result ↔ (Contains self.old.failing self.new.calls
             ⊎ IsNone (bytes_of_name self.old.files name.now)) }
-        ensures uncounted { OnOk result (self.new.faults ≡ self.old.faults) }
         ensures files { self.new.files ≡ self.old.files }
         ensures failing { self.new.failing ≡ self.old.failing }
     {
         if self.calls.begins_failing() || !self.files.open(name) {
             self.calls.fail();
+            self.failed = self.files.place_of(name);
             return Err(Failed);
         }
         Ok(())
@@ -87,21 +114,26 @@ impl Scripts for MemScripts {
         requires started { IsSome self.old.remaining }
         requires room { 0 < length buf.old }
         ensures still_started { IsSome self.new.remaining }
+        ensures reads_on { self.new.started ≡ self.old.started }
         ensures bound { ReadsAtMost result buf.new }
         ensures bytes { ReadConsumes self.old.remaining self.new.remaining result buf.new }
         ensures same { (other : List ℕ) →
             bytes_of_name self.new.files other ≡ bytes_of_name self.old.files other }
+
         ensures later { self.old.faults ≤ self.new.faults }
         ensures failed { OnErr result (Rose self.old.faults self.new.faults) }
+        ensures failed_here { OnErr result (self.new.failed ≡ self.old.started) }
+        ensures uncounted { OnOk result (self.new.faults ≡ self.old.faults) }
+        ensures unfailed { OnOk result (self.new.failed ≡ self.old.failed) }
 
         ensures numbered { self.new.calls ≡ next_count self.old.calls }
         ensures exactly { IsErr result ↔ Contains self.old.failing self.new.calls }
-        ensures uncounted { OnOk result (self.new.faults ≡ self.old.faults) }
         ensures files { self.new.files ≡ self.old.files }
         ensures failing { self.new.failing ≡ self.old.failing }
     {
         if self.calls.begins_failing() {
             self.calls.fail();
+            self.failed = self.files.started();
             return Err(Failed);
         }
         Ok(self.files.read(buf))

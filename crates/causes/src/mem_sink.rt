@@ -66,6 +66,14 @@ impl MemSink {
         })
     }
 
+    /// How many calls of `write` there were, which is the number of the last one, as the failing calls are
+    /// numbered; 2^64 - 1 stands for that many or more.
+    pub fn calls(&self) -> u64
+        ensures { result ≡ self.now.calls }
+    {
+        self.calls.calls
+    }
+
     /// The bytes that the sink holds.
     pub fn held(&self) -> &[u8]
         ensures { result.now ≡ self.now.contents }

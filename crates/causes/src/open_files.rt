@@ -1,4 +1,4 @@
-ghost use Rattle.causes.specs.InMemory.{bytes_at, bytes_of_name, files_of};
+ghost use Rattle.causes.specs.InMemory.{bytes_at, bytes_of_name, files_of, place_in};
 ghost use Rattle.std.specs.Io.KnownBytes.{Consumes, IsAtEnd};
 ghost use Rattle.std.specs.Prelude.{◌≡◌, ◌<◌, ◌≤◌, ◌↔◌, length, take, IsSome, IsNone, IsTrue, None, Some, [], bytes_eq, position};
 ghost use Rattle.std.specs.Bool.{OnFalse, OnTrue};
@@ -28,6 +28,7 @@ impl Model for OpenFiles {
 
     ghost view = { λ f. let files = files_of f.files.items in record {
       files = files;
+      started = option_map (λ place. place.file) f.place;
       remaining = option_map (λ place. drop place.done (bytes_at files place.file)) f.place;
     } };
 
@@ -39,6 +40,7 @@ impl OpenFiles {
     /// These files, none of them started.
     pub fn new(files: Vec<(Word, Vec<u8>)>) -> OpenFiles
         ensures files { result.files ≡ files_of files.items }
+        ensures started { result.started ≡ None }
         ensures remaining { result.remaining ≡ None }
     {
         OpenFiles { files, place: None }
@@ -47,8 +49,10 @@ impl OpenFiles {
     /// Starts the first file with that name, and says whether there is one.
     pub fn open(&mut self, name: &str) -> bool
         ensures found { IsTrue result ↔ IsSome (bytes_of_name self.old.files name.now) }
+        ensures started { OnTrue result (self.new.started ≡ place_in self.old.files name.now) }
         ensures begins { OnTrue result
             (self.new.remaining ≡ bytes_of_name self.old.files name.now) }
+        ensures stays { OnFalse result (self.new.started ≡ self.old.started) }
         ensures absent { OnFalse result (self.new.remaining ≡ self.old.remaining) }
         ensures files { self.new.files ≡ self.old.files }
     {
@@ -58,6 +62,23 @@ impl OpenFiles {
                 true
             }
             None => false,
+        }
+    }
+
+    /// Where the first file with that name stands.
+    pub fn place_of(&self, name: &str) -> Option<usize>
+        ensures { result ≡ place_in self.now.files name.now }
+    {
+        place_of(&self.files, name)
+    }
+
+    /// Where the file that was started stands.
+    pub fn started(&self) -> Option<usize>
+        ensures { result ≡ self.now.started }
+    {
+        match self.place {
+            Some(place) => Some(place.file),
+            None => None,
         }
     }
 
@@ -76,7 +97,8 @@ impl OpenFiles {
         ensures bound { result ≤ length buf.new }
         ensures bytes { Consumes self.old.remaining self.new.remaining (take result buf.new) }
         ensures end { result ≡ 0 → 0 < length buf.new → IsAtEnd self.new.remaining }
-        ensures started { IsSome self.new.remaining }
+        ensures still_started { IsSome self.new.remaining }
+        ensures started { self.new.started ≡ self.old.started }
         ensures files { self.new.files ≡ self.old.files }
     {
         let place = self.place.unwrap();

@@ -39,7 +39,7 @@ impl Script {
 
 /// The whole text of the script with that name.
 ///
-/// `ReadFault` where the source failed, `TooLong` where more than `MOST_BYTES` bytes come (the rest
+/// `ReadFault` where the source failed at this name, `TooLong` where more than `MOST_BYTES` bytes come (the rest
 /// isn't read), `NotText` where the whole isn't UTF-8, `Memory` where memory ran out. All memory is
 /// taken before the first byte is read, so `Memory` leaves the source as it was.
 pub fn read_all<S: Scripts>(alloc: Global, scripts: &mut S, name: &str) -> Result<Script, ReadError>
@@ -49,6 +49,9 @@ pub fn read_all<S: Scripts>(alloc: Global, scripts: &mut S, name: &str) -> Resul
 
     ensures read_fault { IsErrOf result ReadError.ReadFault →
         Rose (S.faults scripts.old) (S.faults scripts.new) }
+    ensures failed_here { IsErrOf result ReadError.ReadFault → S.failed_at scripts.new name.now }
+    ensures uncounted { result ≢ Err ReadError.ReadFault →
+        S.faults scripts.new ≡ S.faults scripts.old }
     ensures too_long { IsErrOf result ReadError.TooLong →
         IfSome (S.bytes_of scripts.old name.now) (λ bytes. most_bytes < length bytes) }
     ensures not_text { IsErrOf result ReadError.NotText →
@@ -74,6 +77,9 @@ fn gather<S: Scripts>(alloc: Global, scripts: &mut S, name: &str) -> Result<Vec<
 
     ensures read_fault { IsErrOf result ReadError.ReadFault →
         Rose (S.faults scripts.old) (S.faults scripts.new) }
+    ensures failed_here { IsErrOf result ReadError.ReadFault → S.failed_at scripts.new name.now }
+    ensures uncounted { result ≢ Err ReadError.ReadFault →
+        S.faults scripts.new ≡ S.faults scripts.old }
     ensures too_long { IsErrOf result ReadError.TooLong →
         IfSome (S.bytes_of scripts.old name.now) (λ bytes. most_bytes < length bytes) }
     ensures untested { result ≢ Err ReadError.NotText }

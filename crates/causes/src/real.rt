@@ -8,7 +8,7 @@ use std::fs;
 use std::io::{Read, Write};
 use std::rt::Files;
 
-/// The files of the system: a script's name is its path. It tells no bytes.
+/// The files of the system: a script's name is its path. It tells no bytes, and no names apart.
 ///
 /// Each error counts as a fault, also that of an interrupted call.
 #[derive(Drop)]
@@ -45,9 +45,13 @@ impl<R: Files> Scripts for FileScripts<R> {
 
     ghost is_started = { λ s. IsSome s.started };
 
+    ghost is_reading = { λ _ _. Unit {0} };
+
     ghost remaining = { λ _. None };
 
     ghost faults = { λ s. s.faults };
+
+    ghost failed_at = { λ _ _. Unit {0} };
 
     fn start(&mut self, name: &str) -> Result<(), Failed> {
         match fs::open(&self.files, name) {

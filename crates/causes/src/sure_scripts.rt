@@ -40,9 +40,14 @@ impl Scripts for SureScripts {
 
     ghost is_started = { λ s. IsSome s.remaining };
 
+    // No name needs to be told apart, since none ever fails.
+    ghost is_reading = { λ _ _. Unit {0} };
+
     ghost remaining = { λ s. s.remaining };
 
     ghost faults = { λ _. 0 };
+
+    ghost failed_at = { λ _ _. ⊥ };
 
     fn start(&mut self, name: &str) -> Result<(), Failed> {
         if !self.files.open(name) {

@@ -1,5 +1,9 @@
 //! The real files and the real output, and the text of a schedule.
-use causes::{FileScripts, OutSink, ReadError, Scripts, Sink, WriteFault, read_all, write_all};
+use causes::{
+    FileScripts, MemScripts, MemSink, OutSink, ReadError, Scripts, Sink, WriteFault, read_all,
+    write_all,
+};
+use cell_core::word_of;
 use std::io::Write;
 use std::test::Fail;
 use std::{fs, io};
@@ -50,6 +54,35 @@ fn meets_the_system(rt: HostRuntime) -> Result<(), Fail> {
             "{takes}"
         );
         assert_eq!(rt; out.faults(), 1);
+    }
+    Ok(())
+}
+
+#[test]
+fn calls_are_numbered(rt: HostRuntime) -> Result<(), Fail> {
+    let alloc = rt.alloc();
+    let mut files = Vec::new(alloc);
+    files.push((word_of(alloc, "first.sql")?, Vec::from_slice(alloc, b"1;")?))?;
+    let mut scripts = MemScripts::new(files, vec![in alloc; 3]?);
+    // A start, the bytes, and the end; or a start that fails.
+    for (name, want, calls) in [
+        ("first.sql", Err(ReadError::ReadFault), 3),
+        ("missing.sql", Err(ReadError::ReadFault), 4),
+        ("first.sql", Ok(2), 7),
+    ] {
+        let got = read_all(alloc, &mut scripts, name).map(|script| script.text().len());
+        assert_eq!(rt; got, want, "{name}");
+        assert_eq!(rt; scripts.calls(), calls, "{name}");
+    }
+
+    let mut out = MemSink::new(alloc, 2, 10, vec![in alloc; 3]?)?;
+    for (text, want, calls) in [
+        (b"abc".as_slice(), Ok(()), 2),
+        (b"de".as_slice(), Err(WriteFault), 3),
+        (b"de".as_slice(), Ok(()), 4),
+    ] {
+        assert_eq!(rt; write_all(&mut out, text), want);
+        assert_eq!(rt; out.calls(), calls);
     }
     Ok(())
 }

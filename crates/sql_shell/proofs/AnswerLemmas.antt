@@ -1,14 +1,25 @@
 -- What each command answers, beside whether it is a `generate`.
-use Rattle.std.proofs.Common.{◌≡◌, ℕ, ◌≤◌, List, Option, Some, None, sym, subst}
+use Rattle.std.proofs.Common.{◌≡◌, ℕ, ◌≤◌, List, length, Option, Some, None, ap, sym, subst, arith}
 use Rattle.std.proofs.lemmas.Option.{same_Some}
 use Rattle.run_log.specs.Events.{EventTree}
 use Rattle.command_line.specs.declared.command.Command.{Command}
 use Rattle.command_line.specs.declared.command.Command.TheVariants.{Run, Replay, Generate}
-use Rattle.command_line.specs.Command.{IsFit}
+use Rattle.command_line.specs.declared.command.RunOptions.{RunOptions}
+use Rattle.command_line.specs.Command.{AreFit, IsFit, files_of, options_of}
 use Rattle.sql_shell.specs.Answered.{IsAnswered, seed_of}
+use Rattle.sql_shell.specs.Begun.{IsToRun}
 use Rattle.sql_shell.specs.Generated.{IsGenerated}
-use Rattle.sql_shell.specs.Inputs.{IsToldWrong}
+use Rattle.sql_shell.specs.Inputs.{AreTurnsOf, IsCourse, IsToldWrong}
+use Rattle.sql_shell.specs.Ready.{AreReady, IsServedBy}
+use Rattle.sql_shell.specs.Scripts.{AreCut}
 use Rattle.sql_shell.specs.Served.{IsRun}
+use Rattle.sql_shell.specs.declared.begun.ThreadedRun.{ThreadedRun}
+use Rattle.sql_shell.specs.declared.inputs.Course.{Course}
+use Rattle.sql_shell.specs.declared.inputs.Course.TheVariants.{InThreads}
+use Rattle.sql_shell.specs.declared.scripts.Script.{Script}
+use Rattle.sql_shell.proofs.InputLemmas.{read_not_wrong}
+use Rattle.sql_shell.proofs.PrintLemmas.{run_of}
+use Rattle.sql_shell.proofs.ScriptLemmas.{all_short, as_many}
 
 module _ (bytes : List ℕ → Option (List ℕ)) (text : List ℕ) (log : List EventTree) (work before after : ℕ) where
   -- a command that isn't one is answered by its run
@@ -34,3 +45,40 @@ pub nothing_wrong : (bytes : List ℕ → Option (List ℕ)) (command : Command)
 nothing_wrong bytes (Run workers options files) seed status at some told = absurd (cc)
 nothing_wrong bytes (Replay options schedule files) seed status at some told = absurd (cc)
 nothing_wrong bytes (Generate number) seed status at some told = told
+
+-- ## What is ready to run
+
+pub are_ready : (bytes : List ℕ → Option (List ℕ)) (command : Command) (options : RunOptions) (scripts : List Script) (course : Course)
+    → IsFit command → options ≡ options_of command → AreCut bytes (files_of command) scripts → AreTurnsOf (length (files_of command)) course → AreReady options scripts course
+are_ready bytes command options scripts course fits same are turns =
+    let many = as_many bytes (files_of command) scripts are in
+    let most = fits.few in
+    record {
+      fit = subst AreFit (sym same) fits.options;
+      few = omega (arith, many, most);
+      short = all_short bytes (files_of command) scripts are;
+      turns = subst (λ n. AreTurnsOf n course) (sym many) turns;
+    }
+
+-- ## A run that is still to go in threads
+
+-- what goes in threads is a `run`
+pub is_to_run : (bytes : List ℕ → Option (List ℕ)) (command : Command) (run : ThreadedRun)
+    → IsCourse bytes command (InThreads run.workers) → run.options ≡ options_of command → AreCut bytes (files_of command) run.scripts.items → IsToRun bytes command run
+is_to_run bytes (Run workers options files) run course same are = let so : run.workers ≡ workers = cc in (so, same, are)
+is_to_run bytes (Replay options schedule files) run (text, turns, is, said, of) same are = cc
+is_to_run bytes (Generate seed) run course same are = cc
+
+-- once it is served, its command is answered
+pub threads_answer : (bytes : List ℕ → Option (List ℕ)) (text : List ℕ) (log : List EventTree) (work before after : ℕ) (command : Command) (run : ThreadedRun)
+    → IsToRun bytes command run → IsServedBy run.options run.scripts.items (InThreads run.workers) text log work before after → IsAnswered bytes command text log work before after
+threads_answer bytes text log work before after (Run workers options files) run is served =
+    run_of bytes (Run workers options files) run.options run.scripts.items (InThreads run.workers) text log work before after is.2 (ap InThreads is.0) is.1 served
+threads_answer bytes text log work before after (Replay options schedule files) run is served = absurd is
+threads_answer bytes text log work before after (Generate seed) run is served = absurd is
+
+-- and nothing is told to be wrong before it
+pub threads_not_wrong : (bytes : List ℕ → Option (List ℕ)) (command : Command) (run : ThreadedRun) (status at : ℕ) → IsToRun bytes command run → IsToldWrong bytes command status at → ⊥
+threads_not_wrong bytes (Run workers options files) run status at is told = read_not_wrong bytes (Run workers options files) run.scripts.items (InThreads run.workers) status at is.2 (ap InThreads is.0) told
+threads_not_wrong bytes (Replay options schedule files) run status at is told = absurd is
+threads_not_wrong bytes (Generate seed) run status at is told = absurd is

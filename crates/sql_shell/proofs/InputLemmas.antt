@@ -1,14 +1,16 @@
 -- A command's scripts and its schedule, beside what is told of their files.
 use Rattle.std.proofs.Common.{◌≡◌, ◌≢◌, ℕ, zero, suc, ◌-◌, ◌<◌, ◌≤◌, ◌⊎◌, inl, inr, List, ◌∷◌, [], Bool, true, false, length, take, Option, Some, None, refl, ap, sym, ◌∙◌, subst, arith}
-use Rattle.std.specs.Prelude.{IfSome, IsUtf8, ◌==◌, ◌||◌}
+use Rattle.std.specs.Prelude.{IfSome, IsUtf8, slice_get, ◌==◌, ◌||◌}
 use Rattle.std.proofs.lemmas.Bool.{ne_eqb}
+use Rattle.causes.specs.Faults.{Rose}
 use Rattle.causes.specs.Limits.{most_bytes}
 use Rattle.command_line.specs.declared.command.Command.{Command}
 use Rattle.command_line.specs.declared.command.Command.TheVariants.{Run, Replay, Generate}
+use Rattle.command_line.specs.declared.command.RunOptions.{RunOptions}
 use Rattle.command_line.specs.Command.{files_of}
 use Rattle.turn_lines.specs.Schedule.{Bad, Turns}
 use Rattle.sql_shell.specs.Failures.{status_of, at_of, is_by_bytes, is_by_content}
-use Rattle.sql_shell.specs.Inputs.{IsBadSchedule, IsCourse, IsFirstWrong, IsReached, IsReplay, IsSchedule, IsText, IsToldRight, IsToldWrong, IsWrongSchedule}
+use Rattle.sql_shell.specs.Inputs.{HasFailedAt, file_at, IsBadSchedule, IsCourse, IsFirstWrong, IsReached, IsReplay, IsSchedule, IsText, IsToldRight, IsToldWrong, IsWrongSchedule}
 use Rattle.sql_shell.specs.Inputs.{TooLong, NotText, BadLine}
 use Rattle.sql_shell.specs.Scripts.{AreCut, AreTexts, CanBeRun, IsFirstUnfit}
 use Rattle.sql_shell.specs.declared.inputs.Course.{Course}
@@ -156,6 +158,28 @@ module _ (bytes : List ℕ → Option (List ℕ)) where
     found_of (failure.NotText n) status at wrong fault words told calm = inl (same_wrong command 6 n status at (wrong refl) told)
     found_of (failure.BadLine n) status at wrong fault words told calm = inl (same_wrong command 7 n status at (wrong refl) told)
     found_of Memory status at wrong fault words told calm = inr refl
+
+-- ## Faults
+
+-- a script's name is that of its file
+script_at : (command : Command) (at : ℕ) → 1 ≤ at → at ≤ length (files_of command) → (name : List ℕ) → slice_get (files_of command) (at - 1) ≡ Some name → file_at command at ≡ Some name
+script_at command zero low within name named = absurd (omega (arith, low))
+script_at (Run workers options files) (suc at) low within name named = let back : suc at - 1 ≡ at = omega arith in subst (λ n. slice_get files n ≡ Some name) back named
+script_at (Replay options schedule files) (suc at) low within name named = let back : suc at - 1 ≡ at = omega arith in subst (λ n. slice_get files n ≡ Some name) back named
+script_at (Generate seed) (suc at) low within name named = absurd (omega (arith, within))
+
+module _ (before now : ℕ) (failed : List ℕ → Type 0) where
+  pub script_failed : (command : Command) (at : ℕ) → Rose before now → 1 ≤ at → at ≤ length (files_of command)
+      → (name : List ℕ) × (slice_get (files_of command) (at - 1) ≡ Some name) × failed name → HasFailedAt command before now failed at
+  script_failed command at rose low within (name, named, here) = record { rose = rose; name = name; named = script_at command at low within name named; failed_here = here }
+
+  pub schedule_failed : (options : RunOptions) (schedule : List ℕ) (files : List (List ℕ)) → Rose before now → failed schedule → HasFailedAt (Replay options schedule files) before now failed 0
+  schedule_failed options schedule files rose here = record { rose = rose; name = schedule; named = refl; failed_here = here }
+
+  -- a fault after others were read without one
+  pub failed_since : (command : Command) (first at : ℕ) → before ≡ first → at ≡ 0 → HasFailedAt command before now failed 0 → HasFailedAt command first now failed at
+  failed_since command first at same zero_at has =
+      subst (HasFailedAt command first now failed) (sym zero_at) (subst (λ n. HasFailedAt command n now failed 0) same has)
 
 -- what holds of the command holds where the words name it
 pub lifted : {X : Type 0} (o : Option X) (x : X) (P : X → Type 0) → o ≡ Some x → P x → IfSome o P

@@ -22,7 +22,7 @@ use Rattle.sql_shell.specs.Inputs.{IsCourse}
 use Rattle.sql_shell.specs.Ready.{IsServedBy}
 use Rattle.sql_shell.specs.Scripts.{AreCut, names_of}
 use Rattle.sql_shell.specs.Served.{AreAllRead, IsMade, IsRun, IsServed, pool_of, texts_under}
-use Rattle.sql_shell.specs.declared.inputs.Inputs.{Inputs}
+use Rattle.sql_shell.specs.declared.inputs.Course.{Course}
 use Rattle.sql_shell.specs.declared.scripts.Script.{Script}
 use Rattle.sql_shell.proofs.ScriptLemmas.{are_of}
 
@@ -109,23 +109,22 @@ served_of options names scripts text texts log totals same sessions are is print
     }
 
 -- the run of scripts that were read is that of the command
-pub run_of : (bytes : List ℕ → Option (List ℕ)) (command : Command) (options : RunOptions) (inputs : Inputs) (text : List ℕ) (log : List EventTree) (work before after : ℕ)
-    → AreCut bytes (files_of command) inputs.scripts.items → IsCourse bytes command inputs.course → options ≡ options_of command → IsServedBy options inputs text log work before after
+pub run_of : (bytes : List ℕ → Option (List ℕ)) (command : Command) (options : RunOptions) (scripts : List Script) (course : Course) (text : List ℕ) (log : List EventTree) (work before after : ℕ)
+    → AreCut bytes (files_of command) scripts → IsCourse bytes command course → options ≡ options_of command → IsServedBy options scripts course text log work before after
     → IsRun bytes command text log work before after
-run_of bytes command options inputs text log work before after are course same (served, made) =
-    let scripts = inputs.scripts.items in
+run_of bytes command options scripts course text log work before after are is same (served, made) =
     let of = are_of bytes (files_of command) scripts are in
     record {
       scripts = of.texts;
       told = of.told;
       runnable = of.runnable;
-      course = inputs.course;
-      course_is = course;
+      course = course;
+      course_is = is;
       served = subst (λ (o : RunOptions). IsServed o (files_of command) (map pieces_of of.texts) text log work) same
           (subst (λ (names : List (List ℕ)). IsServed options names (map pieces_of of.texts) text log work) of.named
           (subst (λ (pieces : List (List (List ℕ))). IsServed options (names_of scripts) pieces text log work) of.cut served));
-      made = subst (λ (o : RunOptions). IsMade (pool_of o) (map pieces_of of.texts) inputs.course log before after) same
-          (subst (λ (pieces : List (List (List ℕ))). IsMade (pool_of options) pieces inputs.course log before after) of.cut made);
+      made = subst (λ (o : RunOptions). IsMade (pool_of o) (map pieces_of of.texts) course log before after) same
+          (subst (λ (pieces : List (List (List ℕ))). IsMade (pool_of options) pieces course log before after) of.cut made);
     }
 
 -- ## Texts under names, one after the other

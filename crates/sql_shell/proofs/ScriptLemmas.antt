@@ -1,6 +1,6 @@
 -- Scripts that were read, beside what is told of their files.
-use Rattle.std.proofs.Common.{◌≡◌, ℕ, suc, ◌+◌, ◌<◌, ◌≤◌, ◌⊎◌, inl, inr, List, [], ◌∷◌, ◌++◌, true, length, map, take, drop, slice_index_or, Option, Some, None, refl, ap, sym, ◌∙◌, subst, arith}
-use Rattle.std.specs.Prelude.{IfSome, replicate}
+use Rattle.std.proofs.Common.{◌≡◌, ℕ, zero, suc, ◌+◌, ◌<◌, ◌≤◌, ◌⊎◌, inl, inr, List, [], ◌∷◌, ◌++◌, true, length, map, take, drop, slice_index_or, Option, Some, None, refl, ap, sym, ◌∙◌, subst, arith}
+use Rattle.std.specs.Prelude.{IfSome, replicate, slice_get}
 use Rattle.std.specs.List.{AllByRecursion}
 use Rattle.std.proofs.lemmas.List.{take_more, take-append-drop, length-take-le, length-replicate}
 use Rattle.std.proofs.Math.Seq.{drop-cons}
@@ -19,6 +19,14 @@ use Rattle.sql_shell.proofs.TextLemmas.{no_utf8}
 pub some_of : {X : Type 0} (o : Option X) (P : X → Type 0) (x : X) → o ≡ Some x → IfSome o P → P x
 some_of None P x e h = cc
 some_of (Some y) P x e h = let same : y ≡ x = cc in subst P same h
+
+-- ## Names
+
+-- the name at a place inside
+pub name_at : (names : List (List ℕ)) (i : ℕ) (name : List ℕ) → i < length names → name ≡ slice_index_or names i name → slice_get names i ≡ Some name
+name_at [] i name inside is = absurd (omega (arith, inside))
+name_at (n ∷ ns) zero name inside is = ap Some (sym is)
+name_at (n ∷ ns) (suc i) name inside is = name_at ns i name (omega (arith, inside)) is
 
 -- ## What is told
 

@@ -1,6 +1,7 @@
 -- What a command reads before its first statement: its scripts, and its schedule. A `generate` reads nothing.
-use Rattle.std.specs.Prelude.{◌≡◌, ℕ, zero, suc, ◌-◌, ◌≤◌, ◌<◌, ◌⊎◌, List, [], length, take, Option, Some, IfSome, IsUtf8}
+use Rattle.std.specs.Prelude.{◌≡◌, ℕ, zero, suc, ◌-◌, ◌≤◌, ◌<◌, ◌⊎◌, List, [], length, take, slice_get, Option, Some, None, IfSome, IsUtf8}
 use Rattle.std.specs.List.{AllByRecursion}
+use Rattle.causes.specs.Faults.{Rose}
 use Rattle.causes.specs.Limits.{most_bytes}
 use Rattle.command_line.specs.declared.command.Command.{Command}
 use Rattle.command_line.specs.declared.command.Command.TheVariants.{Run, Replay, Generate}
@@ -87,3 +88,24 @@ IsReached bytes (Run workers options files) at = (1 ≤ at) × CanBeRun bytes (t
 IsReached bytes (Replay options schedule files) zero = CanBeRun bytes files
 IsReached bytes (Replay options schedule files) (suc at) = CanBeRun bytes (take at files)
 IsReached bytes (Generate seed) at = ⊥
+
+-- ## Faults
+
+-- the file with this number: scripts are counted from 1, and the schedule is file 0
+abbrev pub file_at : Command → ℕ → Option (List ℕ)
+file_at (Run workers options files) zero = None
+file_at (Run workers options files) (suc at) = slice_get files at
+file_at (Replay options schedule files) zero = Some schedule
+file_at (Replay options schedule files) (suc at) = slice_get files at
+file_at (Generate seed) at = None
+
+-- the count of faults rose from here to there, and the last fault came at the file with this number
+pub record HasFailedAt (command : Command) (before now : ℕ) (failed : List ℕ → Type 0) (at : ℕ) : Type 0 where
+  pub rose : Rose before now
+  pub name : List ℕ
+  pub named : file_at command at ≡ Some name
+  pub failed_here : failed name
+
+-- it rose, and the last fault came at one of the command's files
+abbrev pub HasFailed : Command → ℕ → ℕ → (List ℕ → Type 0) → Type 0
+HasFailed command before now failed = (at : ℕ) × HasFailedAt command before now failed at

@@ -1,10 +1,10 @@
 //! What a command reads before its first statement.
-ghost use Rattle.std.specs.Prelude.{◌≡◌, ◌≢◌, ◌≤◌, [], ℕ, List, true, length, IfOk, IfErr, IsUtf8};
+ghost use Rattle.std.specs.Prelude.{◌≡◌, ◌≢◌, ◌≤◌, [], ℕ, List, true, length, IfOk, IfErr, IsUtf8, OnOk};
 ghost use Rattle.std.specs.List.{AllByRecursion};
 ghost use Rattle.causes.specs.Faults.{Rose};
 ghost use Rattle.sql_shell.specs.Answered as answered;
 ghost use Rattle.sql_shell.specs.Failures.{at_of, is_by_content, status_of};
-ghost use Rattle.sql_shell.specs.Inputs.{AreTurnsOf, HasBadSchedule, IsBadSchedule, IsCourse, IsFirstWrong, IsReached, IsReplay, IsSchedule, IsText, IsWrongSchedule};
+ghost use Rattle.sql_shell.specs.Inputs.{AreTurnsOf, HasBadSchedule, IsBadSchedule, IsCourse, IsFirstWrong, IsReached, IsReplay, IsSchedule, IsText, IsWrongSchedule, HasFailedAt};
 ghost use Rattle.command_line.specs.Command.{files_of as files_in, options_of as options_in};
 ghost use Rattle.sql_shell.specs.Scripts.{AreCut};
 
@@ -78,7 +78,9 @@ pub fn read_inputs<S: Scripts>(
     ensures course { IfOk result (λ inputs. IsCourse (S.bytes_of source.old) command.now inputs.course) }
     ensures each { IfOk result (λ inputs. AreTurnsOf (length (files_in command.now)) inputs.course) }
     ensures wrong { IfErr result (λ e. is_by_content (status_of e) ≡ true → IsFirstWrong (S.bytes_of source.old) command.now (status_of e) (at_of e)) }
-    ensures fault { IfErr result (λ e. status_of e ≡ 2 → Rose (S.faults source.old) (S.faults source.new)) }
+    ensures fault { IfErr result (λ e. status_of e ≡ 2 → HasFailedAt command.now (S.faults source.old) (S.faults source.new) (S.failed_at source.new) (at_of e)) }
+    ensures unfailed { IfErr result (λ e. status_of e ≢ 2 → S.faults source.new ≡ S.faults source.old) }
+    ensures uncounted { OnOk result (S.faults source.new ≡ S.faults source.old) }
     ensures reached { IfErr result (λ e. status_of e ≡ 2 → IsReached (S.bytes_of source.old) command.now (at_of e)) }
     ensures words { IfErr result (λ e. status_of e ≢ 1) }
     ensures file { IfErr result (λ e. status_of e ≢ 7 → at_of e ≤ length (files_in command.now)) }
@@ -103,7 +105,9 @@ fn read_course<S: Scripts>(
     ensures course { IfOk result (λ course. IsCourse (S.bytes_of source.old) command.now course) }
     ensures each { IfOk result (λ course. AreTurnsOf (length (files_in command.now)) course) }
     ensures wrong { IfErr result (λ e. is_by_content (status_of e) ≡ true → IsWrongSchedule (S.bytes_of source.old) command.now (status_of e) (at_of e)) }
-    ensures fault { IfErr result (λ e. status_of e ≡ 2 → Rose (S.faults source.old) (S.faults source.new) × IsReplay command.now) }
+    ensures fault { IfErr result (λ e. status_of e ≡ 2 → HasFailedAt command.now (S.faults source.old) (S.faults source.new) (S.failed_at source.new) 0 × IsReplay command.now) }
+    ensures unfailed { IfErr result (λ e. status_of e ≢ 2 → S.faults source.new ≡ S.faults source.old) }
+    ensures uncounted { OnOk result (S.faults source.new ≡ S.faults source.old) }
     ensures words { IfErr result (λ e. status_of e ≢ 1) }
     ensures schedule { IfErr result (λ e. status_of e ≢ 7 → at_of e ≡ 0) }
 {
@@ -133,6 +137,9 @@ fn read_schedule<S: Scripts>(
     ensures each { IfOk result (λ turns. AllByRecursion (λ turn. (1 ≤ turn) × (turn ≤ sessions)) turns.items) }
     ensures wrong { IfErr result (λ e. is_by_content (status_of e) ≡ true → HasBadSchedule (S.bytes_of source.old) name.now sessions (status_of e) (at_of e)) }
     ensures fault { IfErr result (λ e. status_of e ≡ 2 → Rose (S.faults source.old) (S.faults source.new)) }
+    ensures failed { IfErr result (λ e. status_of e ≡ 2 → S.failed_at source.new name.now) }
+    ensures unfailed { IfErr result (λ e. status_of e ≢ 2 → S.faults source.new ≡ S.faults source.old) }
+    ensures uncounted { OnOk result (S.faults source.new ≡ S.faults source.old) }
     ensures words { IfErr result (λ e. status_of e ≢ 1) }
     ensures schedule { IfErr result (λ e. status_of e ≢ 7 → at_of e ≡ 0) }
 {

@@ -1,20 +1,16 @@
 //! A run of scripts, and what is printed of it.
-ghost use Rattle.std.specs.Prelude.{◌≡◌, ◌≢◌, ◌≤◌, ◌+◌, ◌^◌, ◌++◌, ℕ, List, [], length, map, All, IfOk, if◌then◌else◌};
+ghost use Rattle.std.specs.Prelude.{◌≡◌, ◌≢◌, ◌≤◌, ◌++◌, ℕ, List, [], length, map, IfOk, if◌then◌else◌};
 ghost use Rattle.std.specs.declared.vec.Vec.{Vec as VecSeen};
 ghost use Rattle.std.specs.declared.alloc.Global.{Global as GlobalSeen};
-ghost use Rattle.std.specs.List.{AllByRecursion};
-ghost use Rattle.run_log.specs.Events.{EventTree, log_tree};
-ghost use Rattle.session_run.specs.Work.{run_totals};
-ghost use Rattle.run_sessions.specs.Tables.{AreTexts};
+ghost use Rattle.run_log.specs.Events.{log_tree};
 ghost use Rattle.answer_text.specs.Layout.{history_text, log_text, totals_text};
 ghost use Rattle.score_hook.specs.declared.stats.Evict.TheVariants.{Weighted};
 ghost use Rattle.score_hook.specs.Scores.{AreWeights, IsInRange, score_of};
 ghost use Rattle.sql_shell.specs.Scripts.{names_of, pieces_in};
 ghost use Rattle.sql_shell.specs.Ready.{AreReady, IsServedBy};
-ghost use Rattle.sql_shell.specs.Inputs.{AreTurnsOf};
-ghost use Rattle.sql_shell.specs.Served.{IsMade, pool_of, texts_under};
+ghost use Rattle.sql_shell.specs.Served.{pool_of, texts_under};
 
-use crate::inputs::{Course, Inputs};
+use crate::runner::Runner;
 use crate::scripts::Script;
 use answer_text::{write_history, write_log, write_session_line, write_totals};
 use bat_core::Operate;
@@ -22,13 +18,10 @@ use cell_core::{Memory, Sequence, Steps, Word};
 use command_line::RunOptions;
 use pool_policy::PoolOptions;
 use run_log::Event;
-use run_sessions::{Run, play_sessions};
+use run_sessions::Run;
 use score_hook::{Evict, Score, ScoreCall, Scorer, Stats, formula, weighted_formula};
 use std::alloc::Global;
-use std::sync::Wait;
 use std::sync::ledger::Ledger;
-use std::thread::Threads;
-use thread_sessions::serve_sessions;
 
 /// The most entries of a pool.
 const MOST_ENTRIES: u64 = 1_024;
@@ -44,38 +37,38 @@ pub struct Produced {
     pub work: u128,
 }
 
-/// Runs the scripts as sessions that share a pool of these options, in threads or by turns: their log, what
-/// is printed of it, and their work. By turns the counter rises by it, and by no more than that of the plans
-/// that overflow beside it.
-pub fn produce<R: Threads + Wait + Sync, E: Operate + Sync, L: Ledger>(
-    rt: &R,
+/// Runs the scripts as sessions that share a pool of these options, in threads or by turns, as the runner
+/// does: their log, what is printed of it, and their work. By turns the counter rises by it, and by no more
+/// than that of the plans that overflow beside it.
+pub fn produce<C: Runner, E: Operate + Sync, L: Ledger>(
+    runner: &C,
     alloc: Global,
     options: RunOptions,
-    inputs: Inputs,
+    scripts: Vec<Script>,
     kernel: &E,
     steps: &mut Steps<L>,
 ) -> Result<Produced, Memory>
-    requires { AreReady options inputs }
-    ensures { IfOk result (λ run. IsServedBy options inputs run.text.items (log_tree run.log) run.work steps.old steps.new) }
+    requires { AreReady options scripts.items (C.course runner.now) }
+    ensures { IfOk result (λ run. IsServedBy options scripts.items (C.course runner.now) run.text.items (log_tree run.log) run.work steps.old steps.new) }
 {
     match options.evict {
-        Evict::Weighted => produce_weighted(rt, alloc, options, inputs, kernel, steps),
-        _ => produce_plain(rt, alloc, options, inputs, kernel, steps),
+        Evict::Weighted => produce_weighted(runner, alloc, options, scripts, kernel, steps),
+        _ => produce_plain(runner, alloc, options, scripts, kernel, steps),
     }
 }
 
 /// The same where entries are scored by a rule that knows no weights of operators.
-fn produce_plain<R: Threads + Wait + Sync, E: Operate + Sync, L: Ledger>(
-    rt: &R,
+fn produce_plain<C: Runner, E: Operate + Sync, L: Ledger>(
+    runner: &C,
     alloc: Global,
     options: RunOptions,
-    inputs: Inputs,
+    scripts: Vec<Script>,
     kernel: &E,
     steps: &mut Steps<L>,
 ) -> Result<Produced, Memory>
     requires plain { options.evict ≢ Weighted }
-    requires ready { AreReady options inputs }
-    ensures { IfOk result (λ run. IsServedBy options inputs run.text.items (log_tree run.log) run.work steps.old steps.new) }
+    requires ready { AreReady options scripts.items (C.course runner.now) }
+    ensures { IfOk result (λ run. IsServedBy options scripts.items (C.course runner.now) run.text.items (log_tree run.log) run.work steps.old steps.new) }
 {
     let kind = options.evict;
     let call: ScoreCall = Box::new(
@@ -87,21 +80,21 @@ fn produce_plain<R: Threads + Wait + Sync, E: Operate + Sync, L: Ledger>(
         { formula(kind, stats, now) },
     )?;
     let scorer = Scorer::new(alloc, kind, call);
-    play(rt, alloc, options, inputs, &scorer, kernel, steps)
+    play(runner, alloc, options, scripts, &scorer, kernel, steps)
 }
 
 /// The same where they are scored by weights of operators, of which the closure has a list of its own.
-fn produce_weighted<R: Threads + Wait + Sync, E: Operate + Sync, L: Ledger>(
-    rt: &R,
+fn produce_weighted<C: Runner, E: Operate + Sync, L: Ledger>(
+    runner: &C,
     alloc: Global,
     options: RunOptions,
-    inputs: Inputs,
+    scripts: Vec<Script>,
     kernel: &E,
     steps: &mut Steps<L>,
 ) -> Result<Produced, Memory>
     requires weighted { options.evict ≡ Weighted }
-    requires ready { AreReady options inputs }
-    ensures { IfOk result (λ run. IsServedBy options inputs run.text.items (log_tree run.log) run.work steps.old steps.new) }
+    requires ready { AreReady options scripts.items (C.course runner.now) }
+    ensures { IfOk result (λ run. IsServedBy options scripts.items (C.course runner.now) run.text.items (log_tree run.log) run.work steps.old steps.new) }
 {
     let held = Vec::from_slice(alloc, options.weights.as_slice())?;
     let kept = Vec::from_slice(alloc, options.weights.as_slice())?;
@@ -114,29 +107,28 @@ fn produce_weighted<R: Threads + Wait + Sync, E: Operate + Sync, L: Ledger>(
         { weighted_formula(held.as_slice(), stats, now) },
     )?;
     let scorer = Scorer::weighted(kept, call);
-    play(rt, alloc, options, inputs, &scorer, kernel, steps)
+    play(runner, alloc, options, scripts, &scorer, kernel, steps)
 }
 
 /// The same with a scorer that is lent.
-fn play<R: Threads + Wait + Sync, E: Operate + Sync, L: Ledger>(
-    rt: &R,
+fn play<C: Runner, E: Operate + Sync, L: Ledger>(
+    runner: &C,
     alloc: Global,
     options: RunOptions,
-    inputs: Inputs,
+    scripts: Vec<Script>,
     scorer: &Scorer,
     kernel: &E,
     steps: &mut Steps<L>,
 ) -> Result<Produced, Memory>
     requires kind { scorer.now.kind ≡ options.evict }
     requires weights { scorer.now.weights.items ≡ options.weights }
-    requires ready { AreReady options inputs }
-    ensures { IfOk result (λ run. IsServedBy options inputs run.text.items (log_tree run.log) run.work steps.old steps.new) }
+    requires ready { AreReady options scripts.items (C.course runner.now) }
+    ensures { IfOk result (λ run. IsServedBy options scripts.items (C.course runner.now) run.text.items (log_tree run.log) run.work steps.old steps.new) }
 {
     let events = options.events;
-    let Inputs { scripts, course } = inputs;
     let Parts { names, scripts } = split(alloc, scripts)?;
     let pool = pool_for(options);
-    let run = run_scripts(rt, alloc, course, scripts, pool, scorer, kernel, steps)?;
+    let run = runner.run_scripts(alloc, scripts, pool, scorer, kernel, steps)?;
     let text = print_run(alloc, events, names.as_slice(), &run)?;
     let Run { log, totals, .. } = run;
     Ok(Produced {
@@ -144,45 +136,6 @@ fn play<R: Threads + Wait + Sync, E: Operate + Sync, L: Ledger>(
         text,
         work: totals.work,
     })
-}
-
-/// Runs sessions, one for each script, in threads or by turns.
-fn run_scripts<R: Threads + Wait + Sync, E: Operate + Sync, L: Ledger>(
-    rt: &R,
-    alloc: Global,
-    course: Course,
-    scripts: Vec<Sequence<Word>>,
-    pool: PoolOptions,
-    scorer: &Scorer,
-    kernel: &E,
-    steps: &mut Steps<L>,
-) -> Result<Run, Memory>
-    requires few { length scripts.items ≤ 16 }
-    requires short { AllByRecursion (λ (pieces : List (List ℕ)). length pieces ≤ 256) scripts.items }
-    requires turns { AreTurnsOf (length scripts.items) course }
-    requires kind { scorer.now.kind ≡ pool.evict }
-    requires weights { scorer.now.weights.items ≡ pool.weights }
-    requires places { pool.places ≤ 1024 }
-    requires budget { pool.budget ≤ 2 ^ 40 }
-    ensures made { IfOk result (λ run. IsMade pool scripts.items course (log_tree run.log.items) steps.old steps.new) }
-    ensures sessions { IfOk result (λ run. AllByRecursion (λ (event : EventTree). (1 ≤ event.session) × (event.session ≤ length scripts.items)) (log_tree run.log.items)) }
-    ensures texts { IfOk result (λ run. AreTexts (log_tree run.log.items) 1 scripts.items (map (λ (text : VecSeen ℕ GlobalSeen). text.items) run.texts.items)) }
-    ensures totals { IfOk result (λ run. run.totals ≡ run_totals pool (log_tree run.log.items)) }
-{
-    match course {
-        Course::InThreads(workers) => {
-            serve_sessions(rt, alloc, scripts, pool, scorer, kernel, workers)
-        }
-        Course::ByTurns(turns) => play_sessions(
-            alloc,
-            scripts,
-            turns.as_slice(),
-            pool,
-            scorer,
-            kernel,
-            steps,
-        ),
-    }
 }
 
 /// The pool of a run with these options.

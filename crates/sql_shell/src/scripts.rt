@@ -1,5 +1,5 @@
 //! Reading the scripts of a run.
-ghost use Rattle.std.specs.Prelude.{◌≡◌, ◌≢◌, ◌≤◌, ◌-◌, ◌⊎◌, ℕ, List, true, length, take, IfOk, IfErr, IfSome};
+ghost use Rattle.std.specs.Prelude.{◌≡◌, ◌≢◌, ◌≤◌, ◌-◌, ◌⊎◌, ℕ, List, true, length, take, slice_get, IfOk, IfErr, IfSome, OnOk, Some};
 ghost use Rattle.causes.specs.Faults.{Rose};
 ghost use Rattle.sql_tree.specs.Pieces.{pieces_of};
 ghost use Rattle.sql_shell.specs.Failures.{status_of, at_of, is_by_bytes};
@@ -113,11 +113,13 @@ pub fn read_scripts<S: Scripts>(
     ensures unfit { IfErr result (λ e. is_by_bytes (status_of e) ≡ true →
         (texts : List (List ℕ)) × AreTexts (S.bytes_of source.old) names.now texts × IsFirstUnfit 1 texts (status_of e) (at_of e)) }
     ensures fault { IfErr result (λ e. status_of e ≡ 2 → Rose (S.faults source.old) (S.faults source.new)) }
+    ensures failed { IfErr result (λ e. status_of e ≡ 2 → (name : List ℕ) × (slice_get names.now (at_of e - 1) ≡ Some name) × S.failed_at source.new name) }
+    ensures unfailed { IfErr result (λ e. status_of e ≢ 2 → S.faults source.new ≡ S.faults source.old) }
+    ensures uncounted { OnOk result (S.faults source.new ≡ S.faults source.old) }
     ensures reached { IfErr result (λ e. status_of e ≡ 2 → (1 ≤ at_of e) × CanBeRun (S.bytes_of source.old) (take (at_of e - 1) names.now)) }
     ensures words { IfErr result (λ e. status_of e ≢ 1) }
     ensures script { IfErr result (λ e. status_of e ≢ 7) }
     ensures within { IfErr result (λ e. at_of e ≤ length names.now) }
-    ensures later { S.faults source.old ≤ S.faults source.new }
     ensures same { (other : List ℕ) → S.bytes_of source.new other ≡ S.bytes_of source.old other }
 {
     let mut read = Vec::new(alloc);
@@ -141,10 +143,12 @@ fn read_script<S: Scripts>(
     ensures cut { IfOk result (λ script. IsCut (S.bytes_of source.old) name.now script) }
     ensures unfit { IfErr result (λ e. is_by_bytes (status_of e) ≡ true → IfSome (S.bytes_of source.old name.now) (λ text. IsUnfit text (status_of e))) }
     ensures fault { IfErr result (λ e. status_of e ≡ 2 → Rose (S.faults source.old) (S.faults source.new)) }
+    ensures failed { IfErr result (λ e. status_of e ≡ 2 → S.failed_at source.new name.now) }
+    ensures unfailed { IfErr result (λ e. status_of e ≢ 2 → S.faults source.new ≡ S.faults source.old) }
+    ensures uncounted { OnOk result (S.faults source.new ≡ S.faults source.old) }
     ensures words { IfErr result (λ e. status_of e ≢ 1) }
     ensures script { IfErr result (λ e. status_of e ≢ 7) }
     ensures place { IfErr result (λ e. (status_of e ≡ 5) × (at_of e ≡ 0) ⊎ (at_of e ≡ number)) }
-    ensures later { S.faults source.old ≤ S.faults source.new }
     ensures same { (other : List ℕ) → S.bytes_of source.new other ≡ S.bytes_of source.old other }
 {
     match read_all(alloc, source, name.text()) {

@@ -1,4 +1,4 @@
-//! The run: a command among the words, its scripts and schedule, sessions, and what is written.
+//! The program as one call, and what it answers.
 ghost use Rattle.std.specs.Prelude.{◌≡◌, ◌≢◌, ◌≤◌, ◌⊎◌, ℕ, List, [], true, length, IfSome, None};
 ghost use Rattle.std.specs.Io.KnownBytes.{Appends};
 ghost use Rattle.causes.specs.Faults.{AppendsPrefix, Rose};
@@ -6,18 +6,18 @@ ghost use Rattle.run_log.specs.Events.{log_tree};
 ghost use Rattle.command_line.specs.Command.{command_named, files_of};
 ghost use Rattle.sql_shell.specs.Answered.{IsAnswered};
 ghost use Rattle.sql_shell.specs.Failures.{status_of, at_of};
-ghost use Rattle.sql_shell.specs.Inputs.{IsFirstWrong, IsReached, IsToldRight, IsToldWrong};
+ghost use Rattle.sql_shell.specs.Inputs.{HasFailed, HasFailedAt, IsFirstWrong, IsReached, IsToldRight, IsToldWrong};
 ghost use Rattle.sql_shell.specs.Ready.{AreReady, IsServedBy};
 ghost use Rattle.sql_shell.specs.Served.{is_status};
 
-use crate::generate::serve_generated;
-use crate::inputs::{Inputs, options_of, read_inputs, seed_of};
+use crate::begun::{Begun, ThreadedRun, top_by_turns};
 use crate::produce::{Produced, produce};
-use crate::scripts::{Failure, STATUS_SERVED, STATUS_UNWRITTEN};
+use crate::runner::{Runner, ThreadRunner};
+use crate::scripts::{Failure, STATUS_SERVED, STATUS_UNWRITTEN, Script};
 use bat_core::Operate;
 use causes::{Scripts, Sink, write_all};
 use cell_core::{Memory, Sequence, Steps, Word};
-use command_line::{RunOptions, command_of};
+use command_line::RunOptions;
 use run_log::Event;
 use std::alloc::Global;
 use std::sync::Wait;
@@ -69,13 +69,15 @@ pub fn top<R: Threads + Wait + Sync, S: Scripts, K: Sink, E: Operate + Sync, L: 
     ensures wrong { (result.status ≡ 4) ⊎ (result.status ≡ 6) ⊎ (result.status ≡ 7) → IfSome (command_named words.now) (λ command.
         IsFirstWrong (S.bytes_of scripts.old) command result.status result.at) }
     ensures found { IfSome (command_named words.now) (λ command. (status at : ℕ)
-        → IsToldWrong (S.bytes_of scripts.old) command status at → ¬ Rose (S.faults scripts.old) (S.faults scripts.new)
+        → IsToldWrong (S.bytes_of scripts.old) command status at → ¬ HasFailed command (S.faults scripts.old) (S.faults scripts.new) (S.failed_at scripts.new)
         → ((result.status ≡ status) × (result.at ≡ at)) ⊎ (result.status ≡ 5)) }
-    ensures read_fault { result.status ≡ 2 → Rose (S.faults scripts.old) (S.faults scripts.new) }
+    ensures read_fault { result.status ≡ 2 → IfSome (command_named words.now) (λ command.
+        HasFailedAt command (S.faults scripts.old) (S.faults scripts.new) (S.failed_at scripts.new) result.at) }
+    ensures no_fault { result.status ≢ 2 → S.faults scripts.new ≡ S.faults scripts.old }
     ensures reached { result.status ≡ 2 → IfSome (command_named words.now) (λ command. IsReached (S.bytes_of scripts.old) command result.at) }
     ensures write_fault { result.status ≡ 3 → Rose (K.faults out.old) (K.faults out.new) }
     ensures complete { IfSome (command_named words.now) (λ command. IsToldRight (S.bytes_of scripts.old) command
-        → ¬ Rose (S.faults scripts.old) (S.faults scripts.new) → ¬ Rose (K.faults out.old) (K.faults out.new)
+        → ¬ HasFailed command (S.faults scripts.old) (S.faults scripts.new) (S.failed_at scripts.new) → ¬ Rose (K.faults out.old) (K.faults out.new)
         → (result.status ≡ 0) ⊎ (result.status ≡ 5)) }
     ensures known { is_status result.status ≡ true }
     ensures at { (result.status ≡ 0) ⊎ (result.status ≡ 1) ⊎ (result.status ≡ 3) ⊎ (result.status ≡ 5) → result.at ≡ 0 }
@@ -87,25 +89,17 @@ pub fn top<R: Threads + Wait + Sync, S: Scripts, K: Sink, E: Operate + Sync, L: 
     // No statement is run then; what is counted otherwise stands in the run's record.
     ensures idle { (result.status ≢ 0) → (result.status ≢ 3) → (result.status ≢ 5) → steps.new ≡ steps.old }
 {
-    let command = match command_of(alloc, words) {
-        Ok(Some(command)) => command,
-        Ok(None) => return failed(alloc, Failure::Words),
-        Err(Memory) => return failed(alloc, Failure::Memory),
-    };
-    match seed_of(&command) {
-        Some(seed) => serve_generated(alloc, seed, out, kernel, steps),
-        None => match read_inputs(alloc, scripts, &command) {
-            Ok(inputs) => serve(
-                rt,
-                alloc,
-                options_of(alloc, command),
-                inputs,
-                out,
-                kernel,
-                steps,
-            ),
-            Err(failure) => failed(alloc, failure),
-        },
+    match top_by_turns(alloc, words, scripts, out, kernel, steps) {
+        Begun::Answered(served) => served,
+        Begun::ToRun(run) => {
+            let ThreadedRun {
+                options,
+                workers,
+                scripts,
+            } = run;
+            let runner = ThreadRunner { rt, workers };
+            serve(&runner, alloc, options, scripts, out, kernel, steps)
+        }
     }
 }
 
@@ -125,26 +119,26 @@ pub(crate) fn failed(alloc: Global, failure: Failure) -> Served
 }
 
 /// Runs scripts that were read, and writes what is printed of their run.
-fn serve<R: Threads + Wait + Sync, K: Sink, E: Operate + Sync, L: Ledger>(
-    rt: &R,
+pub(crate) fn serve<C: Runner, K: Sink, E: Operate + Sync, L: Ledger>(
+    runner: &C,
     alloc: Global,
     options: RunOptions,
-    inputs: Inputs,
+    scripts: Vec<Script>,
     out: &mut K,
     kernel: &E,
     steps: &mut Steps<L>,
 ) -> Served
-    requires ready { AreReady options inputs }
+    requires ready { AreReady options scripts.items (C.course runner.now) }
     ensures served { result.status ≡ 0 → (text : List ℕ) × Appends (K.contents out.old) (K.contents out.new) text
-        × IsServedBy options inputs text (log_tree result.log) result.work steps.old steps.new }
+        × IsServedBy options scripts.items (C.course runner.now) text (log_tree result.log) result.work steps.old steps.new }
     ensures prefix { result.status ≡ 3 → (text : List ℕ) × AppendsPrefix (K.contents out.old) (K.contents out.new) text
-        × IsServedBy options inputs text (log_tree result.log) result.work steps.old steps.new }
+        × IsServedBy options scripts.items (C.course runner.now) text (log_tree result.log) result.work steps.old steps.new }
     ensures write_fault { result.status ≡ 3 → Rose (K.faults out.old) (K.faults out.new) }
     ensures known { (result.status ≡ 0) ⊎ (result.status ≡ 3) ⊎ (result.status ≡ 5) }
     ensures silent { result.status ≡ 5 → (K.contents out.new ≡ K.contents out.old) × (result.log ≡ []) × (result.work ≡ 0) }
     ensures at { result.at ≡ 0 }
 {
-    match produce(rt, alloc, options, inputs, kernel, steps) {
+    match produce(runner, alloc, options, scripts, kernel, steps) {
         Err(Memory) => failed(alloc, Failure::Memory),
         Ok(produced) => hand_out(out, produced),
     }

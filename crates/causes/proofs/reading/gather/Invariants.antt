@@ -8,9 +8,10 @@ invariant-pieces g l = record {
   reserved : MOST_BYTES ≤ vec_capacity l.all;
   room : 0 < length l.piece.items;
   started : g.S.Scripts.is_started l.scripts;
+  reading : g.S.Scripts.is_reading l.scripts l.fn.name;
   so_far : Consumes (g.S.Scripts.bytes_of l.fn.scripts l.fn.name) (g.S.Scripts.remaining l.scripts) l.all.items;
   within : length l.all.items ≤ MOST_BYTES;
-  later : g.S.Scripts.faults l.fn.scripts ≤ g.S.Scripts.faults l.scripts;
+  uncounted : g.S.Scripts.faults l.scripts ≡ g.S.Scripts.faults l.fn.scripts;
   same : (other : List ℕ) → g.S.Scripts.bytes_of l.scripts other ≡ g.S.Scripts.bytes_of l.fn.scripts other;
 }
 

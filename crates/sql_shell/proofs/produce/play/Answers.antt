@@ -19,21 +19,21 @@ use Rattle.sql_shell.proofs.PrintLemmas.{all_items, served_of, texts_many}
 use Rattle.sql_shell.proofs.produce.play.Goals as goal
 
 pub run_scripts-requires-clause-turns : goal.run_scripts-requires-clause-turns
-run_scripts-requires-clause-turns g c κs within =
-    let scripts = c.args.inputs.scripts.items in
+run_scripts-requires-clause-turns g c =
+    let scripts = c.args.scripts.items in
     let many : length c.in_ok-names.field-0.scripts.items ≡ length scripts = ap length c.in_ok-names.ensures.scripts ∙ length-map scripts (λ (s : Script). s.pieces) in
-    subst (λ n. AreTurnsOf n c.args.inputs.course) (sym many) c.requires.ready.turns
+    subst (λ n. AreTurnsOf n (g.C.Runner.course c.args.runner.now)) (sym many) c.requires.ready.turns
 
 pub run_scripts-requires-clause-kind : goal.run_scripts-requires-clause-kind
-run_scripts-requires-clause-kind g c κs within = c.requires.kind ∙ ap (λ (o : PoolOptions). o.evict) (sym c.pool_for-pool.ensures)
+run_scripts-requires-clause-kind g c = c.requires.kind ∙ ap (λ (o : PoolOptions). o.evict) (sym c.pool_for-pool.ensures)
 
 pub run_scripts-requires-clause-weights : goal.run_scripts-requires-clause-weights
-run_scripts-requires-clause-weights g c κs within = c.requires.weights ∙ ap (λ (o : PoolOptions). o.weights) (sym c.pool_for-pool.ensures)
+run_scripts-requires-clause-weights g c = c.requires.weights ∙ ap (λ (o : PoolOptions). o.weights) (sym c.pool_for-pool.ensures)
 
 pub print_run-requires-clause-each : goal.print_run-requires-clause-each
 print_run-requires-clause-each g c =
     let texts = c.in_ok-run.run'.texts.items in
-    let scripts = c.args.inputs.scripts.items in
+    let scripts = c.args.scripts.items in
     let many = texts_many (log_tree c.in_ok-run.run'.log.items) 1 c.in_ok-names.field-0.scripts.items (all_items texts) c.in_ok-run.ensures.texts in
     let items = length-map texts (λ (t : Vec ℕ Global). t.items) in
     let pieces = ap length c.in_ok-names.ensures.scripts ∙ length-map scripts (λ (s : Script). s.pieces) in
@@ -43,26 +43,27 @@ print_run-requires-clause-each g c =
 pub returns : goal.returns
 returns g c =
     let options = c.args.options in
-    let inputs = c.args.inputs in
-    let pieces = pieces_in inputs.scripts.items in
+    let scripts = c.args.scripts.items in
+    let course = g.C.Runner.course c.args.runner.now in
+    let pieces = pieces_in scripts in
     let run = c.in_ok-run.run' in
     let log = log_tree run.log.items in
     let ran = c.in_ok-run.ensures in
     let pool = c.pool_for-pool.ensures in
     let before = c.args.steps.now in
     let after = c.run_scripts.new.steps in
-    let texts : AreTexts log 1 pieces (all_items run.texts.items) = subst (λ (scripts : List (List (List ℕ))). AreTexts log 1 scripts (all_items run.texts.items)) c.in_ok-names.ensures.scripts ran.texts in
+    let texts : AreTexts log 1 pieces (all_items run.texts.items) = subst (λ (split : List (List (List ℕ))). AreTexts log 1 split (all_items run.texts.items)) c.in_ok-names.ensures.scripts ran.texts in
     let many = texts_many log 1 pieces (all_items run.texts.items) texts in
-    let names = length-map inputs.scripts.items (λ (s : Script). s.name) in
-    let count = length-map inputs.scripts.items (λ (s : Script). s.pieces) in
-    subst (λ (events : List Event). IsServedBy options inputs c.in_ok-text.text.items (log_tree events) run.totals.work before after) (sym c.from_vec.ensures) (
-      served_of options (names_of inputs.scripts.items) pieces c.in_ok-text.text.items (all_items run.texts.items) log run.totals
+    let names = length-map scripts (λ (s : Script). s.name) in
+    let count = length-map scripts (λ (s : Script). s.pieces) in
+    subst (λ (events : List Event). IsServedBy options scripts course c.in_ok-text.text.items (log_tree events) run.totals.work before after) (sym c.from_vec.ensures) (
+      served_of options (names_of scripts) pieces c.in_ok-text.text.items (all_items run.texts.items) log run.totals
           (omega (arith, many, names, count))
-          (subst (λ (scripts : List (List (List ℕ))). AllByRecursion (λ (event : EventTree). (1 ≤ event.session) × (event.session ≤ length scripts)) log) c.in_ok-names.ensures.scripts ran.sessions)
+          (subst (λ (split : List (List (List ℕ))). AllByRecursion (λ (event : EventTree). (1 ≤ event.session) × (event.session ≤ length split)) log) c.in_ok-names.ensures.scripts ran.sessions)
           texts
           (ran.totals ∙ ap (λ o. run_totals o log) pool)
           (c.in_ok-text.ensures ∙ ap (λ (names : List (List ℕ)). ((texts_under 1 names (all_items run.texts.items) ++ history_text log) ++ totals_text run.totals) ++ (if options.events then log_text log else []))
           (c.as_slice.ensures.value ∙ c.in_ok-names.ensures.names)),
-      subst (λ (o : PoolOptions). IsMade o pieces inputs.course log before after) pool
-          (subst (λ (scripts : List (List (List ℕ))). IsMade c.pool_for-pool.result scripts inputs.course log before after) c.in_ok-names.ensures.scripts ran.made),
+      subst (λ (o : PoolOptions). IsMade o pieces course log before after) pool
+          (subst (λ (split : List (List (List ℕ))). IsMade c.pool_for-pool.result split course log before after) c.in_ok-names.ensures.scripts ran.made),
     )

@@ -1,5 +1,5 @@
 use Rattle.std.proofs.Common.{rules, sym, ap}
-use Rattle.causes.proofs.Places.{started-bytes, absent-bytes}
+use Rattle.causes.proofs.Places.{started-bytes, absent-bytes, place-shown}
 use Rattle.causes.proofs.open_files.OpenFiles.open.Goals as goal
 
 pub returns-in-Some-clause-found : goal.returns-in-Some-clause-found
@@ -10,3 +10,6 @@ returns-in-Some-clause-begins c = sym (started-bytes _ _ _ _ _ c.in-Some.ensures
 
 pub returns-in-None-clause-found : goal.returns-in-None-clause-found
 returns-in-None-clause-found c = rw (absent-bytes _ _ _ _ c.in-None.ensures c.deref.ensures.value (ap (λ seen. seen.files) c.self.view_is)) (search rules)
+
+pub returns-in-Some-clause-started : goal.returns-in-Some-clause-started
+returns-in-Some-clause-started c = place-shown _ _ _ _ _ c.in-Some.ensures c.deref.ensures.value (ap (λ seen. seen.files) c.self.view_is)

@@ -1,0 +1,107 @@
+//! How the sessions of a run go: by turns on one thread, or in threads.
+ghost use Rattle.std.specs.Prelude.{◌≡◌, ◌≤◌, ◌^◌, ℕ, List, length, map, IfOk};
+ghost use Rattle.std.specs.declared.vec.Vec.{Vec as VecSeen};
+ghost use Rattle.std.specs.declared.alloc.Global.{Global as GlobalSeen};
+ghost use Rattle.std.specs.List.{AllByRecursion};
+ghost use Rattle.run_log.specs.Events.{EventTree, log_tree};
+ghost use Rattle.session_run.specs.Work.{run_totals};
+ghost use Rattle.run_sessions.specs.Tables.{AreTexts};
+ghost use Rattle.sql_shell.specs.declared.inputs.Course.{Course as CourseSeen};
+ghost use Rattle.sql_shell.specs.declared.inputs.Course.TheVariants.{ByTurns, InThreads};
+ghost use Rattle.sql_shell.specs.Inputs.{AreTurnsOf};
+ghost use Rattle.sql_shell.specs.Served.{IsMade};
+
+use bat_core::Operate;
+use cell_core::{Memory, Sequence, Steps, Word};
+use pool_policy::PoolOptions;
+use run_sessions::{Run, play_sessions};
+use score_hook::Scorer;
+use std::alloc::Global;
+use std::sync::Wait;
+use std::sync::ledger::Ledger;
+use std::thread::Threads;
+use thread_sessions::serve_sessions;
+
+/// What runs sessions. One whose type has no handle to wait by returns.
+pub trait Runner {
+    // The course that they take.
+    ghost course: { Self → CourseSeen };
+
+    /// Runs sessions, one for each script, that share a pool of these options.
+    fn run_scripts<E: Operate + Sync, L: Ledger>(
+        &self,
+        alloc: Global,
+        scripts: Vec<Sequence<Word>>,
+        pool: PoolOptions,
+        scorer: &Scorer,
+        kernel: &E,
+        steps: &mut Steps<L>,
+    ) -> Result<Run, Memory>
+        requires few { length scripts.items ≤ 16 }
+        requires short { AllByRecursion (λ (pieces : List (List ℕ)). length pieces ≤ 256) scripts.items }
+        requires turns { AreTurnsOf (length scripts.items) (course self.now) }
+        requires kind { scorer.now.kind ≡ pool.evict }
+        requires weights { scorer.now.weights.items ≡ pool.weights }
+        requires places { pool.places ≤ 1024 }
+        requires budget { pool.budget ≤ 2 ^ 40 }
+        ensures made { IfOk result (λ run. IsMade pool scripts.items (course self.now) (log_tree run.log.items) steps.old steps.new) }
+        ensures sessions { IfOk result (λ run. AllByRecursion (λ (event : EventTree). (1 ≤ event.session) × (event.session ≤ length scripts.items)) (log_tree run.log.items)) }
+        ensures texts { IfOk result (λ run. AreTexts (log_tree run.log.items) 1 scripts.items (map (λ (text : VecSeen ℕ GlobalSeen). text.items) run.texts.items)) }
+        ensures totals { IfOk result (λ run. run.totals ≡ run_totals pool (log_tree run.log.items)) };
+}
+
+/// Runs them by these turns, on the thread that calls.
+#[derive(Drop)]
+pub struct TurnRunner {
+    /// The turns, each the number of a session.
+    pub turns: Sequence<u32>,
+}
+
+impl Runner for TurnRunner {
+    ghost course = { λ s. ByTurns s.turns };
+
+    fn run_scripts<E: Operate + Sync, L: Ledger>(
+        &self,
+        alloc: Global,
+        scripts: Vec<Sequence<Word>>,
+        pool: PoolOptions,
+        scorer: &Scorer,
+        kernel: &E,
+        steps: &mut Steps<L>,
+    ) -> Result<Run, Memory> {
+        play_sessions(
+            alloc,
+            scripts,
+            self.turns.as_slice(),
+            pool,
+            scorer,
+            kernel,
+            steps,
+        )
+    }
+}
+
+/// Runs each on a thread of its own, as far as threads can be made.
+#[derive(Drop)]
+pub struct ThreadRunner<'a, R: Threads + Wait + Sync> {
+    /// The runtime, which makes threads and waits.
+    pub rt: &'a R,
+    /// How many workers each query has.
+    pub workers: u32,
+}
+
+impl<'a, R: Threads + Wait + Sync> Runner for ThreadRunner<'a, R> {
+    ghost course = { λ s. InThreads s.workers };
+
+    fn run_scripts<E: Operate + Sync, L: Ledger>(
+        &self,
+        alloc: Global,
+        scripts: Vec<Sequence<Word>>,
+        pool: PoolOptions,
+        scorer: &Scorer,
+        kernel: &E,
+        _steps: &mut Steps<L>,
+    ) -> Result<Run, Memory> {
+        serve_sessions(self.rt, alloc, scripts, pool, scorer, kernel, self.workers)
+    }
+}
