@@ -10,7 +10,7 @@ ghost use Rattle.sql_shell.specs.Scripts.{names_of, pieces_in};
 ghost use Rattle.sql_shell.specs.Ready.{AreReady, IsServedBy};
 ghost use Rattle.sql_shell.specs.Served.{pool_of, texts_under};
 
-use crate::runner::Runner;
+use crate::runner::SessionRunner;
 use crate::scripts::Script;
 use answer_text::{write_history, write_log, write_session_line, write_totals};
 use bat_core::Operate;
@@ -40,7 +40,7 @@ pub struct Produced {
 /// Runs the scripts as sessions that share a pool of these options, in threads or by turns, as the runner
 /// does: their log, what is printed of it, and their work. By turns the counter rises by it, and by no more
 /// than that of the plans that overflow beside it.
-pub fn produce<C: Runner, E: Operate + Sync, L: Ledger>(
+pub fn produce<C: SessionRunner, E: Operate + Sync, L: Ledger>(
     runner: &C,
     alloc: Global,
     options: RunOptions,
@@ -58,7 +58,7 @@ pub fn produce<C: Runner, E: Operate + Sync, L: Ledger>(
 }
 
 /// The same where entries are scored by a rule that knows no weights of operators.
-fn produce_plain<C: Runner, E: Operate + Sync, L: Ledger>(
+fn produce_plain<C: SessionRunner, E: Operate + Sync, L: Ledger>(
     runner: &C,
     alloc: Global,
     options: RunOptions,
@@ -84,7 +84,7 @@ fn produce_plain<C: Runner, E: Operate + Sync, L: Ledger>(
 }
 
 /// The same where they are scored by weights of operators, of which the closure has a list of its own.
-fn produce_weighted<C: Runner, E: Operate + Sync, L: Ledger>(
+fn produce_weighted<C: SessionRunner, E: Operate + Sync, L: Ledger>(
     runner: &C,
     alloc: Global,
     options: RunOptions,
@@ -111,7 +111,7 @@ fn produce_weighted<C: Runner, E: Operate + Sync, L: Ledger>(
 }
 
 /// The same with a scorer that is lent.
-fn play<C: Runner, E: Operate + Sync, L: Ledger>(
+fn play<C: SessionRunner, E: Operate + Sync, L: Ledger>(
     runner: &C,
     alloc: Global,
     options: RunOptions,

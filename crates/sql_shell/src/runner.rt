@@ -23,7 +23,7 @@ use std::thread::Threads;
 use thread_sessions::serve_sessions;
 
 /// What runs sessions. One whose type has no handle to wait by returns.
-pub trait Runner {
+pub trait SessionRunner {
     // The course that they take.
     ghost course: { Self → CourseSeen };
 
@@ -57,7 +57,7 @@ pub struct TurnRunner {
     pub turns: Sequence<u32>,
 }
 
-impl Runner for TurnRunner {
+impl SessionRunner for TurnRunner {
     ghost course = { λ s. ByTurns s.turns };
 
     fn run_scripts<E: Operate + Sync, L: Ledger>(
@@ -90,7 +90,7 @@ pub struct ThreadRunner<'a, R: Threads + Wait + Sync> {
     pub workers: u32,
 }
 
-impl<'a, R: Threads + Wait + Sync> Runner for ThreadRunner<'a, R> {
+impl<'a, R: Threads + Wait + Sync> SessionRunner for ThreadRunner<'a, R> {
     ghost course = { λ s. InThreads s.workers };
 
     fn run_scripts<E: Operate + Sync, L: Ledger>(

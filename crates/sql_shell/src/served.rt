@@ -12,7 +12,7 @@ ghost use Rattle.sql_shell.specs.Served.{is_status};
 
 use crate::begun::{Begun, ThreadedRun, top_by_turns};
 use crate::produce::{Produced, produce};
-use crate::runner::{Runner, ThreadRunner};
+use crate::runner::{SessionRunner, ThreadRunner};
 use crate::scripts::{Failure, STATUS_SERVED, STATUS_UNWRITTEN, Script};
 use bat_core::Operate;
 use causes::{Scripts, Sink, write_all};
@@ -119,7 +119,7 @@ pub(crate) fn failed(alloc: Global, failure: Failure) -> Served
 }
 
 /// Runs scripts that were read, and writes what is printed of their run.
-pub(crate) fn serve<C: Runner, K: Sink, E: Operate + Sync, L: Ledger>(
+pub(crate) fn serve<C: SessionRunner, K: Sink, E: Operate + Sync, L: Ledger>(
     runner: &C,
     alloc: Global,
     options: RunOptions,

@@ -22,7 +22,7 @@ pub run_scripts-requires-clause-turns : goal.run_scripts-requires-clause-turns
 run_scripts-requires-clause-turns g c =
     let scripts = c.args.scripts.items in
     let many : length c.in_ok-names.field-0.scripts.items ≡ length scripts = ap length c.in_ok-names.ensures.scripts ∙ length-map scripts (λ (s : Script). s.pieces) in
-    subst (λ n. AreTurnsOf n (g.C.Runner.course c.args.runner.now)) (sym many) c.requires.ready.turns
+    subst (λ n. AreTurnsOf n (g.C.SessionRunner.course c.args.runner.now)) (sym many) c.requires.ready.turns
 
 pub run_scripts-requires-clause-kind : goal.run_scripts-requires-clause-kind
 run_scripts-requires-clause-kind g c = c.requires.kind ∙ ap (λ (o : PoolOptions). o.evict) (sym c.pool_for-pool.ensures)
@@ -44,7 +44,7 @@ pub returns : goal.returns
 returns g c =
     let options = c.args.options in
     let scripts = c.args.scripts.items in
-    let course = g.C.Runner.course c.args.runner.now in
+    let course = g.C.SessionRunner.course c.args.runner.now in
     let pieces = pieces_in scripts in
     let run = c.in_ok-run.run' in
     let log = log_tree run.log.items in

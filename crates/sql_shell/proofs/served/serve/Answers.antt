@@ -10,8 +10,8 @@ returns-in-Ok-clause-served g c zero =
     let handed = c.hand_out.ensures in (
       text,
       handed.served zero,
-      subst (λ (events : List Event). IsServedBy c.args.options c.args.scripts.items (g.C.Runner.course c.args.runner.now) text (log_tree events) c.hand_out.result.work c.args.steps.now c.produce.new.steps) (sym handed.log)
-          (subst (λ (work : ℕ). IsServedBy c.args.options c.args.scripts.items (g.C.Runner.course c.args.runner.now) text (log_tree c.in-Ok.produced.log) work c.args.steps.now c.produce.new.steps) (sym handed.work) c.in-Ok.ensures),
+      subst (λ (events : List Event). IsServedBy c.args.options c.args.scripts.items (g.C.SessionRunner.course c.args.runner.now) text (log_tree events) c.hand_out.result.work c.args.steps.now c.produce.new.steps) (sym handed.log)
+          (subst (λ (work : ℕ). IsServedBy c.args.options c.args.scripts.items (g.C.SessionRunner.course c.args.runner.now) text (log_tree c.in-Ok.produced.log) work c.args.steps.now c.produce.new.steps) (sym handed.work) c.in-Ok.ensures),
     )
 
 pub returns-in-Ok-clause-prefix : goal.returns-in-Ok-clause-prefix
@@ -20,6 +20,6 @@ returns-in-Ok-clause-prefix g c three =
     let handed = c.hand_out.ensures in (
       text,
       handed.prefix three,
-      subst (λ (events : List Event). IsServedBy c.args.options c.args.scripts.items (g.C.Runner.course c.args.runner.now) text (log_tree events) c.hand_out.result.work c.args.steps.now c.produce.new.steps) (sym handed.log)
-          (subst (λ (work : ℕ). IsServedBy c.args.options c.args.scripts.items (g.C.Runner.course c.args.runner.now) text (log_tree c.in-Ok.produced.log) work c.args.steps.now c.produce.new.steps) (sym handed.work) c.in-Ok.ensures),
+      subst (λ (events : List Event). IsServedBy c.args.options c.args.scripts.items (g.C.SessionRunner.course c.args.runner.now) text (log_tree events) c.hand_out.result.work c.args.steps.now c.produce.new.steps) (sym handed.log)
+          (subst (λ (work : ℕ). IsServedBy c.args.options c.args.scripts.items (g.C.SessionRunner.course c.args.runner.now) text (log_tree c.in-Ok.produced.log) work c.args.steps.now c.produce.new.steps) (sym handed.work) c.in-Ok.ensures),
     )
