@@ -12,6 +12,7 @@
 
 mod generate;
 mod inputs;
+mod numbers;
 mod produce;
 mod scripts;
 mod served;

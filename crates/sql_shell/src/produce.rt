@@ -4,6 +4,7 @@ ghost use Rattle.std.specs.declared.vec.Vec.{Vec as VecSeen};
 ghost use Rattle.std.specs.declared.alloc.Global.{Global as GlobalSeen};
 ghost use Rattle.std.specs.List.{AllByRecursion};
 ghost use Rattle.run_log.specs.Events.{EventTree, log_tree};
+ghost use Rattle.pool_sound.specs.Sound.{IsSoundAlong};
 ghost use Rattle.session_run.specs.Work.{run_totals};
 ghost use Rattle.run_sessions.specs.Tables.{AreTexts};
 ghost use Rattle.answer_text.specs.Layout.{history_text, log_text, totals_text};
@@ -15,6 +16,7 @@ ghost use Rattle.sql_shell.specs.Inputs.{AreTurnsOf};
 ghost use Rattle.sql_shell.specs.Served.{IsMade, pool_of, texts_under};
 
 use crate::inputs::{Course, Inputs};
+use crate::numbers::numbers_are_short;
 use crate::scripts::Script;
 use answer_text::{write_history, write_log, write_session_line, write_totals};
 use bat_core::Operate;
@@ -137,6 +139,7 @@ fn play<R: Threads + Wait + Sync, E: Operate + Sync, L: Ledger>(
     let Parts { names, scripts } = split(alloc, scripts)?;
     let pool = pool_for(options);
     let run = run_scripts(rt, alloc, course, scripts, pool, scorer, kernel, steps)?;
+    numbers_are_short(&run);
     let text = print_run(alloc, events, names.as_slice(), &run)?;
     let Run { log, totals, .. } = run;
     Ok(Produced {
@@ -166,6 +169,7 @@ fn run_scripts<R: Threads + Wait + Sync, E: Operate + Sync, L: Ledger>(
     requires budget { pool.budget ≤ 2 ^ 40 }
     ensures made { IfOk result (λ run. IsMade pool scripts.items course (log_tree run.log.items) steps.old steps.new) }
     ensures sessions { IfOk result (λ run. AllByRecursion (λ (event : EventTree). (1 ≤ event.session) × (event.session ≤ length scripts.items)) (log_tree run.log.items)) }
+    ensures sound { IfOk result (λ run. IsSoundAlong pool (log_tree run.log.items)) }
     ensures texts { IfOk result (λ run. AreTexts (log_tree run.log.items) 1 scripts.items (map (λ (text : VecSeen ℕ GlobalSeen). text.items) run.texts.items)) }
     ensures totals { IfOk result (λ run. run.totals ≡ run_totals pool (log_tree run.log.items)) }
 {
