@@ -4,6 +4,7 @@ ghost use Rattle.std.specs.List.{AllByRecursion};
 ghost use Rattle.std.specs.declared.vec.Vec.{Vec as VecSeen};
 ghost use Rattle.std.specs.declared.alloc.Global.{Global as GlobalSeen};
 ghost use Rattle.run_log.specs.Events.{EventTree, log_tree};
+ghost use Rattle.pool_sound.specs.Sound.{IsSoundAlong};
 ghost use Rattle.session_run.specs.declared.session.Session.{Session as SessionSeen};
 ghost use Rattle.session_run.specs.Work.{run_totals};
 ghost use Rattle.run_sessions.specs.Tables.{AreOver, AreStanding, AreTexts, scripts_of};
@@ -33,10 +34,13 @@ pub fn finish_run(alloc: Global, book: Book, sessions: Vec<Session>) -> Result<R
     requires over { AreOver (length sessions.items) sessions.items }
     requires sessions { AllByRecursion (λ (event : EventTree). (1 ≤ event.session) × (event.session ≤ length sessions.items)) (log_tree book.log) }
     ensures log { IfOk result (λ run. run.log.items ≡ book.log) }
+    ensures sound { IfOk result (λ run. IsSoundAlong book.options (log_tree run.log.items)) }
     ensures texts { IfOk result (λ run. AreTexts (log_tree book.log) 1 (scripts_of sessions.items) (map (λ (text : VecSeen ℕ GlobalSeen). text.items) run.texts.items)) }
     ensures totals { IfOk result (λ run. run.totals ≡ run_totals book.options (log_tree book.log)) }
 {
     one_reading();
+    // As the log is lawful, the pool is sound along it.
+    let _ = book.log();
     let work = work_of(sessions.as_slice())?;
     let texts = texts_of(alloc, sessions)?;
     let (log, totals) = book.finish();

@@ -5,6 +5,7 @@ ghost use Rattle.std.specs.declared.vec.Vec.{Vec as VecSeen};
 ghost use Rattle.std.specs.declared.alloc.Global.{Global as GlobalSeen};
 ghost use Rattle.pool_policy.specs.declared.options.PoolOptions.{PoolOptions as OptionsSeen};
 ghost use Rattle.run_log.specs.Events.{EventTree, log_tree};
+ghost use Rattle.pool_sound.specs.Sound.{IsSoundAlong};
 ghost use Rattle.session_run.specs.declared.session.Session.{Session as SessionSeen};
 ghost use Rattle.session_run.specs.Work.{run_lost, run_totals};
 ghost use Rattle.session_run.specs.Works.{done_by};
@@ -48,6 +49,7 @@ pub fn play_sessions<E: Operate, L: Ledger>(
     requires budget { options.budget ≤ 2 ^ 40 }
     ensures scheduled { IfOk result (λ run. IsScheduled options scripts.items turns.now (log_tree run.log.items)) }
     ensures sessions { IfOk result (λ run. AllByRecursion (λ (event : EventTree). (1 ≤ event.session) × (event.session ≤ length scripts.items)) (log_tree run.log.items)) }
+    ensures sound { IfOk result (λ run. IsSoundAlong options (log_tree run.log.items)) }
     ensures texts { IfOk result (λ run. AreTexts (log_tree run.log.items) 1 scripts.items (map (λ (text : VecSeen ℕ GlobalSeen). text.items) run.texts.items)) }
     ensures totals { IfOk result (λ run. run.totals ≡ run_totals options (log_tree run.log.items)) }
     ensures counted { IfOk result (λ run. Counts steps.old steps.new run.totals.work (run_lost options (log_tree run.log.items))) }

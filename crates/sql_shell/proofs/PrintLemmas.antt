@@ -10,6 +10,7 @@ use Rattle.sql_semantics.specs.declared.refusal.Refusal.{Refusal}
 use Rattle.sql_tree.specs.Tree.{StmtTree}
 use Rattle.run_log.specs.declared.event.Totals.{Totals}
 use Rattle.run_log.specs.Events.{EventTree}
+use Rattle.pool_sound.specs.Sound.{IsSoundAlong}
 use Rattle.answer_text.specs.Log.{AreStatements, logged_of}
 use Rattle.answer_text.specs.Layout.{history_text, log_text, replies_text, session_line, session_text, sessions_text, totals_text}
 use Rattle.command_line.specs.declared.command.RunOptions.{RunOptions}
@@ -19,6 +20,7 @@ use Rattle.sql_tree.specs.Pieces.{pieces_of}
 use Rattle.command_line.specs.declared.command.Command.{Command}
 use Rattle.command_line.specs.Command.{files_of, options_of}
 use Rattle.sql_shell.specs.Inputs.{IsCourse}
+use Rattle.sql_shell.specs.Numbers.{AreShort}
 use Rattle.sql_shell.specs.Ready.{IsServedBy}
 use Rattle.sql_shell.specs.Scripts.{AreCut, names_of}
 use Rattle.sql_shell.specs.Served.{AreAllRead, IsMade, IsRun, IsServed, pool_of, texts_under}
@@ -93,8 +95,9 @@ pub served_of : (options : RunOptions) (names : List (List ℕ)) (scripts : List
     → length names ≡ length texts → AllByRecursion (λ (event : EventTree). (1 ≤ event.session) × (event.session ≤ length scripts)) log → AreTexts log 1 scripts texts
     → totals ≡ run_totals (pool_of options) log
     → text ≡ ((texts_under 1 names texts ++ history_text log) ++ totals_text totals) ++ (if options.events then log_text log else [])
+    → IsSoundAlong (pool_of options) log → AreShort log totals
     → IsServed options names scripts text log totals.work
-served_of options names scripts text texts log totals same sessions are is printed =
+served_of options names scripts text texts log totals same sessions are is printed sound short =
     let of = read_as log 1 scripts texts are in
     record {
       readings = of.readings;
@@ -106,6 +109,8 @@ served_of options names scripts text texts log totals same sessions are is print
       printed_is = printed ∙ ap (λ front. ((front ++ history_text log) ++ totals_text totals) ++ (if options.events then log_text log else [])) (of.under names same)
           ∙ ap (λ (t : Totals). ((sessions_text names of.readings log ++ history_text log) ++ totals_text t) ++ (if options.events then log_text log else [])) is;
       work_is = ap (λ (t : Totals). t.work) is;
+      sound = sound;
+      short = subst (AreShort log) is short;
     }
 
 -- the run of scripts that were read is that of the command

@@ -3,6 +3,7 @@ use Rattle.std.specs.Prelude.{◌≡◌, ℕ, List, [], ◌∷◌, ◌++◌, cod
 use Rattle.pool_policy.specs.declared.options.PoolOptions.{PoolOptions}
 use Rattle.run_log.specs.declared.event.Totals.{Totals}
 use Rattle.run_log.specs.Events.{EventTree}
+use Rattle.pool_sound.specs.Sound.{IsSoundAlong}
 use Rattle.answer_text.specs.Layout.{totals_text}
 use Rattle.store_changes.specs.Work.{Counts}
 use Rattle.session_run.specs.Work.{run_lost, run_totals, run_work}
@@ -19,9 +20,10 @@ default_pool = pool_of default_options
 abbrev pub generated_text : ℕ → Totals → List ℕ
 generated_text seed totals = codes "generated " ++ decimal seed ++ codes "\n" ++ totals_text totals
 
--- the two sample scripts of a number, a session each, one behind the other and with the default options, have this log, and this is what is written of it: the totals are those of the log; while the counter goes from here to there
+-- the two sample scripts of a number, a session each, one behind the other and with the default options, have this log, and this is what is written of it: the totals are those of the log, after each event of which the pool is sound; while the counter goes from here to there
 pub record IsGenerated (seed : ℕ) (text : List ℕ) (log : List EventTree) (work before after : ℕ) : Type 0 where
   pub scheduled : IsScheduled default_pool (changes seed ∷ queries seed ∷ []) [] log
   pub written_is : text ≡ generated_text seed (run_totals default_pool log)
   pub work_is : work ≡ run_work default_pool log
+  pub sound : IsSoundAlong default_pool log
   pub counted : Counts before after work (run_lost default_pool log)

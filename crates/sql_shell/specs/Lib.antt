@@ -2,6 +2,7 @@ pub mod Failures
 pub mod Scripts
 pub mod Inputs
 pub mod Ready
+pub mod Numbers
 pub mod Served
 pub mod Begun
 pub mod Generated

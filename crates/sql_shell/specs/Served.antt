@@ -5,6 +5,7 @@ use Rattle.sql_tree.specs.Pieces.{pieces_of}
 use Rattle.sql_tree.specs.Tree.{StmtTree}
 use Rattle.pool_policy.specs.declared.options.PoolOptions.{PoolOptions}
 use Rattle.run_log.specs.Events.{EventTree}
+use Rattle.pool_sound.specs.Sound.{IsSoundAlong}
 use Rattle.answer_text.specs.Log.{IsOrdered}
 use Rattle.answer_text.specs.Layout.{printed, session_line}
 use Rattle.command_line.specs.declared.command.Command.{Command}
@@ -18,6 +19,7 @@ use Rattle.thread_sessions.specs.Runs.{IsRunOut, order_for}
 use Rattle.sql_shell.specs.declared.inputs.Course.{Course}
 use Rattle.sql_shell.specs.declared.inputs.Course.TheVariants.{InThreads, ByTurns}
 use Rattle.sql_shell.specs.Inputs.{IsCourse}
+use Rattle.sql_shell.specs.Numbers.{AreShort}
 use Rattle.sql_shell.specs.Scripts.{AreRunnable, AreTexts}
 
 -- ## Runs
@@ -36,13 +38,15 @@ AreAllRead [] [] = Unit {0}
 AreAllRead (pieces ∷ scripts) (readings ∷ others) = AreReadings pieces readings × AreAllRead scripts others
 AreAllRead _ _ = ⊥
 
--- a run of scripts with these names and statements has this log, and this is what is printed of it: the log has each statement once and in its session's order, each reply is what its statement means over the tables as the commits before its place leave them, the history is the commits, and the pool, its totals and each event are those of this log
+-- a run of scripts with these names and statements has this log, and this is what is printed of it: the log has each statement once and in its session's order, each reply is what its statement means over the tables as the commits before its place leave them, the history is the commits, and the pool, its totals and each event are those of this log; after each event the pool is sound, so that what is pooled is what its lineage evaluates to; and the numbers that are printed of the pool are short
 pub record IsServed (options : RunOptions) (names : List (List ℕ)) (scripts : List (List (List ℕ))) (text : List ℕ) (log : List EventTree) (work : ℕ) : Type 0 where
   pub readings : List (List (Result StmtTree Refusal))
   pub read : AreAllRead scripts readings
   pub ordered : IsOrdered readings log
   pub printed_is : text ≡ printed options.events names readings log (run_totals (pool_of options) log)
   pub work_is : work ≡ run_work (pool_of options) log
+  pub sound : IsSoundAlong (pool_of options) log
+  pub short : AreShort log (run_totals (pool_of options) log)
 
 -- how such a log comes about, event by event: in threads by some turns, until all sessions are done, each of which goes through its plans in their order, or, with more than one worker, as results are ready; else by given turns, while the counter goes from here to there
 abbrev pub IsMade : PoolOptions → List (List (List ℕ)) → Course → List EventTree → ℕ → ℕ → Type 0

@@ -14,6 +14,7 @@
 mod begun;
 mod generate;
 mod inputs;
+mod numbers;
 mod produce;
 mod runner;
 mod scripts;

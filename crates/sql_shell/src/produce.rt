@@ -10,6 +10,7 @@ ghost use Rattle.sql_shell.specs.Scripts.{names_of, pieces_in};
 ghost use Rattle.sql_shell.specs.Ready.{AreReady, IsServedBy};
 ghost use Rattle.sql_shell.specs.Served.{pool_of, texts_under};
 
+use crate::numbers::numbers_are_short;
 use crate::runner::SessionRunner;
 use crate::scripts::Script;
 use answer_text::{write_history, write_log, write_session_line, write_totals};
@@ -129,6 +130,7 @@ fn play<C: SessionRunner, E: Operate + Sync, L: Ledger>(
     let Parts { names, scripts } = split(alloc, scripts)?;
     let pool = pool_for(options);
     let run = runner.run_scripts(alloc, scripts, pool, scorer, kernel, steps)?;
+    numbers_are_short(&run);
     let text = print_run(alloc, events, names.as_slice(), &run)?;
     let Run { log, totals, .. } = run;
     Ok(Produced {

@@ -4,6 +4,7 @@ ghost use Rattle.std.specs.declared.vec.Vec.{Vec as VecSeen};
 ghost use Rattle.std.specs.declared.alloc.Global.{Global as GlobalSeen};
 ghost use Rattle.std.specs.List.{AllByRecursion};
 ghost use Rattle.run_log.specs.Events.{EventTree, log_tree};
+ghost use Rattle.pool_sound.specs.Sound.{IsSoundAlong};
 ghost use Rattle.session_run.specs.Work.{run_totals};
 ghost use Rattle.run_sessions.specs.Tables.{AreTexts};
 ghost use Rattle.sql_shell.specs.declared.inputs.Course.{Course as CourseSeen};
@@ -46,6 +47,7 @@ pub trait SessionRunner {
         requires budget { pool.budget ≤ 2 ^ 40 }
         ensures made { IfOk result (λ run. IsMade pool scripts.items (course self.now) (log_tree run.log.items) steps.old steps.new) }
         ensures sessions { IfOk result (λ run. AllByRecursion (λ (event : EventTree). (1 ≤ event.session) × (event.session ≤ length scripts.items)) (log_tree run.log.items)) }
+        ensures sound { IfOk result (λ run. IsSoundAlong pool (log_tree run.log.items)) }
         ensures texts { IfOk result (λ run. AreTexts (log_tree run.log.items) 1 scripts.items (map (λ (text : VecSeen ℕ GlobalSeen). text.items) run.texts.items)) }
         ensures totals { IfOk result (λ run. run.totals ≡ run_totals pool (log_tree run.log.items)) };
 }

@@ -4,6 +4,7 @@ ghost use Rattle.std.specs.List.{AllByRecursion};
 ghost use Rattle.std.specs.declared.vec.Vec.{Vec as VecSeen};
 ghost use Rattle.std.specs.declared.alloc.Global.{Global as GlobalSeen};
 ghost use Rattle.run_log.specs.Events.{EventTree, log_tree};
+ghost use Rattle.pool_sound.specs.Sound.{IsSoundAlong};
 ghost use Rattle.session_run.specs.Work.{run_totals};
 ghost use Rattle.run_sessions.specs.Tables.{AreOver, AreTexts, scripts_of};
 ghost use Rattle.thread_sessions.specs.Runs.{AreSet, HasNoneBeside, HaveSeen, IsRunOut, order_for};
@@ -23,6 +24,7 @@ pub(crate) fn end_run(alloc: Global, book: Book, sessions: Vec<Session>) -> Resu
     ensures log { IfOk result (λ run. run.log.items ≡ book.log) }
     ensures played { (workers : ℕ) → AreSet (nat_lt 1 workers) sessions.items → IfOk result (λ run. IsRunOut (order_for workers) book.options (scripts_of sessions.items) (log_tree run.log.items)) }
     ensures sessions { IfOk result (λ run. AllByRecursion (λ (event : EventTree). (1 ≤ event.session) × (event.session ≤ length sessions.items)) (log_tree run.log.items)) }
+    ensures sound { IfOk result (λ run. IsSoundAlong book.options (log_tree run.log.items)) }
     ensures texts { IfOk result (λ run. AreTexts (log_tree run.log.items) 1 (scripts_of sessions.items) (map (λ (text : VecSeen ℕ GlobalSeen). text.items) run.texts.items)) }
     ensures totals { IfOk result (λ run. run.totals ≡ run_totals book.options (log_tree run.log.items)) }
 {

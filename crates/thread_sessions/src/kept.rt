@@ -3,6 +3,7 @@ ghost use Rattle.std.specs.Prelude.{◌≡◌, ◌<◌, ◌≤◌, ◌^◌, [], 
 ghost use Rattle.run_log.specs.declared.event.Event.{Event as EventSeen};
 ghost use Rattle.run_log.specs.Events.{log_tree};
 ghost use Rattle.book_core.specs.Lawful.{IsLawful};
+ghost use Rattle.pool_sound.specs.Sound.{IsSoundAlong};
 ghost use Rattle.session_run.specs.Stages.{Follows, IsReady};
 ghost use Rattle.thread_sessions.specs.Runners.{AddsEvent, HasSeen, IsAt, session_of};
 
@@ -105,9 +106,11 @@ impl<K: RunOptions> Kept<K> {
         Ok(())
     }
 
-    /// Its log is lawful under the options.
+    /// Its log is lawful under the options. So the pool, which is that of the log's fold, is sound here and at
+    /// each turn before.
     pub fn tell_law(&self)
-        ensures { IsLawful K.options (log_tree self.now.book.log) }
+        ensures lawful { IsLawful K.options (log_tree self.now.book.log) }
+        ensures sound { IsSoundAlong K.options (log_tree self.now.book.log) }
     {
         let _ = self.book.log();
     }

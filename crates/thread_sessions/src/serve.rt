@@ -5,6 +5,7 @@ ghost use Rattle.std.specs.declared.vec.Vec.{Vec as VecSeen};
 ghost use Rattle.std.specs.declared.alloc.Global.{Global as GlobalSeen};
 ghost use Rattle.run_log.specs.Events.{EventTree, log_tree};
 ghost use Rattle.turn_hall.specs.Passes.{seen_by};
+ghost use Rattle.pool_sound.specs.Sound.{IsSoundAlong};
 ghost use Rattle.session_run.specs.Work.{run_totals};
 ghost use Rattle.session_run.specs.Stages.{MayBegin};
 ghost use Rattle.run_sessions.specs.Tables.{AreOver, AreTexts, scripts_of};
@@ -46,6 +47,7 @@ pub fn serve_sessions<R: Threads + Wait + Sync, E: Operate + Sync>(
     requires budget { options.budget ≤ 2 ^ 40 }
     ensures played { IfOk result (λ run. IsRunOut (order_for workers) options scripts.items (log_tree run.log.items)) }
     ensures sessions { IfOk result (λ run. AllByRecursion (λ (event : EventTree). (1 ≤ event.session) × (event.session ≤ length scripts.items)) (log_tree run.log.items)) }
+    ensures sound { IfOk result (λ run. IsSoundAlong options (log_tree run.log.items)) }
     ensures texts { IfOk result (λ run. AreTexts (log_tree run.log.items) 1 scripts.items (map (λ (text : VecSeen ℕ GlobalSeen). text.items) run.texts.items)) }
     ensures totals { IfOk result (λ run. run.totals ≡ run_totals options (log_tree run.log.items)) }
 {
@@ -71,6 +73,7 @@ fn serve<K: RunOptions + Send + Sync, R: Threads + Wait + Sync, E: Operate + Syn
     requires budget { options.budget ≤ 2 ^ 40 }
     ensures played { IfOk result (λ run. IsRunOut (order_for workers) K.options scripts.items (log_tree run.log.items)) }
     ensures sessions { IfOk result (λ run. AllByRecursion (λ (event : EventTree). (1 ≤ event.session) × (event.session ≤ length scripts.items)) (log_tree run.log.items)) }
+    ensures sound { IfOk result (λ run. IsSoundAlong K.options (log_tree run.log.items)) }
     ensures texts { IfOk result (λ run. AreTexts (log_tree run.log.items) 1 scripts.items (map (λ (text : VecSeen ℕ GlobalSeen). text.items) run.texts.items)) }
     ensures totals { IfOk result (λ run. run.totals ≡ run_totals K.options (log_tree run.log.items)) }
 {

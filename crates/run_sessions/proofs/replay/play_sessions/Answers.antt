@@ -7,6 +7,7 @@ use Rattle.std.proofs.lemmas.Result.{IfOk-weaker}
 use Rattle.pool_policy.specs.declared.options.PoolOptions.{PoolOptions}
 use Rattle.run_log.specs.Events.{EventTree, log_tree}
 use Rattle.book_core.specs.BookView.{BookView}
+use Rattle.pool_sound.specs.Sound.{IsSoundAlong}
 use Rattle.session_run.specs.declared.session.Session.{Session}
 use Rattle.run_sessions.specs.Tables.{AreStanding}
 use Rattle.run_sessions.proofs.TotalLemmas.{ComesTo, both_ok, run_comes, run_counts, run_follows, run_of_sessions, run_texts, run_totals_are}
@@ -64,6 +65,7 @@ returns g c =
     record {
       scheduled = IfOk-weaker result _ _ (λ run log. run_follows options scripts turns book sessions from to is run.log.items log) told.log;
       sessions = IfOk-weaker result _ _ (λ run log. run_of_sessions options scripts turns book sessions from to is run.log.items log) told.log;
+      sound = IfOk-weaker result _ _ (λ run. subst (λ (o : PoolOptions). IsSoundAlong o (log_tree run.log.items)) is.options_are) told.sound;
       texts = both_ok result _ _ _ (λ run log texts. run_texts options scripts turns book sessions from to is run.log.items log (map (λ (text : Vec ℕ Global). text.items) run.texts.items) texts) told.log told.texts;
       totals = both_ok result _ _ _ (λ run log totals. run_totals_are options scripts turns book sessions from to is run.log.items log run.totals totals) told.log told.totals;
       counted = both_ok result _ _ _ (λ run log totals. run_counts options scripts turns book sessions from to is run.log.items log run.totals totals) told.log told.totals;

@@ -7,6 +7,7 @@ use Rattle.std.specs.declared.alloc.Global.{Global}
 use Rattle.pool_policy.specs.declared.options.PoolOptions.{PoolOptions}
 use Rattle.run_log.specs.declared.event.Event.{Event}
 use Rattle.run_log.specs.Events.{EventTree, log_tree}
+use Rattle.pool_sound.specs.Sound.{IsSoundAlong}
 use Rattle.answer_text.specs.Layout.{history_text, log_text, totals_text}
 use Rattle.session_run.specs.Work.{run_totals}
 use Rattle.run_sessions.specs.Tables.{AreTexts}
@@ -63,7 +64,8 @@ returns g c =
           texts
           (ran.totals ∙ ap (λ o. run_totals o log) pool)
           (c.in_ok-text.ensures ∙ ap (λ (names : List (List ℕ)). ((texts_under 1 names (all_items run.texts.items) ++ history_text log) ++ totals_text run.totals) ++ (if options.events then log_text log else []))
-          (c.as_slice.ensures.value ∙ c.in_ok-names.ensures.names)),
+          (c.as_slice.ensures.value ∙ c.in_ok-names.ensures.names))
+          (subst (λ (o : PoolOptions). IsSoundAlong o log) pool ran.sound) c.numbers_are_short.ensures,
       subst (λ (o : PoolOptions). IsMade o pieces course log before after) pool
           (subst (λ (split : List (List (List ℕ))). IsMade c.pool_for-pool.result split course log before after) c.in_ok-names.ensures.scripts ran.made),
     )

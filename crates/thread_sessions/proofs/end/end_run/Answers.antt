@@ -35,6 +35,7 @@ returns c =
       played = λ workers set. IfOk-weaker c.finish_run.result _ _
           (λ run log. subst (λ (events : List Event). IsRunOut (order_for workers) options (scripts_of sessions) (log_tree events)) (sym log) (run_out workers options (log_tree book.log) sessions at set all c.requires.over)) told.log;
       sessions = IfOk-weaker c.finish_run.result _ _ (λ run log. subst (λ (events : List Event). AllByRecursion (IsOfOne (length sessions)) (log_tree events)) (sym log) all) told.log;
+      sound = told.sound;
       texts = both_ok c.finish_run.result _ _ _ (λ run log texts. texts_in book.log run.log.items log (scripts_of sessions) (map (λ (text : Vec ℕ Global). text.items) run.texts.items) texts) told.log told.texts;
       totals = both_ok c.finish_run.result _ _ _ (λ run log totals. totals_in book.log run.log.items log options run.totals totals) told.log told.totals;
     }

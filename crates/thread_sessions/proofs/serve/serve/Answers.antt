@@ -8,6 +8,7 @@ use Rattle.std.proofs.lemmas.Result.{IfOk-weaker}
 use Rattle.pool_policy.specs.declared.options.PoolOptions.{PoolOptions}
 use Rattle.run_log.specs.declared.event.Event.{Event}
 use Rattle.run_log.specs.Events.{log_tree}
+use Rattle.pool_sound.specs.Sound.{IsSoundAlong}
 use Rattle.session_run.specs.declared.session.Session.{Session}
 use Rattle.session_run.specs.Work.{run_totals}
 use Rattle.run_sessions.specs.Tables.{AreOver, AreTexts, scripts_of}
@@ -46,6 +47,7 @@ returns g c =
           (λ run played. subst (λ (o : PoolOptions). IsRunOut order o c.args.scripts.items (log_tree run.log.items)) book.options (subst (λ them. IsRunOut order c.into_book-book.result.options them (log_tree run.log.items)) scripts played))
           (told.played c.args.workers (subst (AreSet (nat_lt 1 c.args.workers)) (sym c.in_ok-sessions.ensures.sessions) c.in_ok-ended.ensures.set));
       sessions = IfOk-weaker c.end_run.result _ _ (λ run all. subst (λ n. AllByRecursion (IsOfOne n) (log_tree run.log.items)) many all) told.sessions;
+      sound = IfOk-weaker c.end_run.result _ _ (λ run sound. subst (λ (o : PoolOptions). IsSoundAlong o (log_tree run.log.items)) book.options sound) told.sound;
       texts = IfOk-weaker c.end_run.result _ _ (λ run texts. subst (λ them. AreTexts (log_tree run.log.items) 1 them (map (λ (text : Vec ℕ Global). text.items) run.texts.items)) scripts texts) told.texts;
       totals = IfOk-weaker c.end_run.result _ _ (λ run totals. subst (λ (o : PoolOptions). run.totals ≡ run_totals o (log_tree run.log.items)) book.options totals) told.totals;
     }

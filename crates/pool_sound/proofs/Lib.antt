@@ -1,0 +1,7 @@
+pub mod LawfulLemmas
+pub mod OptionLemmas
+pub mod BackLemmas
+pub mod BindLemmas
+pub mod LineageLemmas
+pub mod SoundLemmas
+mod Examples

@@ -1,0 +1,3 @@
+pub mod Lineage
+pub mod Sound
+pub mod Laws
