@@ -1,5 +1,5 @@
 -- The accepted changes of a log, counted and written one after the other.
-use Rattle.std.proofs.Common.{◌≡◌, ℕ, suc, ◌+◌, ◌<◌, Bool, true, false, cond, List, [], ◌∷◌, ◌++◌, Option, Some, None, length, take, get_or, refl, sym, ap, ◌∙◌, append_assoc, add-zero, arith}
+use Rattle.std.proofs.Common.{◌≡◌, ℕ, suc, ◌+◌, ◌<◌, cond, List, [], ◌∷◌, ◌++◌, Option, Some, None, length, take, get_or, refl, sym, ap, ◌∙◌, append_assoc, add-zero, arith}
 use Rattle.std.specs.Prelude.{flat_map, is_some}
 use Rattle.std.specs.List.{count_by, enumerate_from, cons_option}
 use Rattle.std.proofs.lemmas.List.{take_more, append-nil, map-append}
@@ -7,7 +7,8 @@ use Rattle.std.proofs.lemmas.List.Elements.{filter_map-append}
 use Rattle.std.proofs.lemmas.List.Sums.{sum_by-cons}
 use Rattle.run_log.specs.declared.event.Event.{Event}
 use Rattle.run_log.specs.Events.{EventTree, act_tree, event_tree, log_tree, committed}
-use Rattle.answer_text.specs.Layout.{Change, changes_of, change_from, change_line}
+use Rattle.reply_layout.specs.Layout.{Change, change_from, change_line}
+use Rattle.answer_text.specs.Layout.{changes_of}
 
 -- the change of an event
 abbrev change_in : Event → Option Change

@@ -13,14 +13,15 @@ use Rattle.sql_tree.specs.Tree.StmtTree.{CreateTable, DropTable, InsertInto, Sel
 use Rattle.sql_semantics.specs.declared.refusal.Refusal.{Refusal}
 use Rattle.sql_semantics.specs.declared.refusal.Refusal.TheVariants.{Syntax, NoTable}
 use Rattle.mal_opt.specs.Passes.{constant_value}
-use Rattle.answer_text.specs.declared.shown.Shown.TheVariants as shown
+use Rattle.reply_layout.specs.declared.shown.Shown.TheVariants as shown
 use Rattle.answer_text.specs.Log.{acts_over, tables_met, AreStatements, logged_of, IsOrdered, with_between}
 use Rattle.run_log.specs.Events.{EventTree, ActTree, Begins, Writes, Ends}
 use Rattle.run_log.specs.Totals.{no_totals}
 use Rattle.mal_meaning.specs.declared.plan.Plan.{Plan}
 use Rattle.plan_queries.specs.Plans.{optimised_plan, plan_over}
 use Rattle.sql_semantics.specs.Effect.{replay}
-use Rattle.answer_text.specs.Layout.{record_text, reply_text, printed}
+use Rattle.reply_layout.specs.Layout.{record_text, reply_text}
+use Rattle.answer_text.specs.Layout.{printed}
 
 -- ## Records and replies
 

@@ -9,7 +9,7 @@ use Rattle.cell_core.specs.CellText.{cell_text}
 use Rattle.csv.specs.Writing.{default_writer, with_flexible}
 use Rattle.csv.specs.Writing as csv
 use Rattle.csv.specs.declared.writer.WriterBuilder.{WriterBuilder}
-use Rattle.answer_text.specs.Layout as layout
+use Rattle.reply_layout.specs.Layout as layout
 
 -- the writer that takes rows of several widths
 abbrev pub row_writer : WriterBuilder

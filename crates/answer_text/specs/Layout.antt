@@ -1,15 +1,9 @@
 -- Every byte that a run prints.
-use Rattle.std.specs.Prelude.{ℕ, ◌==◌, List, [], ◌∷◌, ◌++◌, length, map, filter, flat_map, Bool, true, false, ◌||◌, if◌then◌else◌, Option, Some, None, Result, codes, decimal}
-use Rattle.std.specs.List.{list_any, filter_map, enumerate_from, zip}
-use Rattle.cell_core.specs.declared.cell.Cell.{Cell}
-use Rattle.cell_core.specs.CellText.{cell_text}
-use Rattle.sql_print.specs.Canon.{canonical}
-use Rattle.sql_tree.specs.Tree.{StmtTree}
-use Rattle.sql_semantics.specs.Refusals.{refusal_number, refusal_words}
-use Rattle.sql_semantics.specs.declared.refusal.Refusal.{Refusal}
-use Rattle.answer_text.specs.declared.shown.Shown.{Shown}
-use Rattle.answer_text.specs.declared.shown.Shown.TheVariants as shown
-use Rattle.answer_text.specs.Log.{shown_over, tables_met}
+use Rattle.std.specs.Prelude.{ℕ, List, [], ◌++◌, length, flat_map, Bool, if◌then◌else◌, codes, decimal}
+use Rattle.std.specs.List.{filter_map, enumerate_from}
+use Rattle.reply_layout.specs.declared.shown.Shown.{Shown}
+use Rattle.reply_layout.specs.Layout.{Change, change_from, history_of, named_line, replies_by, session_by, sessions_by}
+use Rattle.answer_text.specs.Log.{Said, shown_over, tables_met}
 use Rattle.pool_policy.specs.declared.options.Admitted.{Admitted}
 use Rattle.pool_policy.specs.declared.options.Admitted.TheVariants as admitted
 use Rattle.run_log.specs.declared.event.Looked.{Looked}
@@ -17,81 +11,17 @@ use Rattle.run_log.specs.declared.event.Looked.TheVariants as looked
 use Rattle.run_log.specs.declared.event.Totals.{Totals}
 use Rattle.run_log.specs.Events.{ActTree, Begins, Looks, Admits, Writes, Ends, EventTree, committed}
 
--- ## Records
-
--- a comma, a quote, CR or LF, which make a field stand in quotes
-abbrev pub is_special : ℕ → Bool
-is_special b = (b == 44) || (b == 34) || (b == 13) || (b == 10)
-
-abbrev pub field_byte : ℕ → List ℕ
-field_byte b = if b == 34 then 34 ∷ 34 ∷ [] else b ∷ []
-
-abbrev pub field_text : List ℕ → List ℕ
-field_text field = if list_any is_special field then 34 ∷ flat_map field_byte field ++ 34 ∷ [] else field
-
--- fields with commas between them
-abbrev pub fields_text : List (List ℕ) → List ℕ
-fields_text [] = []
-fields_text (field ∷ fields) = field_text field ++ flat_map (λ more. 44 ∷ field_text more) fields
-
--- a record without a byte is two quotes
-abbrev pub quoted_if_empty : List ℕ → List ℕ
-quoted_if_empty [] = 34 ∷ 34 ∷ []
-quoted_if_empty (b ∷ bs) = b ∷ bs
-
--- a record of comma separated values, with its LF
-abbrev pub record_text : List (List ℕ) → List ℕ
-record_text fields = quoted_if_empty (fields_text fields) ++ 10 ∷ []
-
--- an answered row
-abbrev pub row_record : List Cell → List ℕ
-row_record row = record_text (map cell_text row)
-
--- ## Replies
-
--- the number of lines of a text, each of which ends with LF
-abbrev pub line_count : List ℕ → ℕ
-line_count text = length (filter (λ b. b == 10) text)
-
--- the reply to statement k
-abbrev pub reply_text : ℕ → Shown → List ℕ
-reply_text k shown.Done = decimal k ++ codes " ok\n"
-reply_text k (shown.Count n) = decimal k ++ codes " ok " ++ decimal n ++ codes "\n"
-reply_text k (shown.Rows rows) = decimal k ++ codes " rows " ++ decimal (length rows) ++ codes "\n" ++ flat_map row_record rows
-reply_text k (shown.Plan text) = decimal k ++ codes " plan " ++ decimal (line_count text) ++ codes "\n" ++ text
-reply_text k (shown.Refused refusal) = decimal k ++ codes " refused " ++ decimal (refusal_number refusal) ++ codes " " ++ refusal_words refusal ++ codes "\n"
-
--- the line of a session
-abbrev pub session_line : ℕ → List ℕ → List ℕ
-session_line session name = codes "session " ++ decimal session ++ codes " " ++ name ++ codes "\n"
-
 -- ## History
-
--- an accepted change, with its session and its statement's number
-pub record Change : Type 0 where
-  pub session : ℕ
-  pub statement : ℕ
-  pub text : List ℕ
-
-abbrev pub change_from : ℕ → ℕ → Option StmtTree → Option Change
-change_from session statement None = None
-change_from session statement (Some stmt) = Some (record { session = session; statement = statement; text = canonical stmt })
 
 -- the accepted changes of a log, in order
 abbrev pub changes_of : List EventTree → List Change
 changes_of log = filter_map (λ (event : EventTree). change_from event.session event.statement (committed event.act)) log
 
-abbrev pub change_line : ℕ → Change → List ℕ
-change_line i change = decimal i ++ codes " " ++ decimal change.session ++ codes " " ++ decimal change.statement ++ codes " " ++ change.text ++ codes ";\n"
-
 -- the history: how many changes were accepted, and a line for each
 abbrev pub history_text : List EventTree → List ℕ
-history_text log = codes "history " ++ decimal (length (changes_of log)) ++ codes "\n" ++ flat_map (λ (i, change). change_line i change) (enumerate_from 1 (changes_of log))
+history_text log = history_of (changes_of log)
 
 -- ## The pool
-
-abbrev pub named_line : List ℕ → ℕ → List ℕ
-named_line name n = name ++ codes " " ++ decimal n ++ codes "\n"
 
 -- the totals, a line for each
 abbrev pub totals_text : Totals → List ℕ
@@ -140,18 +70,22 @@ log_text log = codes "log " ++ decimal (length log) ++ codes "\n" ++ flat_map (�
 
 -- ## The whole output
 
--- the replies of a session, each over the tables that its statement meets
-abbrev pub replies_text : List EventTree → ℕ → List (Result StmtTree Refusal) → List ℕ
-replies_text log session readings = flat_map (λ (k, reading). reply_text k (shown_over (tables_met log session k) reading)) (enumerate_from 1 readings)
+-- the reply to a statement, over the tables that it meets
+abbrev pub shown_at : List EventTree → ℕ → ℕ → Said → Shown
+shown_at log session statement said = shown_over (tables_met log session statement) said
 
-abbrev pub session_text : List EventTree → ℕ → List ℕ → List (Result StmtTree Refusal) → List ℕ
-session_text log session name readings = session_line session name ++ replies_text log session readings
+-- the replies of a session, each over the tables that its statement meets
+abbrev pub replies_text : List EventTree → ℕ → List Said → List ℕ
+replies_text log session readings = replies_by (shown_at log session) readings
+
+abbrev pub session_text : List EventTree → ℕ → List ℕ → List Said → List ℕ
+session_text log session name readings = session_by (shown_at log) session name readings
 
 -- each session under the name of its file
-abbrev pub sessions_text : List (List ℕ) → List (List (Result StmtTree Refusal)) → List EventTree → List ℕ
-sessions_text names scripts log = flat_map (λ (s, script). session_text log s script.0 script.1) (enumerate_from 1 (zip names scripts))
+abbrev pub sessions_text : List (List ℕ) → List (List Said) → List EventTree → List ℕ
+sessions_text names scripts log = sessions_by (shown_at log) names scripts
 
 -- the sessions, the history, the pool's totals, and the log where it is asked for
-abbrev pub printed : Bool → List (List ℕ) → List (List (Result StmtTree Refusal)) → List EventTree → Totals → List ℕ
+abbrev pub printed : Bool → List (List ℕ) → List (List Said) → List EventTree → Totals → List ℕ
 printed with_events names scripts log totals =
     sessions_text names scripts log ++ history_text log ++ totals_text totals ++ (if with_events then log_text log else [])

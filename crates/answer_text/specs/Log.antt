@@ -1,23 +1,15 @@
 -- The place of a statement in a log, what it shows, and which events a run logs.
-use Rattle.std.specs.Prelude.{◌≡◌, ℕ, suc, ◌+◌, ◌≤◌, ◌==◌, List, [], ◌∷◌, ◌++◌, length, map, filter, Bool, true, false, ◌&&◌, if◌then◌else◌, Option, Some, None, Result, Ok, Err, slice_get}
+use Rattle.std.specs.Prelude.{◌≡◌, ℕ, suc, ◌+◌, ◌≤◌, ◌==◌, List, [], ◌∷◌, ◌++◌, length, map, filter, Bool, true, false, ◌&&◌, if◌then◌else◌, Some, Result, slice_get}
 use Rattle.std.specs.List.{AllByRecursion}
-use Rattle.cell_core.specs.declared.cell.Cell.{Cell}
 use Rattle.cell_core.specs.declared.table.Db.{Db}
 use Rattle.sql_tree.specs.Tree.{StmtTree}
-use Rattle.sql_tree.specs.Tree.StmtTree.{Select, ExplainSelect}
-use Rattle.sql_semantics.specs.Refusals.{refusal_number}
-use Rattle.sql_semantics.specs.Answer.{answer}
-use Rattle.sql_semantics.specs.Effect.{effect}
 use Rattle.sql_semantics.specs.declared.refusal.Refusal.{Refusal}
-use Rattle.sql_semantics.specs.declared.refusal.Refusal.TheVariants.{Overflow}
-use Rattle.sql_semantics.specs.declared.refusal.Reply.{Reply}
-use Rattle.sql_semantics.specs.declared.refusal.Reply.TheVariants as reply
 use Rattle.mal_print.specs.Canon.{plan_text}
 use Rattle.mal_meaning.specs.declared.plan.Plan.{Plan}
-use Rattle.plan_queries.specs.Plans.{plan_over, refusal_over}
+use Rattle.plan_queries.specs.Plans.{plan_over}
+use Rattle.reply_layout.specs.declared.shown.Shown.{Shown}
+use Rattle.reply_layout.specs.Doings.{Doing, Writing, Beginning, begin_code, code_of, count_of, doing_by, shown_in}
 use Rattle.run_log.specs.Events.{ActTree, Begins, Looks, Admits, Writes, Ends, EventTree, tables_at}
-use Rattle.answer_text.specs.declared.shown.Shown.{Shown}
-use Rattle.answer_text.specs.declared.shown.Shown.TheVariants as shown
 
 -- ## Places
 
@@ -35,59 +27,30 @@ abbrev pub statement_place : ℕ → ℕ → List EventTree → ℕ
 statement_place session statement [] = 1
 statement_place session statement (event ∷ log) = if is_place session statement event then 1 else suc (statement_place session statement log)
 
--- ## Replies
+-- ## What a text does
 
--- what a reply of a change shows
-abbrev pub shown_reply : Reply → Shown
-shown_reply reply.Done = shown.Done
-shown_reply (reply.Rows n) = shown.Count n
-shown_reply (reply.Refused refusal) = shown.Refused refusal
+-- what a statement's text says: the statement, or the refusal of the text
+abbrev pub Said : Type 0
+Said = Result StmtTree Refusal
 
--- what a query shows: its refusal, or its rows, or that a number left its range
-abbrev pub shown_query : Option Refusal → Option (List (List Cell)) → Shown
-shown_query (Some refusal) rows = shown.Refused refusal
-shown_query None (Some rows) = shown.Rows rows
-shown_query None None = shown.Refused Overflow
+-- what it does over these tables
+abbrev pub doing_over : Db → Said → Doing Plan
+doing_over db said = doing_by plan_over plan_text db said
 
--- what an EXPLAIN shows: the refusal of its query, or the text of the plan by which the query is run
-abbrev pub shown_explain : Option Refusal → List ℕ → Shown
-shown_explain (Some refusal) text = shown.Refused refusal
-shown_explain None text = shown.Plan text
-
--- the reply to a statement that meets these tables
-abbrev pub shown_over : Db → Result StmtTree Refusal → Shown
-shown_over db (Err refusal) = shown.Refused refusal
-shown_over db (Ok (Select query)) = shown_query (refusal_over db (Select query)) (answer query db)
-shown_over db (Ok (ExplainSelect query)) = shown_explain (refusal_over db (ExplainSelect query)) (plan_text (plan_over db query))
-shown_over db (Ok statement) = shown_reply (effect statement db).1
-
--- 0, or the refusal's number
-abbrev pub code_of : Shown → ℕ
-code_of (shown.Refused refusal) = refusal_number refusal
-code_of _ = 0
-
--- the number of rows that a change reports
-abbrev pub count_of : Shown → ℕ
-count_of (shown.Count n) = n
-count_of _ = 0
+-- the reply to it
+abbrev pub shown_over : Db → Said → Shown
+shown_over db said = shown_in (doing_over db said)
 
 -- ## What a run logs
 
-abbrev pub begin_code : Option Refusal → ℕ
-begin_code None = 0
-begin_code (Some refusal) = refusal_number refusal
+-- the acts of a statement: one Write, or a Begin and an End
+abbrev pub acts_in : Doing Plan → List ActTree
+acts_in (Writing statement shown) = Writes statement (code_of shown) (count_of shown) ∷ []
+acts_in (Beginning plan shown) = Begins (begin_code plan shown) plan ∷ Ends (code_of shown) ∷ []
 
--- the plan that is logged, where nothing refuses the query
-abbrev pub begin_plan : Option Refusal → Plan → Option Plan
-begin_plan None plan = Some plan
-begin_plan (Some refusal) plan = None
-
--- the acts of a statement that meets these tables
-abbrev pub acts_over : Db → Result StmtTree Refusal → List ActTree
-acts_over db (Err refusal) = Writes None (refusal_number refusal) 0 ∷ []
-acts_over db (Ok (Select query)) = Begins (begin_code (refusal_over db (Select query))) (begin_plan (refusal_over db (Select query)) (plan_over db query)) ∷ Ends (code_of (shown_over db (Ok (Select query)))) ∷ []
-acts_over db (Ok (ExplainSelect query)) = Begins (code_of (shown_over db (Ok (ExplainSelect query)))) None ∷ Ends (code_of (shown_over db (Ok (ExplainSelect query)))) ∷ []
-acts_over db (Ok statement) = Writes (Some statement) (code_of (shown_over db (Ok statement))) (count_of (shown_over db (Ok statement))) ∷ []
+-- those of a statement that meets these tables
+abbrev pub acts_over : Db → Said → List ActTree
+acts_over db said = acts_in (doing_over db said)
 
 -- the tables that a statement meets: those at its place
 abbrev pub tables_met : List EventTree → ℕ → ℕ → Db
@@ -105,11 +68,11 @@ with_between between (first ∷ last ∷ []) = first ∷ (between ++ last ∷ []
 with_between between acts = acts
 
 -- acts of a statement that meets these tables: those that it has by itself, with looks and admissions between the Begin and the End of a query
-abbrev pub AreActs : Db → Result StmtTree Refusal → List ActTree → Type 0
+abbrev pub AreActs : Db → Said → List ActTree → Type 0
 AreActs db reading acts = (between : List ActTree) × AllByRecursion (λ act. is_of_pool act ≡ true) between × (acts ≡ with_between between (acts_over db reading))
 
 -- acts with their statements' numbers are those of a session's statements from k on: of each statement once, in their order, and no others
-abbrev pub AreStatements : List EventTree → ℕ → ℕ → List (Result StmtTree Refusal) → List (ℕ × ActTree) → Type 0
+abbrev pub AreStatements : List EventTree → ℕ → ℕ → List Said → List (ℕ × ActTree) → Type 0
 AreStatements log session k [] logged = logged ≡ []
 AreStatements log session k (reading ∷ readings) logged =
     (acts : List ActTree) × (later : List (ℕ × ActTree)) × (logged ≡ map {B = ℕ × ActTree} (λ act. (k, act)) acts ++ later)
@@ -121,6 +84,6 @@ abbrev pub logged_of : ℕ → List EventTree → List (ℕ × ActTree)
 logged_of session log = map (λ (event : EventTree). (event.statement, event.act)) (filter (λ (event : EventTree). event.session == session) log)
 
 -- each event is of a session, and each session's events are those of its statements, in their order, each once
-pub record IsOrdered (scripts : List (List (Result StmtTree Refusal))) (log : List EventTree) : Type 0 where
+pub record IsOrdered (scripts : List (List Said)) (log : List EventTree) : Type 0 where
   pub sessions : AllByRecursion (λ (event : EventTree). (1 ≤ event.session) × (event.session ≤ length scripts)) log
-  pub statements : (i : ℕ) (readings : List (Result StmtTree Refusal)) → slice_get scripts i ≡ Some readings → AreStatements log (i + 1) 1 readings (logged_of (i + 1) log)
+  pub statements : (i : ℕ) (readings : List Said) → slice_get scripts i ≡ Some readings → AreStatements log (i + 1) 1 readings (logged_of (i + 1) log)

@@ -2,7 +2,8 @@ ghost use Rattle.std.specs.Prelude.{◌≡◌, ◌++◌, is_some, length, flat_m
 ghost use Rattle.std.specs.List.{enumerate_from};
 ghost use Rattle.sql_print.specs.Canon.{canonical};
 ghost use Rattle.sql_tree.specs.Tree.{stmt_tree};
-ghost use Rattle.answer_text.specs.Layout.{changes_of, change_line, history_text};
+ghost use Rattle.reply_layout.specs.Layout.{change_line};
+ghost use Rattle.answer_text.specs.Layout.{changes_of, history_text};
 ghost use Rattle.run_log.specs.Events.{act_tree, committed, log_tree};
 
 use crate::number::write_number;

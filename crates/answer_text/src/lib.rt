@@ -1,6 +1,6 @@
 //! What is printed of a run: replies, the history of accepted changes, the pool's totals and the log.
 //!
-//! It stands on `run_log` for events and on `sql_semantics` for what statements mean. `specs/` says which tables a
+//! It stands on `run_log` for events and on `reply_layout` for what statements do and show. `specs/` says which tables a
 //! statement meets at its place in a log, and every byte that is printed. `write_reply`, `write_session_line`,
 //! `write_history`, `write_totals` and `write_log` append exactly these bytes, or leave the text as it was.
 #![tactic(auto)]
@@ -10,11 +10,9 @@ mod history;
 mod number;
 mod records;
 mod reply;
-mod shown;
 mod totals;
 
 pub use events::write_log;
 pub use history::write_history;
 pub use reply::{write_reply, write_session_line};
-pub use shown::Shown;
 pub use totals::write_totals;

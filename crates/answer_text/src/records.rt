@@ -2,7 +2,7 @@ ghost use Rattle.std.specs.Prelude.{◌≡◌, ◌++◌, map, flat_map, Some, If
 ghost use Rattle.cell_core.specs.CellText.{cell_text};
 ghost use Rattle.csv.specs.Records.{fields_of, partial_of};
 ghost use Rattle.csv.specs.Writing.{default_writer, with_flexible};
-ghost use Rattle.answer_text.specs.Layout.{row_record};
+ghost use Rattle.reply_layout.specs.Layout.{row_record};
 
 use cell_core::{Cell, Memory, Sequence};
 use cell_text::write_cell;

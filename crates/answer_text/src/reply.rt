@@ -1,10 +1,10 @@
 ghost use Rattle.std.specs.Prelude.{◌≡◌, ◌++◌, IfOk, OnOk, OnErr};
-ghost use Rattle.answer_text.specs.Layout.{line_count as line_count_of, reply_text, session_line};
+ghost use Rattle.reply_layout.specs.Layout.{line_count as line_count_of, reply_text, session_line};
 
 use crate::number::write_number;
 use crate::records::with_records;
-use crate::shown::Shown;
 use cell_core::Memory;
+use reply_layout::Shown;
 use std::alloc::Global;
 
 /// Appends the reply to statement `k` of a session. Where memory runs out, `out` stays as it was.

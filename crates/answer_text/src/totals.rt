@@ -1,5 +1,6 @@
 ghost use Rattle.std.specs.Prelude.{◌≡◌, ◌++◌, codes, decimal, OnOk, OnErr};
-ghost use Rattle.answer_text.specs.Layout.{named_line, totals_text};
+ghost use Rattle.reply_layout.specs.Layout.{named_line};
+ghost use Rattle.answer_text.specs.Layout.{totals_text};
 
 use crate::number::{write_great_number, write_number};
 use cell_core::Memory;

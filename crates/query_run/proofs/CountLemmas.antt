@@ -4,7 +4,7 @@ use Rattle.std.specs.Prelude.{Result, Ok, Err, IfOk}
 use Rattle.cell_core.specs.declared.memory.Memory.{Memory}
 use Rattle.mal_meaning.specs.Meaning.{plan_load, plan_rows}
 use Rattle.sql_semantics.specs.declared.refusal.Refusal.TheVariants.{Overflow}
-use Rattle.answer_text.specs.declared.shown.Shown.TheVariants as shown
+use Rattle.reply_layout.specs.declared.shown.Shown.TheVariants as shown
 use Rattle.store_changes.specs.Work.{lost_unless}
 use Rattle.query_run.specs.declared.step.Query.{Query}
 use Rattle.query_run.specs.declared.step.Step.{Step}

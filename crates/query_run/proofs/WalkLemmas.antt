@@ -21,8 +21,8 @@ use Rattle.mal_check.specs.Checked.{plan_fault}
 use Rattle.mal_check.specs.Runnable.{FitsDb}
 use Rattle.recycle_mark.specs.Marks.{marks_from, marks_of, is_bat_result, is_marked}
 use Rattle.sql_semantics.specs.declared.refusal.Refusal.TheVariants.{Overflow}
-use Rattle.answer_text.specs.declared.shown.Shown.{Shown}
-use Rattle.answer_text.specs.declared.shown.Shown.TheVariants as shown
+use Rattle.reply_layout.specs.declared.shown.Shown.{Shown}
+use Rattle.reply_layout.specs.declared.shown.Shown.TheVariants as shown
 use Rattle.table_store.specs.Content.{Content}
 use Rattle.query_run.specs.declared.step.Query.{Query}
 use Rattle.query_run.specs.declared.step.Step.{Step}

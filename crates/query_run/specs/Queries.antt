@@ -20,8 +20,8 @@ use Rattle.mal_check.specs.Runnable.{FitsDb}
 use Rattle.recycle_mark.specs.Marks.{marks_of}
 use Rattle.reuse_laws.specs.Reuse.{merged, selected_in}
 use Rattle.sql_semantics.specs.declared.refusal.Refusal.TheVariants.{Overflow}
-use Rattle.answer_text.specs.declared.shown.Shown.{Shown}
-use Rattle.answer_text.specs.declared.shown.Shown.TheVariants as shown
+use Rattle.reply_layout.specs.declared.shown.Shown.{Shown}
+use Rattle.reply_layout.specs.declared.shown.Shown.TheVariants as shown
 use Rattle.lineage_key.specs.declared.key.Key.{Key}
 use Rattle.pool_policy.specs.Keeps.{faces, value_in}
 use Rattle.pool_policy.specs.Looks.{look_of}

@@ -6,8 +6,8 @@ use Rattle.bat_core.specs.declared.shared.Obj.{Obj}
 use Rattle.bat_core.specs.Objects.{value_of}
 use Rattle.mal_meaning.specs.Meaning.{instr_load, plan_rows}
 use Rattle.sql_semantics.specs.declared.refusal.Refusal.TheVariants.{Overflow}
-use Rattle.answer_text.specs.declared.shown.Shown.{Shown}
-use Rattle.answer_text.specs.declared.shown.Shown.TheVariants as shown
+use Rattle.reply_layout.specs.declared.shown.Shown.{Shown}
+use Rattle.reply_layout.specs.declared.shown.Shown.TheVariants as shown
 use Rattle.recycle_pool.specs.declared.found.Found.TheVariants as found
 use Rattle.query_run.specs.declared.step.Query.{Query}
 use Rattle.query_run.specs.declared.step.Step.{Step}

@@ -1,10 +1,10 @@
 ghost use Rattle.std.specs.Prelude.{◌≡◌};
 
-use answer_text::Shown;
 use bat_core::{Obj, Shared};
 use lineage_key::Key;
 use mal_meaning::Plan;
 use recycle_pool::{Found, Part};
+use reply_layout::Shown;
 use table_store::Snap;
 
 /// A query under way. Its results come in any order in which each has its arguments.

@@ -18,8 +18,8 @@ use Rattle.run_log.specs.Events.{ActTree, Begins, Looks, Admits, Writes, Ends, l
 use Rattle.run_log.specs.Fold.{LogState, after, after_act, key_offer, run_of}
 use Rattle.run_log.specs.Totals.{with_admission}
 use Rattle.run_log.proofs.LogLemmas.{run_more}
-use Rattle.answer_text.specs.declared.shown.Shown.{Shown}
-use Rattle.answer_text.specs.Log.{code_of}
+use Rattle.reply_layout.specs.declared.shown.Shown.{Shown}
+use Rattle.reply_layout.specs.Doings.{code_of}
 use Rattle.book_core.specs.BookView.{BookView, state_of}
 use Rattle.query_run.specs.declared.step.Query.{Query}
 use Rattle.query_run.specs.declared.step.Offer.{Offer}

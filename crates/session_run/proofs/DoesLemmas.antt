@@ -27,8 +27,9 @@ use Rattle.pool_policy.specs.Admits.{admit_of}
 use Rattle.pool_policy.specs.Looks.{look_of}
 use Rattle.run_log.specs.declared.event.Act.TheVariants as act
 use Rattle.run_log.specs.Fold.{LogState, key_offer, run_of}
-use Rattle.answer_text.specs.declared.shown.Shown.TheVariants as shown
-use Rattle.answer_text.specs.Log.{code_of, shown_over, shown_reply, tables_met}
+use Rattle.reply_layout.specs.declared.shown.Shown.TheVariants as shown
+use Rattle.reply_layout.specs.Doings.{code_of, shown_reply}
+use Rattle.answer_text.specs.Log.{Said, shown_over, tables_met}
 use Rattle.book_core.specs.Begins.{begin_act, code_in, logged_plan, marks_in, unless_refused}
 use Rattle.book_core.specs.Offers.{CanOffer}
 use Rattle.book_core.specs.Versions.{HasVersions}
@@ -47,7 +48,7 @@ use Rattle.run_log.specs.declared.event.Act.{Act}
 use Rattle.run_log.specs.declared.event.Event.{Event}
 use Rattle.run_log.specs.declared.event.Looked.{Looked}
 use Rattle.run_log.specs.Events.{ActTree, Begins, Looks, Admits, Writes, Ends, EventTree, act_tree, event_tree, log_tree, looked_of}
-use Rattle.answer_text.specs.declared.shown.Shown.{Shown}
+use Rattle.reply_layout.specs.declared.shown.Shown.{Shown}
 use Rattle.book_core.specs.BookView.{BookView, event_of, is_open, now_of, state_of}
 use Rattle.book_core.specs.Lawful.{IsLawful}
 use Rattle.session_run.specs.declared.session.Session.{Session}
@@ -82,7 +83,7 @@ pub logged : (old new : List Event) (act : Act) (x : Session) → new ≡ old ++
 logged old new act x more = ap log_tree more ∙ tree_more old (entry_by x act)
 
 -- an End tells the code of the reply to its statement
-abbrev pub EndsSo : List EventTree → Session → ActTree → Result StmtTree Refusal → Type 0
+abbrev pub EndsSo : List EventTree → Session → ActTree → Said → Type 0
 EndsSo log x act reading = (code : ℕ) → act ≡ Ends code → code ≡ code_of (shown_over (tables_met log x.number (x.ended + 1)) reading)
 
 -- the session has done it
@@ -240,14 +241,14 @@ pub asks_within : (options : PoolOptions) (log : List EventTree) (x : Session) �
 asks_within options log x s q n key is =
     let p = progress_of x.number log in
     let has = subst (IsStage options log x p) is s.stage in
-    let run = subst (IsUnder (order_of x) (state_before options log has.at) (run_of options log).given p.results has.statement) is has.under in
+    let run = subst (IsUnder (order_of x) (state_before options log has.at) (run_of options log).given p.results has.said) is has.under in
     (run.step.0.under, slice_get_within q.plan.instrs n run.step.3.instr run.step.3.at.here)
 
 pub offers_within : (options : PoolOptions) (log : List EventTree) (x : Session) → Stands options log x → (q : Query) (n : ℕ) (offer : Offer) → x.stage ≡ stage.Querying (step.Offering q n offer) → IsUnderWay q × (n < length q.plan.instrs)
 offers_within options log x s q n offer is =
     let p = progress_of x.number log in
     let has = subst (IsStage options log x p) is s.stage in
-    let run = subst (IsUnder (order_of x) (state_before options log has.at) (run_of options log).given p.results has.statement) is has.under in
+    let run = subst (IsUnder (order_of x) (state_before options log has.at) (run_of options log).given p.results has.said) is has.under in
     (run.step.0.under, slice_get_within q.plan.instrs n run.step.5.0 run.step.5.1.here)
 
 module _ (old new : BookView) (who : Who) (x after : Session) (s : Stands old.options (log_tree old.log) x) (named : IsWho x who) (options : new.options ≡ old.options) where

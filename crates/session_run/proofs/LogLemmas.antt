@@ -1,13 +1,11 @@
 -- One event more, by itself and under the law.
-use Rattle.std.proofs.Common.{◌≡◌, ℕ, suc, ◌+◌, ◌-◌, ◌≤◌, ◌<◌, List, [], ◌∷◌, ◌++◌, length, Bool, true, false, ◌&&◌, cond, Option, Some, None, Result, inl, inr, refl, ap, sym, ◌∙◌, subst, arith, length-append}
+use Rattle.std.proofs.Common.{◌≡◌, ℕ, suc, ◌+◌, ◌-◌, ◌≤◌, ◌<◌, List, [], ◌∷◌, ◌++◌, length, Bool, true, false, ◌&&◌, cond, Option, Some, None, inl, inr, refl, ap, sym, ◌∙◌, subst, arith, length-append}
 use Rattle.std.specs.Prelude.{IsSome, drop, fold, take, flat_map, ◌==◌}
 use Rattle.std.specs.List.{AllByRecursion, enumerate_from}
 use Rattle.std.proofs.lemmas.List.{append_assoc, append-nil, take-append-drop, take-append-le}
 use Rattle.std.proofs.lemmas.Bool.{cases_lt, eq-eqb, ne_eqb}
 use Rattle.std.proofs.Math.Seq.{take-append_seam}
-use Rattle.sql_tree.specs.Tree.{StmtTree}
 use Rattle.sql_semantics.specs.Effect.{replay}
-use Rattle.sql_semantics.specs.declared.refusal.Refusal.{Refusal}
 use Rattle.pool_policy.specs.declared.options.PoolOptions.{PoolOptions}
 use Rattle.pool_policy.specs.Keeps.{Face}
 use Rattle.pool_policy.specs.Worths.{WorthsStay}
@@ -16,8 +14,9 @@ use Rattle.run_log.specs.Fold.{LogState, after, log_start, run_of}
 use Rattle.run_log.specs.Laws.{IsFormedAct, IsSound, MayFollow}
 use Rattle.run_log.proofs.LogLemmas.{logs_tell_holds, run_more}
 use Rattle.run_log.proofs.StepLemmas.{steps_keep_holds}
-use Rattle.answer_text.specs.Log.{is_opening, is_place, shown_over, statement_place, tables_met}
-use Rattle.answer_text.specs.Layout.{replies_text, reply_text}
+use Rattle.answer_text.specs.Log.{Said, is_opening, is_place, shown_over, statement_place, tables_met}
+use Rattle.reply_layout.specs.Layout.{reply_text}
+use Rattle.answer_text.specs.Layout.{replies_text}
 use Rattle.book_core.specs.BookView.{BookView, and_opened, is_open, opened_by}
 use Rattle.book_core.specs.Lawful.{FollowAll, IsLawful}
 use Rattle.query_keys.specs.Laws.{Remembers}
@@ -215,16 +214,16 @@ pub tables_next : (options : PoolOptions) (session k : ℕ) (log : List EventTre
 tables_next options session k log event here =
     ap (tables_at (log ++ event ∷ [])) here ∙ ap (λ (es : List EventTree). replay (commits es)) (taken_last log event) ∙ sym (logs_tell_holds.tables options log)
 
-abbrev replies_from : List EventTree → ℕ → ℕ → List (Result StmtTree Refusal) → List ℕ
+abbrev replies_from : List EventTree → ℕ → ℕ → List Said → List ℕ
 replies_from log session k [] = []
 replies_from log session k (reading ∷ readings) = reply_text k (shown_over (tables_met log session k) reading) ++ replies_from log session (k + 1) readings
 
-replies_are : (log : List EventTree) (session k : ℕ) (readings : List (Result StmtTree Refusal))
+replies_are : (log : List EventTree) (session k : ℕ) (readings : List Said)
     → flat_map (λ (j, reading). reply_text j (shown_over (tables_met log session j) reading)) (enumerate_from k readings) ≡ replies_from log session k readings
 replies_are log session k [] = refl
 replies_are log session k (reading ∷ readings) = ap (λ text. reply_text k (shown_over (tables_met log session k) reading) ++ text) (replies_are log session (k + 1) readings)
 
-replies_same : (log later : List EventTree) (session k : ℕ) (readings : List (Result StmtTree Refusal)) → ((j : ℕ) → k ≤ j → j < k + length readings → tables_met later session j ≡ tables_met log session j)
+replies_same : (log later : List EventTree) (session k : ℕ) (readings : List Said) → ((j : ℕ) → k ≤ j → j < k + length readings → tables_met later session j ≡ tables_met log session j)
     → replies_from later session k readings ≡ replies_from log session k readings
 replies_same log later session k [] same = refl
 replies_same log later session k (reading ∷ readings) same =
@@ -232,14 +231,14 @@ replies_same log later session k (reading ∷ readings) same =
     ∙ ap (λ text. reply_text k (shown_over (tables_met log session k) reading) ++ text) (replies_same log later session (k + 1) readings (λ j low high. same j (omega (arith, low)) (omega (arith, high))))
 
 -- replies to statements whose places are in the log stay
-pub replies_stay : (session n : ℕ) (log : List EventTree) (event : EventTree) (readings : List (Result StmtTree Refusal)) → ArePlaced session n log → length readings ≤ n
+pub replies_stay : (session n : ℕ) (log : List EventTree) (event : EventTree) (readings : List Said) → ArePlaced session n log → length readings ≤ n
     → replies_text (log ++ event ∷ []) session readings ≡ replies_text log session readings
 replies_stay session n log event readings are few =
     replies_are (log ++ event ∷ []) session 1 readings
     ∙ replies_same log (log ++ event ∷ []) session 1 readings (λ j low high. tables_stay session j log event (are.placed j low (omega (arith, high, few))))
     ∙ sym (replies_are log session 1 readings)
 
-replies_last : (log : List EventTree) (session k j : ℕ) (readings : List (Result StmtTree Refusal)) (reading : Result StmtTree Refusal) → j ≡ k + length readings
+replies_last : (log : List EventTree) (session k j : ℕ) (readings : List Said) (reading : Said) → j ≡ k + length readings
     → replies_from log session k (readings ++ reading ∷ []) ≡ replies_from log session k readings ++ reply_text j (shown_over (tables_met log session j) reading)
 replies_last log session k j [] reading is =
     let same : k ≡ j = omega (arith, is) in
@@ -249,7 +248,7 @@ replies_last log session k j (r ∷ readings) reading is =
     ∙ sym (append_assoc (reply_text k (shown_over (tables_met log session k) r)) (replies_from log session (k + 1) readings) (reply_text j (shown_over (tables_met log session j) reading)))
 
 -- one reply more
-pub replies_more : (log : List EventTree) (session j : ℕ) (readings : List (Result StmtTree Refusal)) (reading : Result StmtTree Refusal) → j ≡ length readings + 1
+pub replies_more : (log : List EventTree) (session j : ℕ) (readings : List Said) (reading : Said) → j ≡ length readings + 1
     → replies_text log session (readings ++ reading ∷ []) ≡ replies_text log session readings ++ reply_text j (shown_over (tables_met log session j) reading)
 replies_more log session j readings reading is =
     replies_are log session 1 (readings ++ reading ∷ []) ∙ replies_last log session 1 j readings reading (omega (arith, is))

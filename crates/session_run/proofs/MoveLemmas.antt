@@ -1,5 +1,5 @@
 -- A query moves by itself, as results are ready: the session stands where the log says, with its work.
-use Rattle.std.proofs.Common.{◌≡◌, ◌≢◌, ℕ, ◌+◌, List, length, Bool, true, false, cond, Option, Some, None, Ok, refl, ap, sym, ◌∙◌, subst}
+use Rattle.std.proofs.Common.{◌≡◌, ◌≢◌, ℕ, List, length, Bool, true, false, cond, Some, None, refl, ap, sym, ◌∙◌, subst}
 use Rattle.std.specs.Prelude.{◌==◌, IsSome, is_some, slice_get, slice_index_or}
 use Rattle.std.proofs.lemmas.Bool.{eqb-false, eqb-true, ne_eqb}
 use Rattle.std.proofs.lemmas.List.{get_or-set_other}
@@ -7,11 +7,7 @@ use Rattle.std.proofs.lemmas.Option.{same_Some}
 use Rattle.cell_core.specs.declared.operator.Instr.{Instr}
 use Rattle.mal_meaning.specs.Meaning.{plan_rows}
 use Rattle.recycle_mark.specs.Marks.{marks_of}
-use Rattle.sql_tree.specs.Tree.{QueryTree, StmtTree}
-use Rattle.sql_tree.specs.Tree.StmtTree.{Select}
-use Rattle.sql_semantics.specs.Answer.{answer}
-use Rattle.plan_queries.specs.Plans.{plan_over, refusal_over}
-use Rattle.pool_policy.specs.declared.entry.Who.{Who}
+use Rattle.mal_meaning.specs.declared.plan.Plan.{Plan}
 use Rattle.pool_policy.specs.declared.options.PoolOptions.{PoolOptions}
 use Rattle.pool_policy.specs.Keeps.{Face}
 use Rattle.pool_policy.specs.Looks.{look_of}
@@ -23,30 +19,30 @@ use Rattle.std.specs.declared.vec.Vec.{Vec}
 use Rattle.std.specs.declared.alloc.Global.{Global}
 use Rattle.run_log.specs.Events.{Ends, EventTree}
 use Rattle.run_log.specs.Fold.{LogState, run_of}
-use Rattle.answer_text.specs.declared.shown.Shown.{Shown}
-use Rattle.answer_text.specs.declared.shown.Shown.TheVariants as shown
-use Rattle.answer_text.specs.Log.{code_of, shown_query}
+use Rattle.reply_layout.specs.declared.shown.Shown.{Shown}
+use Rattle.reply_layout.specs.declared.shown.Shown.TheVariants as shown
+use Rattle.reply_layout.specs.Doings.{Beginning, code_of, shown_rows}
+use Rattle.answer_text.specs.Log.{Said, doing_over}
 use Rattle.query_run.specs.declared.step.Offer.{Offer}
 use Rattle.query_run.specs.declared.step.Query.{Query}
 use Rattle.query_run.specs.declared.step.Step.{Step}
 use Rattle.query_run.specs.declared.step.Step.TheVariants as step
-use Rattle.query_run.specs.Queries.{BecomesOf, HasArgs, HasAsked, HasMark, IsAt, IsOffered, Serves, has_result, id_at, key_in, was_asked}
+use Rattle.query_run.specs.Queries.{HasArgs, HasAsked, HasMark, IsAt, IsOffered, has_result, id_at, key_in, was_asked}
 use Rattle.query_run.specs.Ready.{Computes, HandsOut, MayEnd, Moves, Notes, WithNone, WithRows}
 use Rattle.query_run.specs.Steps.{IsSoundStep}
 use Rattle.query_run.proofs.ReadyLemmas.{taken_goes}
 use Rattle.session_run.specs.declared.session.Session.{Session}
-use Rattle.session_run.specs.declared.stage.Stage.{Stage}
 use Rattle.session_run.specs.declared.stage.Stage.TheVariants as stage
 use Rattle.session_run.specs.Progress.{Got, Progress, progress_of}
-use Rattle.session_run.specs.Turns.{AsReady, InPlan, IsQueryAct, MayOverflow, overflow_code, state_before}
+use Rattle.session_run.specs.Turns.{AsReady, InPlan, IsQueryAct, MayOverflow, state_before}
 use Rattle.session_run.specs.Kept.{AreNoted, IsNoted, IsStage, IsStep, IsUnder, Knows, Stands, order_of, untold}
 use Rattle.session_run.specs.Kept.{EndsWith as EndsSo}
-use Rattle.session_run.specs.Stages.{HasMoved, IsSoundStage, at_stage}
-use Rattle.session_run.specs.Work.{act_work, pool_asked, session_work, work_by}
+use Rattle.session_run.specs.Stages.{HasMoved, IsSoundStage}
+use Rattle.session_run.specs.Work.{act_work, pool_asked, work_by}
 use Rattle.session_run.specs.Works.{IsLookedUp, IsPlanned, IsWorked, IsWorkedStage, IsWorkedStep, OweLoads}
 use Rattle.session_run.proofs.GainedLemmas.{asked_knows}
 use Rattle.session_run.proofs.NotedLemmas.{noted_opened}
-use Rattle.session_run.proofs.OutsideLemmas.{begun_as, finish_act, goes_known, goes_noted, later_is, opened_knows, restaged, rows_known, run_at, shows_rows, stands_as}
+use Rattle.session_run.proofs.OutsideLemmas.{begun_as, finish_act, goes_known, goes_noted, later_is, opened_knows, rows_known, run_at, shows_rows, stands_as}
 use Rattle.session_run.proofs.OweLemmas.{asks_owe, goes_owe}
 use Rattle.session_run.proofs.StageLemmas.{stage_sound}
 use Rattle.session_run.proofs.WorkedLemmas.{admit_is, becomes_worked, end_counts, opened_owe, planned_as}
@@ -84,65 +80,64 @@ handed_owe options log results q to n unmarked a owes m instr at asked none =
 
 -- ## The query under its statement
 
-module _ (seen : LogState) (given : List Face) (results : ℕ → Got) (statement : StmtTree) (query : QueryTree) (select : statement ≡ Select query)
-    (accepted : refusal_over seen.db (Select query) ≡ None) (meaning : plan_rows (plan_over seen.db query) seen.db ≡ answer query seen.db) where
+module _ (seen : LogState) (given : List Face) (results : ℕ → Got) (said : Said) (plan : Plan) (does : doing_over seen.db said ≡ Beginning (Some plan) (shown_rows (plan_rows plan seen.db))) where
   -- it ends
-  ends_ready : (q : Query) → Knows seen given (plan_over seen.db query) q → AreNoted results q → (reply : Shown) (work : ℕ) → MayEnd q reply work → EndsSo AsReady seen results statement reply
+  ends_ready : (q : Query) → Knows seen given plan q → AreNoted results q → (reply : Shown) (work : ℕ) → MayEnd q reply work → EndsSo AsReady seen results said reply
   ends_ready q k noted reply work (WithRows rows all some is counted) =
-      let some_seen = rows_known seen given (plan_over seen.db query) q k ∙ some in record {
-        act = λ s who. later_is AsReady seen given results statement query select accepted meaning s who (Ends (code_of reply))
-            (subst (IsQueryAct AsReady s who seen (plan_over seen.db query) results) (ap (λ r. Ends (code_of r)) (sym is))
-            (finish_act AsReady seen given results statement query select accepted meaning s who q k noted all (subst (λ o. IsSome o) (sym some_seen) refl) AsReady));
-        shows = is ∙ sym (shows_rows AsReady seen given results statement query select accepted meaning ∙ ap (shown_query None) some_seen);
+      let some_seen = rows_known seen given plan q k ∙ some in record {
+        act = λ s who. later_is AsReady seen given results said plan does s who (Ends (code_of reply))
+            (subst (IsQueryAct AsReady s who seen plan results) (ap (λ r. Ends (code_of r)) (sym is))
+            (finish_act AsReady seen given results said plan does s who q k noted all (subst (λ o. IsSome o) (sym some_seen) refl) AsReady));
+        shows = is ∙ sym (shows_rows AsReady seen given results said plan does ∙ ap shown_rows some_seen);
       }
   ends_ready q k noted reply work (WithNone none is no_work) =
-      let none_seen = rows_known seen given (plan_over seen.db query) q k ∙ none in record {
-        act = λ s who. later_is AsReady seen given results statement query select accepted meaning s who (Ends (code_of reply))
-            (subst (IsQueryAct AsReady s who seen (plan_over seen.db query) results) (ap (λ r. Ends (code_of r)) (sym is)) (MayOverflow none_seen refl));
-        shows = is ∙ sym (shows_rows AsReady seen given results statement query select accepted meaning ∙ ap (shown_query None) none_seen);
+      let none_seen = rows_known seen given plan q k ∙ none in record {
+        act = λ s who. later_is AsReady seen given results said plan does s who (Ends (code_of reply))
+            (subst (IsQueryAct AsReady s who seen plan results) (ap (λ r. Ends (code_of r)) (sym is)) (MayOverflow none_seen refl));
+        shows = is ∙ sym (shows_rows AsReady seen given results said plan does ∙ ap shown_rows none_seen);
       }
 
   abbrev Under : Step → Type 0
-  Under at = IsUnder AsReady seen given results statement (stage.Querying at)
+  Under at = IsUnder AsReady seen given results said (stage.Querying at)
 
   abbrev At : Step → Type 0
-  At at = IsStep AsReady seen given (plan_over seen.db query) results at
+  At at = IsStep AsReady seen given plan results at
 
   notes_on : (q to : Query) → At (step.Open q) → Notes q to → At (step.Open to)
-  notes_on q to is (HandsOut n unmarked a) = (asked_knows seen given (plan_over seen.db query) q is.0 n to a, noted_handed results q to n unmarked a is.1, tt)
-  notes_on q to is (Computes n result t) = let goes = taken_goes q to n result is.0.under t in (goes_known seen given (plan_over seen.db query) q is.0 to goes, goes_noted results q to goes is.1, tt)
+  notes_on q to is (HandsOut n unmarked a) = (asked_knows seen given plan q is.0 n to a, noted_handed results q to n unmarked a is.1, tt)
+  notes_on q to is (Computes n result t) = let goes = taken_goes q to n result is.0.under t in (goes_known seen given plan q is.0 to goes, goes_noted results q to goes is.1, tt)
 
   open_on : (q : Query) → At (step.Open q) → (to : Step) → Moves (step.Open q) to → Under to
   open_on q is (step.Begun to) none = absurd none
-  open_on q is (step.Open to) notes = run_at AsReady seen given results statement query select accepted meaning (step.Open to) (notes_on q to is notes)
-  open_on q is (step.Asking to n key) m = run_at AsReady seen given results statement query select accepted meaning (step.Asking to n key) (subst (λ r. At (step.Asking r n key)) (sym m.0) (is.0, is.1, tt, m.1, m.2, tt))
+  open_on q is (step.Open to) notes = run_at AsReady seen given results said plan does (step.Open to) (notes_on q to is notes)
+  open_on q is (step.Asking to n key) m = run_at AsReady seen given results said plan does (step.Asking to n key) (subst (λ r. At (step.Asking r n key)) (sym m.0) (is.0, is.1, tt, m.1, m.2, tt))
   open_on q is (step.Found to n what parts) none = absurd none
-  open_on q is (step.Offering to n offer) m = run_at AsReady seen given results statement query select accepted meaning (step.Offering to n offer) (subst (λ r. At (step.Offering r n offer)) (sym m.0) (is.0, is.1, tt, m.1, tt, m.2))
+  open_on q is (step.Offering to n offer) m = run_at AsReady seen given results said plan does (step.Offering to n offer) (subst (λ r. At (step.Offering r n offer)) (sym m.0) (is.0, is.1, tt, m.1, tt, m.2))
   open_on q is (step.Ending reply work) ends = ends_ready q is.0 is.1 reply work ends
 
   found_on : (q : Query) (n : ℕ) (what : Found) (parts : Vec Part Global) → At (step.Found q n what parts) → (to : Step) → Moves (step.Found q n what parts) to → Under to
   found_on q n what parts is (step.Begun to) none = absurd none
-  found_on q n what parts is (step.Open to) m = run_at AsReady seen given results statement query select accepted meaning (step.Open to) (subst (λ r. At (step.Open r)) (sym m.1) (is.0, is.1, tt))
+  found_on q n what parts is (step.Open to) m = run_at AsReady seen given results said plan does (step.Open to) (subst (λ r. At (step.Open r)) (sym m.1) (is.0, is.1, tt))
   found_on q n what parts is (step.Asking to j key) none = absurd none
   found_on q n what parts is (step.Found to j other pieces) none = absurd none
   found_on q n what parts is (step.Offering to j offer) m =
       let b = m.2 in
-      run_at AsReady seen given results statement query select accepted meaning (step.Offering to j offer) (subst (λ r. At (step.Offering r j offer)) (sym b.0) (subst (λ i. At (step.Offering q i offer)) (sym b.1) (is.0, is.1, tt, is.3, tt, (m.0, m.1, b.2))))
+      run_at AsReady seen given results said plan does (step.Offering to j offer) (subst (λ r. At (step.Offering r j offer)) (sym b.0) (subst (λ i. At (step.Offering q i offer)) (sym b.1) (is.0, is.1, tt, is.3, tt, (m.0, m.1, b.2))))
   found_on q n what parts is (step.Ending reply work) none = absurd none
 
-module _ (seen : LogState) (given : List Face) (results : ℕ → Got) (statement : StmtTree) where
-  moves_on : (from to : Step) → IsUnder AsReady seen given results statement (stage.Querying from) → Moves from to → IsUnder AsReady seen given results statement (stage.Querying to)
+module _ (seen : LogState) (given : List Face) (results : ℕ → Got) (said : Said) where
+  moves_on : (from to : Step) → IsUnder AsReady seen given results said (stage.Querying from) → Moves from to → IsUnder AsReady seen given results said (stage.Querying to)
   moves_on (step.Begun q) (step.Open to) run o =
-      run_at AsReady seen given results statement run.query run.select run.accepted run.meaning (step.Open to)
-      (opened_knows seen given (plan_over seen.db run.query) q to run.step.0 o, noted_opened results q to o run.step.1, tt)
+      run_at AsReady seen given results said run.plan run.does (step.Open to)
+      (opened_knows seen given run.plan q to run.step.0 o, noted_opened results q to o run.step.1, tt)
   moves_on (step.Begun q) (step.Begun to) run none = absurd none
   moves_on (step.Begun q) (step.Asking to n key) run none = absurd none
   moves_on (step.Begun q) (step.Found to n what parts) run none = absurd none
   moves_on (step.Begun q) (step.Offering to n offer) run none = absurd none
   moves_on (step.Begun q) (step.Ending reply work) run none = absurd none
-  moves_on (step.Open q) to run m = open_on seen given results statement run.query run.select run.accepted run.meaning q run.step to m
+  moves_on (step.Open q) to run m = open_on seen given results said run.plan run.does q run.step to m
   moves_on (step.Asking q n key) to run none = absurd none
-  moves_on (step.Found q n what parts) to run m = found_on seen given results statement run.query run.select run.accepted run.meaning q n what parts run.step to m
+  moves_on (step.Found q n what parts) to run m = found_on seen given results said run.plan run.does q n what parts run.step to m
   moves_on (step.Offering q n offer) to run none = absurd none
   moves_on (step.Ending reply work) to ends none = absurd none
 
@@ -227,10 +222,10 @@ module _ (options : PoolOptions) (log : List EventTree) (x new : Session) (s : S
       let as_ready : order_of x ≡ AsReady = ap (λ b. cond b AsReady InPlan) wide in
       subst (Stands options log) (sym m.is)
       (stands_as options log x s x.work (stage.Querying m.to) (ap (untold x.ended) m.was) (begun_as options log x p x.work (stage.Querying m.to) has
-      (λ at statement under. subst (λ o. IsUnder o (state_before options log at) (run_of options log).given p.results statement (stage.Querying m.to)) (sym as_ready)
-      (moves_on (state_before options log at) (run_of options log).given p.results statement m.from m.to
-      (subst (λ o. IsUnder o (state_before options log at) (run_of options log).given p.results statement (stage.Querying m.from)) as_ready
-      (subst (IsUnder (order_of x) (state_before options log at) (run_of options log).given p.results statement) m.was under)) m.moves))))
+      (λ at said under. subst (λ o. IsUnder o (state_before options log at) (run_of options log).given p.results said (stage.Querying m.to)) (sym as_ready)
+      (moves_on (state_before options log at) (run_of options log).given p.results said m.from m.to
+      (subst (λ o. IsUnder o (state_before options log at) (run_of options log).given p.results said (stage.Querying m.from)) as_ready
+      (subst (IsUnder (order_of x) (state_before options log at) (run_of options log).given p.results said) m.was under)) m.moves))))
 
   -- with its work
   pub moved_worked : IsWorked options log x → IsWorked options log new

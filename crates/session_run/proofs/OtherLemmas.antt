@@ -1,17 +1,16 @@
 -- A session stands as it did, whatever event of another session comes next.
-use Rattle.std.proofs.Common.{◌≡◌, ℕ, ◌+◌, ◌≤◌, ◌<◌, List, [], ◌∷◌, ◌++◌, take, length, Bool, false, Option, Some, None, Result, refl, ap, sym, ◌∙◌, subst, arith}
-use Rattle.std.specs.Prelude.{IsSome, ◌==◌}
+use Rattle.std.proofs.Common.{◌≡◌, ℕ, ◌+◌, ◌≤◌, ◌<◌, List, [], ◌∷◌, ◌++◌, take, length, false, Option, Some, None, refl, ap, sym, ◌∙◌, subst, arith}
+use Rattle.std.specs.Prelude.{◌==◌}
 use Rattle.std.proofs.lemmas.List.{length-take-le}
 use Rattle.mal_meaning.specs.declared.plan.Plan.{Plan}
 use Rattle.mal_meaning.specs.Meaning.{plan_values}
-use Rattle.sql_tree.specs.Tree.{StmtTree}
-use Rattle.sql_semantics.specs.declared.refusal.Refusal.{Refusal}
 use Rattle.pool_policy.specs.declared.options.PoolOptions.{PoolOptions}
 use Rattle.pool_policy.specs.Keeps.{Face}
 use Rattle.pool_policy.specs.Worths.{WorthsStay}
 use Rattle.run_log.specs.Events.{EventTree}
 use Rattle.run_log.specs.Fold.{LogState, run_of}
 use Rattle.book_core.specs.Lawful.{IsLawful}
+use Rattle.answer_text.specs.Log.{Said}
 use Rattle.query_keys.proofs.StepLemmas.{ids_stay}
 use Rattle.query_run.specs.declared.step.Query.{Query}
 use Rattle.query_run.specs.declared.step.Step.{Step}
@@ -27,7 +26,7 @@ use Rattle.session_run.proofs.LogLemmas.{ArePlaced, log_long, other_progress, pl
 
 -- ## Readings
 
-pub readings_count : (pieces : List (List ℕ)) (readings : List (Result StmtTree Refusal)) → AreReadings pieces readings → length readings ≡ length pieces
+pub readings_count : (pieces : List (List ℕ)) (readings : List Said) → AreReadings pieces readings → length readings ≡ length pieces
 readings_count [] [] are = refl
 readings_count [] (r ∷ rs) are = absurd are
 readings_count (p ∷ ps) [] are = absurd are
@@ -64,26 +63,24 @@ module _ (seen : LogState) (given later : List Face) (stay : WorthsStay given la
   step_stays order plan results (step.Offering q n offer) is = (knows_stays plan q is.0, is.1, is.2, is.3, is.4, is.5)
   step_stays order plan results (step.Ending reply work) is = is
 
-  run_stays : (order : Order) (results : ℕ → Got) (statement : StmtTree) (at : Step) → IsRun order seen given results statement at → IsRun order seen later results statement at
-  run_stays order results statement at run = record {
-    query = run.query;
-    select = run.select;
-    accepted = run.accepted;
-    meaning = run.meaning;
-    step = step_stays order _ results at run.step;
+  run_stays : (order : Order) (results : ℕ → Got) (said : Said) (at : Step) → IsRun order seen given results said at → IsRun order seen later results said at
+  run_stays order results said at run = record {
+    plan = run.plan;
+    does = run.does;
+    step = step_stays order run.plan results at run.step;
   }
 
-  pub under_stays : (order : Order) (results : ℕ → Got) (statement : StmtTree) (at : Stage) → IsUnder order seen given results statement at → IsUnder order seen later results statement at
-  under_stays order results statement (stage.Querying (step.Begun q)) is = run_stays order results statement (step.Begun q) is
-  under_stays order results statement (stage.Querying (step.Open q)) is = run_stays order results statement (step.Open q) is
-  under_stays order results statement (stage.Querying (step.Asking q n key)) is = run_stays order results statement (step.Asking q n key) is
-  under_stays order results statement (stage.Querying (step.Found q n found parts)) is = run_stays order results statement (step.Found q n found parts) is
-  under_stays order results statement (stage.Querying (step.Offering q n offer)) is = run_stays order results statement (step.Offering q n offer) is
-  under_stays order results statement (stage.Querying (step.Ending reply work)) is = is
-  under_stays order results statement (stage.Explaining plan) is = is
-  under_stays order results statement stage.Between is = is
-  under_stays order results statement (stage.Telling reply) is = is
-  under_stays order results statement (stage.Reading read) is = is
+  pub under_stays : (order : Order) (results : ℕ → Got) (said : Said) (at : Stage) → IsUnder order seen given results said at → IsUnder order seen later results said at
+  under_stays order results said (stage.Querying (step.Begun q)) is = run_stays order results said (step.Begun q) is
+  under_stays order results said (stage.Querying (step.Open q)) is = run_stays order results said (step.Open q) is
+  under_stays order results said (stage.Querying (step.Asking q n key)) is = run_stays order results said (step.Asking q n key) is
+  under_stays order results said (stage.Querying (step.Found q n found parts)) is = run_stays order results said (step.Found q n found parts) is
+  under_stays order results said (stage.Querying (step.Offering q n offer)) is = run_stays order results said (step.Offering q n offer) is
+  under_stays order results said (stage.Querying (step.Ending reply work)) is = is
+  under_stays order results said (stage.Explaining plan) is = is
+  under_stays order results said stage.Between is = is
+  under_stays order results said (stage.Telling reply) is = is
+  under_stays order results said (stage.Reading read) is = is
 
 -- ## Sessions
 
@@ -100,10 +97,10 @@ module _ (options : PoolOptions) (log : List EventTree) (x : Session) (event : E
     place = place_stays x.number (x.ended + 1) log event (let before = has.within in let here = has.place in omega (arith, before, here)) ∙ has.place;
     piece = has.piece;
     here = has.here;
-    statement = has.statement;
+    said = has.said;
     read = has.read;
-    under = subst (λ (s : LogState). IsUnder (order_of x) s (run_of options later).given p.results has.statement x.stage) (sym (state_stays options log event has.at (let before = has.within in omega (arith, before))))
-        (under_stays (state_before options log has.at) (run_of options log).given (run_of options later).given (worths_next options log event lawful) (order_of x) p.results has.statement x.stage has.under);
+    under = subst (λ (s : LogState). IsUnder (order_of x) s (run_of options later).given p.results has.said x.stage) (sym (state_stays options log event has.at (let before = has.within in omega (arith, before))))
+        (under_stays (state_before options log has.at) (run_of options log).given (run_of options later).given (worths_next options log event lawful) (order_of x) p.results has.said x.stage has.under);
   }
 
   stage_stays : (p : Progress) (at : Stage) → IsStage options log x p at → IsStage options later x p at

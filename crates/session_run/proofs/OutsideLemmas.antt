@@ -1,5 +1,5 @@
 -- A session stands as it did while it computes what its next event needs.
-use Rattle.std.proofs.Common.{◌≡◌, ℕ, zero, suc, ◌+◌, ◌-◌, ◌≤◌, ◌<◌, List, [], ◌∷◌, ◌++◌, map, take, drop, length, Bool, true, false, cond, Option, Some, None, Ok, refl, ap, sym, ◌∙◌, subst, arith}
+use Rattle.std.proofs.Common.{◌≡◌, ℕ, zero, suc, ◌+◌, ◌-◌, ◌≤◌, ◌<◌, List, ◌∷◌, ◌++◌, drop, length, Bool, true, false, cond, Option, Some, None, refl, ap, sym, ◌∙◌, subst, arith}
 use Rattle.std.specs.Prelude.{IsSome, slice_get, slice_index_or}
 use Rattle.std.proofs.lemmas.List.{append-nil}
 use Rattle.std.proofs.lemmas.Option.{same_Some, slice_get_within}
@@ -12,11 +12,7 @@ use Rattle.mal_meaning.specs.declared.plan.Plan.{Plan}
 use Rattle.mal_meaning.specs.Meaning.{plan_rows, plan_values}
 use Rattle.mal_print.specs.Canon.{plan_text}
 use Rattle.recycle_mark.specs.Marks.{marks_of}
-use Rattle.sql_tree.specs.Tree.{QueryTree, StmtTree}
-use Rattle.sql_tree.specs.Tree.StmtTree.{Select}
-use Rattle.sql_semantics.specs.Answer.{answer}
 use Rattle.sql_semantics.specs.declared.refusal.Refusal.TheVariants.{Overflow}
-use Rattle.plan_queries.specs.Plans.{plan_over, refusal_over}
 use Rattle.pool_policy.specs.declared.entry.Who.{Who}
 use Rattle.pool_policy.specs.declared.options.PoolOptions.{PoolOptions}
 use Rattle.pool_policy.specs.Keeps.{Face}
@@ -24,11 +20,11 @@ use Rattle.recycle_pool.specs.declared.found.Found.{Found}
 use Rattle.recycle_pool.specs.declared.found.Part.{Part}
 use Rattle.run_log.specs.Events.{ActTree, Ends, EventTree}
 use Rattle.run_log.specs.Fold.{LogState, run_of}
-use Rattle.answer_text.specs.declared.shown.Shown.{Shown}
-use Rattle.answer_text.specs.declared.shown.Shown.TheVariants as shown
-use Rattle.answer_text.specs.Layout.{reply_text}
-use Rattle.answer_text.specs.Log.{code_of, shown_explain, shown_over, shown_query}
-use Rattle.book_core.specs.Begins.{code_in, unless_refused}
+use Rattle.reply_layout.specs.declared.shown.Shown.{Shown}
+use Rattle.reply_layout.specs.declared.shown.Shown.TheVariants as shown
+use Rattle.reply_layout.specs.Layout.{reply_text}
+use Rattle.reply_layout.specs.Doings.{Doing, Beginning, code_of, shown_in, shown_rows}
+use Rattle.answer_text.specs.Log.{Said, doing_over, shown_over}
 use Rattle.book_core.specs.Versions.{HasVersions}
 use Rattle.query_keys.specs.Keys.{AreIdsOf}
 use Rattle.query_run.specs.declared.step.Query.{Query}
@@ -43,8 +39,8 @@ use Rattle.table_store.specs.Content.{Content}
 use Rattle.session_run.specs.declared.session.Session.{Session}
 use Rattle.session_run.specs.declared.stage.Stage.{Stage}
 use Rattle.session_run.specs.declared.stage.Stage.TheVariants as stage
-use Rattle.session_run.specs.Progress.{Got, Has, Progress, Unasked, progress_of}
-use Rattle.session_run.specs.Turns.{AsReady, Asks, Faults, Finishes, InPlan, IsBegunAct, IsLaterAct, IsQueryAct, MayFinish, MayOverflow, Next, Offers, Order, act_of_next, next_by, next_from, overflow_code, state_before}
+use Rattle.session_run.specs.Progress.{Got, Has, Progress, progress_of}
+use Rattle.session_run.specs.Turns.{AsReady, Asks, Faults, Finishes, InPlan, IsLaterAct, IsQueryAct, MayFinish, MayOverflow, Next, Offers, Order, act_of_next, next_by, next_from, overflow_code, state_before}
 use Rattle.session_run.specs.Kept.{AreNoted, Began, HasBegun, IsNoted, IsRun, IsStage, IsStep, IsUnder, Knows, OwesNone, Stands, order_of, untold}
 use Rattle.session_run.specs.Kept.{EndsWith as EndsSo}
 use Rattle.session_run.specs.Stages.{GoesInPlan}
@@ -172,21 +168,16 @@ module _ (results : ℕ → Got) (q : Query) (noted : AreNoted results q) (under
 
 -- ## Queries that are run
 
-module _ (order : Order) (seen : LogState) (given : List Face) (results : ℕ → Got) (statement : StmtTree) (query : QueryTree) (select : statement ≡ Select query)
-    (accepted : refusal_over seen.db (Select query) ≡ None) (meaning : plan_rows (plan_over seen.db query) seen.db ≡ answer query seen.db) where
-  abbrev plan : Plan
-  plan = plan_over seen.db query
-
-  abbrev pub run_at : (at : Step) → IsStep order seen given plan results at → IsRun order seen given results statement at
-  run_at at is = record { query = query; select = select; accepted = accepted; meaning = meaning; step = is }
+module _ (order : Order) (seen : LogState) (given : List Face) (results : ℕ → Got) (said : Said) (plan : Plan) (does : doing_over seen.db said ≡ Beginning (Some plan) (shown_rows (plan_rows plan seen.db))) where
+  abbrev pub run_at : (at : Step) → IsStep order seen given plan results at → IsRun order seen given results said at
+  run_at at is = record { plan = plan; does = does; step = is }
 
   -- what the query does is what its statement does
-  pub later_is : (s : LogState) (who : Who) (act : ActTree) → IsQueryAct order s who seen plan results act → IsLaterAct order s who seen results (Ok statement) act
-  later_is s who act does =
-      subst (λ st. IsLaterAct order s who seen results (Ok st) act) (sym select) (subst (λ why. IsBegunAct order s who seen results (unless_refused why plan) act) (sym accepted) does)
+  pub later_is : (s : LogState) (who : Who) (act : ActTree) → IsQueryAct order s who seen plan results act → IsLaterAct order s who seen results (doing_over seen.db said) act
+  later_is s who act is = subst (λ (doing : Doing Plan). IsLaterAct order s who seen results doing act) (sym does) is
 
-  pub shows_rows : shown_over seen.db (Ok statement) ≡ shown_query None (plan_rows plan seen.db)
-  shows_rows = ap (λ st. shown_over seen.db (Ok st)) select ∙ ap (λ why. shown_query why (answer query seen.db)) accepted ∙ ap (shown_query None) (sym meaning)
+  pub shows_rows : shown_over seen.db said ≡ shown_rows (plan_rows plan seen.db)
+  shows_rows = ap shown_in does
 
   -- what comes next of a query that knows the tables is what comes next of the plan
   pub next_known : (q : Query) → Knows seen given plan q → next_from results 0 plan.instrs (marks_of plan) (plan_values seen.db plan.instrs) ≡ next_from results 0 q.plan.instrs (marks_of q.plan) (all_values q)
@@ -208,60 +199,56 @@ module _ (order : Order) (seen : LogState) (given : List Face) (results : ℕ �
       all_got n marked = (id_at q n, subst (λ b. IsNoted (results n) true b (id_at q n) (was_asked q n)) (before n (mark_inside q n true marked)) (noted n true marked))
 
   -- so it ends
-  goes_ends : (q : Query) → Knows seen given plan q → AreNoted results q → (reply : Shown) (work : ℕ) → EndsWith q reply work → EndsSo order seen results statement reply
+  goes_ends : (q : Query) → Knows seen given plan q → AreNoted results q → (reply : Shown) (work : ℕ) → EndsWith q reply work → EndsSo order seen results said reply
   goes_ends q k noted reply work (Overflows to n goes before unmarked none no_rows is no_work) =
       let none_seen = rows_known seen given plan q k ∙ no_rows in record {
         act = λ s who. later_is s who (Ends (code_of reply)) (subst (IsQueryAct order s who seen plan results) (ap (λ r. Ends (code_of r)) (sym is))
             (overflow_act s who to n (goes_known seen given plan q k to goes) (goes_noted results q to goes noted) before unmarked none none_seen order));
-        shows = is ∙ sym (shows_rows ∙ ap (shown_query None) none_seen);
+        shows = is ∙ sym (shows_rows ∙ ap shown_rows none_seen);
       }
   goes_ends q k noted reply work (HasRows to rows goes all_there some is counted) =
       let some_seen = rows_known seen given plan q k ∙ some in record {
         act = λ s who. later_is s who (Ends (code_of reply)) (subst (IsQueryAct order s who seen plan results) (ap (λ r. Ends (code_of r)) (sym is))
             (finish_act s who to (goes_known seen given plan q k to goes) (goes_noted results q to goes noted)
             (subst (λ (pl : Plan). HasBefore to (length pl.instrs)) (sym goes.plan_is) all_there) (subst (λ o. IsSome o) (sym some_seen) refl) order));
-        shows = is ∙ sym (shows_rows ∙ ap (shown_query None) some_seen);
+        shows = is ∙ sym (shows_rows ∙ ap shown_rows some_seen);
       }
 
 -- in the order of the plan
-module _ (seen : LogState) (given : List Face) (results : ℕ → Got) (statement : StmtTree) (query : QueryTree) (select : statement ≡ Select query)
-    (accepted : refusal_over seen.db (Select query) ≡ None) (meaning : plan_rows (plan_over seen.db query) seen.db ≡ answer query seen.db) where
-  abbrev over : Plan
-  over = plan_over seen.db query
-
-  comes_on : (q : Query) → Knows seen given over q → AreNoted results q → OwesNone InPlan q (λ m. ⊥) → (to : Step) → ComesTo q to → IsUnder InPlan seen given results statement (stage.Querying to)
+module _ (seen : LogState) (given : List Face) (results : ℕ → Got) (said : Said) (plan : Plan) (does : doing_over seen.db said ≡ Beginning (Some plan) (shown_rows (plan_rows plan seen.db))) where
+  comes_on : (q : Query) → Knows seen given plan q → AreNoted results q → OwesNone InPlan q (λ m. ⊥) → (to : Step) → ComesTo q to → IsUnder InPlan seen given results said (stage.Querying to)
   comes_on q k noted owes (step.Asking to n key) comes =
-      run_at InPlan seen given results statement query select accepted meaning (step.Asking to n key) (
-        goes_known seen given over q k to comes.0,
+      run_at InPlan seen given results said plan does (step.Asking to n key) (
+        goes_known seen given plan q k to comes.0,
         goes_noted results q to comes.0 noted,
         goes_owes InPlan q to comes.0 owes,
         comes.2,
         goes_owes InPlan q to comes.0 owes n comes.2.at.open_ (λ no. no),
         comes.1,
       )
-  comes_on q k noted owes (step.Ending reply work) ends = goes_ends InPlan seen given results statement query select accepted meaning q k noted reply work ends
+  comes_on q k noted owes (step.Ending reply work) ends = goes_ends InPlan seen given results said plan does q k noted reply work ends
   comes_on q k noted owes (step.Begun to) none = absurd none
   comes_on q k noted owes (step.Open to) none = absurd none
   comes_on q k noted owes (step.Found to n what parts) none = absurd none
   comes_on q k noted owes (step.Offering to n offer) none = absurd none
 
   -- a result that it asked for in vain has no value
-  offer_ends : (q : Query) → Knows seen given over q → AreNoted results q → (n : ℕ) (instr : Instr) → IsAt q n instr → was_asked q n ≡ true → HasBefore q n → value_at q n ≡ Some None → (reply : Shown) → reply ≡ shown.Refused Overflow
-      → EndsSo InPlan seen results statement reply
+  offer_ends : (q : Query) → Knows seen given plan q → AreNoted results q → (n : ℕ) (instr : Instr) → IsAt q n instr → was_asked q n ≡ true → HasBefore q n → value_at q n ≡ Some None → (reply : Shown) → reply ≡ shown.Refused Overflow
+      → EndsSo InPlan seen results said reply
   offer_ends q k noted n instr at asked before none reply is = record {
-    act = λ s who. later_is InPlan seen given results statement query select accepted meaning s who (Ends (code_of reply))
+    act = λ s who. later_is InPlan seen given results said plan does s who (Ends (code_of reply))
         (ap (λ r. Ends (code_of r)) is
-        ∙ sym (ap (act_of_next s who seen.versions results) (next_known InPlan seen given results statement query select accepted meaning q k
+        ∙ sym (ap (act_of_next s who seen.versions results) (next_known InPlan seen given results said plan does q k
         ∙ passed_all results q noted k.under n (let low = slice_get_within q.plan.instrs n instr at.here in omega (arith, low)) before ∙ next_offers results q noted k.under n instr at asked None none)));
-    shows = is ∙ sym (shows_rows InPlan seen given results statement query select accepted meaning ∙ ap (shown_query None) (rows_known seen given over q k ∙ no_rows q n none));
+    shows = is ∙ sym (shows_rows InPlan seen given results said plan does ∙ ap shown_rows (rows_known seen given plan q k ∙ no_rows q n none));
   }
 
-  becomes_on : (q : Query) → Knows seen given over q → AreNoted results q → (n : ℕ) → OwesNone InPlan q (λ m. m ≡ n) → was_asked q n ≡ true → HasBefore q n → (instr : Instr) → IsAt q n instr → (what : Found) (parts : List Part) (to : Step)
-      → BecomesOf q n instr what parts to → IsUnder InPlan seen given results statement (stage.Querying to)
+  becomes_on : (q : Query) → Knows seen given plan q → AreNoted results q → (n : ℕ) → OwesNone InPlan q (λ m. m ≡ n) → was_asked q n ≡ true → HasBefore q n → (instr : Instr) → IsAt q n instr → (what : Found) (parts : List Part) (to : Step)
+      → BecomesOf q n instr what parts to → IsUnder InPlan seen given results said (stage.Querying to)
   becomes_on q k noted n owes asked before instr at what parts (step.Offering to m offer) b =
-      run_at InPlan seen given results statement query select accepted meaning (step.Offering to m offer)
-      (subst (λ r. IsStep InPlan seen given over results (step.Offering r m offer)) (sym b.0)
-      (subst (λ j. IsStep InPlan seen given over results (step.Offering q j offer)) (sym b.1) (k, noted, owes, asked, before, (instr, at, b.2))))
+      run_at InPlan seen given results said plan does (step.Offering to m offer)
+      (subst (λ r. IsStep InPlan seen given plan results (step.Offering r m offer)) (sym b.0)
+      (subst (λ j. IsStep InPlan seen given plan results (step.Offering q j offer)) (sym b.1) (k, noted, owes, asked, before, (instr, at, b.2))))
   becomes_on q k noted n owes asked before instr at what parts (step.Ending reply work) b = offer_ends q k noted n instr at asked before b.0 reply b.2
   becomes_on q k noted n owes asked before instr at what parts (step.Begun to) none = absurd none
   becomes_on q k noted n owes asked before instr at what parts (step.Open to) none = absurd none
@@ -289,39 +276,38 @@ pub opened_owes : (order : Order) (q to : Query) → IsOpened q to → OwesNone 
 opened_owes InPlan q to o = λ n none but. o.unasked n
 opened_owes AsReady q to o = tt
 
-module _ (seen : LogState) (given : List Face) (results : ℕ → Got) (statement : StmtTree) where
+module _ (seen : LogState) (given : List Face) (results : ℕ → Got) (said : Said) where
   abbrev At : Step → Type 0
-  At at = IsUnder InPlan seen given results statement (stage.Querying at)
+  At at = IsUnder InPlan seen given results said (stage.Querying at)
 
   -- a step's computation comes to the next
   pub computes_on : (from to : Step) → At from → Computes from to → At to
   computes_on (step.Begun q) to run c =
-      comes_on seen given results statement run.query run.select run.accepted run.meaning c.0 (opened_knows seen given (plan_over seen.db run.query) q c.0 run.step.0 c.1)
+      comes_on seen given results said run.plan run.does c.0 (opened_knows seen given run.plan q c.0 run.step.0 c.1)
       (noted_opened results q c.0 c.1 run.step.1) (opened_owes InPlan q c.0 c.1) to c.2
-  computes_on (step.Open q) to run c = comes_on seen given results statement run.query run.select run.accepted run.meaning q run.step.0 run.step.1 run.step.2 to c
+  computes_on (step.Open q) to run c = comes_on seen given results said run.plan run.does q run.step.0 run.step.1 run.step.2 to c
   computes_on (step.Asking q n key) to run c = subst At (sym c) run
   computes_on (step.Found q n found parts) to run c =
-      becomes_on seen given results statement run.query run.select run.accepted run.meaning q run.step.0 run.step.1 n run.step.2 run.step.3 run.step.4 run.step.5.0 run.step.5.1 found parts.items to (c run.step.5.0 run.step.5.1)
+      becomes_on seen given results said run.plan run.does q run.step.0 run.step.1 n run.step.2 run.step.3 run.step.4 run.step.5.0 run.step.5.1 found parts.items to (c run.step.5.0 run.step.5.1)
   computes_on (step.Offering q n offer) to run c = subst At (sym c) run
   computes_on (step.Ending reply work) to ends c = subst At (sym c) ends
 
 -- an EXPLAIN ends with the text of its plan
-pub explain_on : (order : Order) (seen : LogState) (given : List Face) (results : ℕ → Got) (statement : StmtTree) (plan : Plan) (text : List ℕ) → IsUnder order seen given results statement (stage.Explaining plan) → text ≡ plan_text plan
-    → IsUnder order seen given results statement (stage.Querying (step.Ending (shown.Plan text) 0))
-explain_on order seen given results statement shown_plan text e is = record {
-  act = λ s who. subst (λ st. IsLaterAct order s who seen results (Ok st) (Ends 0)) (sym e.explain) (sym (ap (λ why. Ends (code_in (unless_refused why (plan_over seen.db e.query)))) e.accepted));
-  shows = ap shown.Plan (is ∙ ap plan_text e.plan_is)
-      ∙ sym (ap (λ st. shown_over seen.db (Ok st)) e.explain ∙ ap (λ why. shown_explain why (plan_text (plan_over seen.db e.query))) e.accepted);
+pub explain_on : (order : Order) (seen : LogState) (given : List Face) (results : ℕ → Got) (said : Said) (plan : Plan) (text : List ℕ) → IsUnder order seen given results said (stage.Explaining plan) → text ≡ plan_text plan
+    → IsUnder order seen given results said (stage.Querying (step.Ending (shown.Plan text) 0))
+explain_on order seen given results said plan text e is = record {
+  act = λ s who. subst (λ (doing : Doing Plan). IsLaterAct order s who seen results doing (Ends 0)) (sym e.does) refl;
+  shows = ap shown.Plan is ∙ sym (ap shown_in e.does);
 }
 
 -- and it may compute
-pub step_sound : (order : Order) (seen : LogState) (given : List Face) (results : ℕ → Got) (statement : StmtTree) (from : Step) → IsUnder order seen given results statement (stage.Querying from) → IsSoundStep from
-step_sound order seen given results statement (step.Begun q) run = run.step.0.fresh
-step_sound order seen given results statement (step.Open q) run = run.step.0.under
-step_sound order seen given results statement (step.Asking q n key) run = tt
-step_sound order seen given results statement (step.Found q n found parts) run = (run.step.0.under, run.step.5)
-step_sound order seen given results statement (step.Offering q n offer) run = tt
-step_sound order seen given results statement (step.Ending reply work) ends = tt
+pub step_sound : (order : Order) (seen : LogState) (given : List Face) (results : ℕ → Got) (said : Said) (from : Step) → IsUnder order seen given results said (stage.Querying from) → IsSoundStep from
+step_sound order seen given results said (step.Begun q) run = run.step.0.fresh
+step_sound order seen given results said (step.Open q) run = run.step.0.under
+step_sound order seen given results said (step.Asking q n key) run = tt
+step_sound order seen given results said (step.Found q n found parts) run = (run.step.0.under, run.step.5)
+step_sound order seen given results said (step.Offering q n offer) run = tt
+step_sound order seen given results said (step.Ending reply work) ends = tt
 
 -- ## Sessions
 
@@ -331,7 +317,7 @@ restaged x work now = record x { work = work; stage = now }
 
 module _ (options : PoolOptions) (log : List EventTree) (x : Session) where
   pub begun_as : (p : Progress) (work : ℕ) (now : Stage) → (has : HasBegun options log x p)
-      → ((at : ℕ) (statement : StmtTree) → IsUnder (order_of x) (state_before options log at) (run_of options log).given p.results statement x.stage → IsUnder (order_of x) (state_before options log at) (run_of options log).given p.results statement now)
+      → ((at : ℕ) (said : Said) → IsUnder (order_of x) (state_before options log at) (run_of options log).given p.results said x.stage → IsUnder (order_of x) (state_before options log at) (run_of options log).given p.results said now)
       → HasBegun options log (restaged x work now) p
   begun_as p work now has on = record {
     at = has.at;
@@ -341,9 +327,9 @@ module _ (options : PoolOptions) (log : List EventTree) (x : Session) where
     place = has.place;
     piece = has.piece;
     here = has.here;
-    statement = has.statement;
+    said = has.said;
     read = has.read;
-    under = on has.at has.statement has.under;
+    under = on has.at has.said has.under;
   }
 
   pub stands_as : (s : Stands options log x) (work : ℕ) (now : Stage) → untold x.ended x.stage ≡ untold x.ended now → IsStage options log (restaged x work now) (progress_of x.number log) now → Stands options log (restaged x work now)
@@ -368,10 +354,10 @@ module _ (options : PoolOptions) (log : List EventTree) (x : Session) where
       let has = subst (IsStage options log x p) is s.stage in
       let in_plan : order_of x ≡ InPlan = ap (λ b. cond b AsReady InPlan) narrow in
       stands_as s work (stage.Querying to) (ap (untold x.ended) is) (begun_as p work (stage.Querying to) has
-      (λ at statement under. subst (λ o. IsUnder o (state_before options log at) (run_of options log).given p.results statement (stage.Querying to)) (sym in_plan)
-      (computes_on (state_before options log at) (run_of options log).given p.results statement from to
-      (subst (λ o. IsUnder o (state_before options log at) (run_of options log).given p.results statement (stage.Querying from)) in_plan
-      (subst (IsUnder (order_of x) (state_before options log at) (run_of options log).given p.results statement) is under)) c)))
+      (λ at said under. subst (λ o. IsUnder o (state_before options log at) (run_of options log).given p.results said (stage.Querying to)) (sym in_plan)
+      (computes_on (state_before options log at) (run_of options log).given p.results said from to
+      (subst (λ o. IsUnder o (state_before options log at) (run_of options log).given p.results said (stage.Querying from)) in_plan
+      (subst (IsUnder (order_of x) (state_before options log at) (run_of options log).given p.results said) is under)) c)))
 
   -- a step whose event stands stays as it is
   stays_so : (from to : Step) (work : ℕ) → Stands options log x → x.stage ≡ stage.Querying from → to ≡ from → Stands options log (restaged x work (stage.Querying to))
@@ -380,7 +366,7 @@ module _ (options : PoolOptions) (log : List EventTree) (x : Session) where
       let has = subst (IsStage options log x p) is s.stage in
       subst (λ at. Stands options log (restaged x work (stage.Querying at))) (sym same)
       (stands_as s work (stage.Querying from) (ap (untold x.ended) is) (begun_as p work (stage.Querying from) has
-      (λ at statement under. subst (IsUnder (order_of x) (state_before options log at) (run_of options log).given p.results statement) is under)))
+      (λ at said under. subst (IsUnder (order_of x) (state_before options log at) (run_of options log).given p.results said) is under)))
 
   pub query_computes : (from to : Step) (work : ℕ) → GoesInPlan x (stage.Querying from) → Stands options log x → x.stage ≡ stage.Querying from → Computes from to → Stands options log (restaged x work (stage.Querying to))
   query_computes (step.Begun q) to work narrow s is c = goes_computes (step.Begun q) to work narrow s is c
@@ -394,8 +380,8 @@ module _ (options : PoolOptions) (log : List EventTree) (x : Session) where
   query_sound from s is =
       let p = progress_of x.number log in
       let has = subst (IsStage options log x p) is s.stage in
-      step_sound (order_of x) (state_before options log has.at) (run_of options log).given p.results has.statement from
-      (subst (IsUnder (order_of x) (state_before options log has.at) (run_of options log).given p.results has.statement) is has.under)
+      step_sound (order_of x) (state_before options log has.at) (run_of options log).given p.results has.said from
+      (subst (IsUnder (order_of x) (state_before options log has.at) (run_of options log).given p.results has.said) is has.under)
 
   -- an EXPLAIN prints its plan
   pub explain_computes : (plan : Plan) (text : List ℕ) (work : ℕ) → Stands options log x → x.stage ≡ stage.Explaining plan → text ≡ plan_text plan → Stands options log (restaged x work (stage.Querying (step.Ending (shown.Plan text) 0)))
@@ -403,8 +389,8 @@ module _ (options : PoolOptions) (log : List EventTree) (x : Session) where
       let p = progress_of x.number log in
       let has = subst (IsStage options log x p) is s.stage in
       stands_as s work (stage.Querying (step.Ending (shown.Plan text) 0)) (ap (untold x.ended) is) (begun_as p work (stage.Querying (step.Ending (shown.Plan text) 0)) has
-      (λ at statement under. explain_on (order_of x) (state_before options log at) (run_of options log).given p.results statement plan text
-      (subst (IsUnder (order_of x) (state_before options log at) (run_of options log).given p.results statement) is under) printed))
+      (λ at said under. explain_on (order_of x) (state_before options log at) (run_of options log).given p.results said plan text
+      (subst (IsUnder (order_of x) (state_before options log at) (run_of options log).given p.results said) is under) printed))
 
   -- a reply is written
   pub reply_told : (reply : Shown) (text : Vec ℕ Global) (work : ℕ) → Stands options log x → x.stage ≡ stage.Telling reply → text.items ≡ x.text.items ++ reply_text x.ended reply

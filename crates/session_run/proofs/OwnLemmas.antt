@@ -1,11 +1,10 @@
 -- A session does an event of its own: what is common to all.
-use Rattle.std.proofs.Common.{◌≡◌, ℕ, zero, suc, ◌+◌, ◌-◌, ◌≤◌, ◌<◌, List, [], ◌∷◌, ◌++◌, take, length, false, Option, Some, None, Result, Ok, refl, ap, sym, ◌∙◌, subst, arith}
+use Rattle.std.proofs.Common.{◌≡◌, ℕ, zero, suc, ◌+◌, ◌-◌, ◌≤◌, ◌<◌, List, [], ◌∷◌, ◌++◌, take, length, false, Option, Some, None, refl, ap, sym, ◌∙◌, subst, arith}
 use Rattle.std.specs.Prelude.{slice_get}
 use Rattle.std.proofs.lemmas.List.{append-nil, length-map, map-append}
 use Rattle.std.proofs.lemmas.Option.{same_Some, slice_get_within}
 use Rattle.mal_meaning.specs.declared.plan.Plan.{Plan}
 use Rattle.sql_tree.specs.Tree.{StmtTree}
-use Rattle.sql_semantics.specs.declared.refusal.Refusal.{Refusal}
 use Rattle.read_laws.specs.Answered.{Reads}
 use Rattle.pool_policy.specs.declared.options.PoolOptions.{PoolOptions}
 use Rattle.pool_policy.specs.Keeps.{Face}
@@ -13,9 +12,10 @@ use Rattle.run_log.specs.Events.{ActTree, Begins, Writes, Ends, EventTree, event
 use Rattle.run_log.specs.declared.event.Event.{Event}
 use Rattle.run_log.specs.Fold.{LogState, run_of}
 use Rattle.run_log.proofs.LogLemmas.{logs_tell_holds}
-use Rattle.answer_text.specs.declared.shown.Shown.{Shown}
-use Rattle.answer_text.specs.Layout.{replies_text, reply_text}
-use Rattle.answer_text.specs.Log.{is_opening, shown_over, tables_met}
+use Rattle.reply_layout.specs.declared.shown.Shown.{Shown}
+use Rattle.reply_layout.specs.Layout.{reply_text}
+use Rattle.answer_text.specs.Layout.{replies_text}
+use Rattle.answer_text.specs.Log.{Said, is_opening, shown_over, tables_met}
 use Rattle.book_core.specs.BookView.{BookView, now_of, state_of}
 use Rattle.query_keys.proofs.InstrLemmas.{get_none}
 use Rattle.session_run.specs.declared.session.Session.{Session}
@@ -55,7 +55,7 @@ taken_suc (y ∷ xs) (suc n) x there = ap (λ zs. y ∷ zs) (taken_suc xs n x th
 taken_more : (xs : List (List ℕ)) (n : ℕ) (x : List ℕ) → slice_get xs n ≡ Some x → take (n + 1) xs ≡ take n xs ++ x ∷ []
 taken_more xs n x there = let next : n + 1 ≡ suc n = omega arith in ap (λ k. take k xs) next ∙ taken_suc xs n x there
 
-readings_on : (pieces : List (List ℕ)) (readings : List (Result StmtTree Refusal)) (piece : List ℕ) (reading : Result StmtTree Refusal) → AreReadings pieces readings → Reads piece reading → AreReadings (pieces ++ piece ∷ []) (readings ++ reading ∷ [])
+readings_on : (pieces : List (List ℕ)) (readings : List Said) (piece : List ℕ) (reading : Said) → AreReadings pieces readings → Reads piece reading → AreReadings (pieces ++ piece ∷ []) (readings ++ reading ∷ [])
 readings_on [] [] piece reading are is = (is, tt)
 readings_on [] (r ∷ rs) piece reading are is = absurd are
 readings_on (p ∷ ps) [] piece reading are is = absurd are
@@ -68,7 +68,7 @@ module _ (options : PoolOptions) (log : List EventTree) (x : Session) (s : Stand
   before = progress_of x.number log
 
   -- it is the session's next
-  pub next_is : (piece : List ℕ) → slice_get x.pieces x.ended ≡ Some piece → (reading : Result StmtTree Refusal) → Reads piece reading → (act : ActTree)
+  pub next_is : (piece : List ℕ) → slice_get x.pieces x.ended ≡ Some piece → (reading : Said) → Reads piece reading → (act : ActTree)
       → IsNextAct (order_of x) options log (who_at x.number before) before before.begun reading act → IsNext (order_of x) options x.pieces x.number log (event_by x act)
   next_is piece here reading read act is = record {
     piece = piece;
@@ -81,7 +81,7 @@ module _ (options : PoolOptions) (log : List EventTree) (x : Session) (s : Stand
   }
 
   -- by this reading of its text
-  pub next_reads : (piece : List ℕ) (here : slice_get x.pieces x.ended ≡ Some piece) (reading : Result StmtTree Refusal) (read : Reads piece reading) (act : ActTree)
+  pub next_reads : (piece : List ℕ) (here : slice_get x.pieces x.ended ≡ Some piece) (reading : Said) (read : Reads piece reading) (act : ActTree)
       (is : IsNextAct (order_of x) options log (who_at x.number before) before before.begun reading act) → (next_is piece here reading read act is).reading ≡ reading
   unfolding next_is
   next_reads piece here reading read act is = refl
@@ -115,7 +115,7 @@ module _ (options : PoolOptions) (log : List EventTree) (x : Session) (s : Stand
 
     -- its statement ends with this reply
     at_end : (work : ℕ) (reply : Shown) → untold x.ended x.stage ≡ [] → after.ended ≡ x.ended + 1 → after.begun ≡ None → ArePlaced x.number (x.ended + 1) later
-        → replies_text later x.number s.readings ≡ replies_text log x.number s.readings → (piece : List ℕ) → slice_get x.pieces x.ended ≡ Some piece → (reading : Result StmtTree Refusal) → Reads piece reading
+        → replies_text later x.number s.readings ≡ replies_text log x.number s.readings → (piece : List ℕ) → slice_get x.pieces x.ended ≡ Some piece → (reading : Said) → Reads piece reading
         → reply ≡ shown_over (tables_met later x.number (x.ended + 1)) reading → Stands options later (replied x work reply)
     at_end work reply told ended none placed replies piece here reading read shows =
         let many : opened after after.begun ≡ x.ended + 1 = ap (opened after) none ∙ ended in
@@ -145,7 +145,7 @@ module _ (options : PoolOptions) (log : List EventTree) (x : Session) (s : Stand
 
   -- a statement that is one event has ended with this reply
   pub whole_stands : (o : Option StmtTree) (code count work : ℕ) (reply : Shown) → untold x.ended x.stage ≡ [] → before.begun ≡ None
-      → (piece : List ℕ) → slice_get x.pieces x.ended ≡ Some piece → (reading : Result StmtTree Refusal) → Reads piece reading → reply ≡ shown_over seen_now.db reading
+      → (piece : List ℕ) → slice_get x.pieces x.ended ≡ Some piece → (reading : Said) → Reads piece reading → reply ≡ shown_over seen_now.db reading
       → Stands options (log ++ event_by x (Writes o code count) ∷ []) (replied x work reply)
   whole_stands o code count work reply told none piece here reading read shows =
       let event = event_by x (Writes o code count) in
@@ -158,11 +158,11 @@ module _ (options : PoolOptions) (log : List EventTree) (x : Session) (s : Stand
 
   -- a query or an EXPLAIN has begun
   pub begun_stands : (code : ℕ) (plan : Option Plan) (work : ℕ) (now : Stage) → untold x.ended x.stage ≡ [] → untold x.ended now ≡ [] → before.begun ≡ None
-      → (piece : List ℕ) → slice_get x.pieces x.ended ≡ Some piece → (statement : StmtTree) → Reads piece (Ok statement)
-      → ((given : List Face) → IsUnder (order_of x) seen_now given nothing_got statement now)
+      → (piece : List ℕ) → slice_get x.pieces x.ended ≡ Some piece → (said : Said) → Reads piece said
+      → ((given : List Face) → IsUnder (order_of x) seen_now given nothing_got said now)
       → (HasBegun options (log ++ event_by x (Begins code plan) ∷ []) (restaged x work now) (after (Begins code plan)) → IsStage options (log ++ event_by x (Begins code plan) ∷ []) (restaged x work now) (after (Begins code plan)) now)
       → Stands options (log ++ event_by x (Begins code plan) ∷ []) (restaged x work now)
-  begun_stands code plan work now told tell none piece here statement read under is =
+  begun_stands code plan work now told tell none piece here said read under is =
       let event = event_by x (Begins code plan) in
       let placed = between_placed none in
       at_stage (Begins code plan) work now told tell s.ended
@@ -176,9 +176,9 @@ module _ (options : PoolOptions) (log : List EventTree) (x : Session) (s : Stand
         place = place_next x.number x.ended log event refl refl refl placed;
         piece = piece;
         here = here;
-        statement = statement;
+        said = said;
         read = read;
-        under = subst (λ (t : LogState). IsUnder (order_of x) t (run_of options (log ++ event ∷ [])).given nothing_got statement now) (sym (state_next options log event)) (under (run_of options (log ++ event ∷ [])).given);
+        under = subst (λ (t : LogState). IsUnder (order_of x) t (run_of options (log ++ event ∷ [])).given nothing_got said now) (sym (state_next options log event)) (under (run_of options (log ++ event ∷ [])).given);
       }))
 
   -- ## A statement goes on
@@ -188,7 +188,7 @@ module _ (options : PoolOptions) (log : List EventTree) (x : Session) (s : Stand
 
   -- a query has looked or offered
   pub goes_stands : (act : ActTree) (work : ℕ) (now : Stage) → is_opening act ≡ false → untold x.ended x.stage ≡ [] → untold x.ended now ≡ [] → (after act).ended ≡ before.ended → (after act).begun ≡ before.begun
-      → (has : HasBegun options log x before) → IsUnder (order_of x) (state_before options log has.at) (run_of options (log ++ event_by x act ∷ [])).given (after act).results has.statement now
+      → (has : HasBegun options log x before) → IsUnder (order_of x) (state_before options log has.at) (run_of options (log ++ event_by x act ∷ [])).given (after act).results has.said now
       → (HasBegun options (log ++ event_by x act ∷ []) (restaged x work now) (after act) → IsStage options (log ++ event_by x act ∷ []) (restaged x work now) (after act) now)
       → Stands options (log ++ event_by x act ∷ []) (restaged x work now)
   goes_stands act work now quiet told tell ended begun has under is =
@@ -206,9 +206,9 @@ module _ (options : PoolOptions) (log : List EventTree) (x : Session) (s : Stand
         place = place_stays x.number (x.ended + 1) log event (let here = has.place in omega (arith, here, within)) ∙ has.place;
         piece = has.piece;
         here = has.here;
-        statement = has.statement;
+        said = has.said;
         read = has.read;
-        under = subst (λ (t : LogState). IsUnder (order_of x) t (run_of options (log ++ event ∷ [])).given (after act).results has.statement now) (sym (state_stays options log event has.at (omega (arith, within)))) under;
+        under = subst (λ (t : LogState). IsUnder (order_of x) t (run_of options (log ++ event ∷ [])).given (after act).results has.said now) (sym (state_stays options log event has.at (omega (arith, within)))) under;
       }))
 
   -- its statement meets the tables before its Begin
@@ -216,7 +216,7 @@ module _ (options : PoolOptions) (log : List EventTree) (x : Session) (s : Stand
   begun_met has = ap (tables_at log) has.place ∙ sym (logs_tell_holds.tables options (take (has.at - 1) log))
 
   -- a query or an EXPLAIN has ended with this reply
-  pub end_stands : (code work : ℕ) (reply : Shown) → untold x.ended x.stage ≡ [] → (has : HasBegun options log x before) → reply ≡ shown_over (state_before options log has.at).db (Ok has.statement)
+  pub end_stands : (code work : ℕ) (reply : Shown) → untold x.ended x.stage ≡ [] → (has : HasBegun options log x before) → reply ≡ shown_over (state_before options log has.at).db has.said
       → Stands options (log ++ event_by x (Ends code) ∷ []) (replied x work reply)
   end_stands code work reply told has shows =
       let event = event_by x (Ends code) in
@@ -228,4 +228,4 @@ module _ (options : PoolOptions) (log : List EventTree) (x : Session) (s : Stand
       at_end (Ends code) work reply told (ap (λ n. n + 1) s.ended) refl
       (placed_quiet x.number (x.ended + 1) log event refl placed)
       (replies_stay x.number (x.ended + 1) log event s.readings placed (let count = stands_count options log x s in omega (arith, count)))
-      has.piece has.here (Ok has.statement) has.read (shows ∙ ap (λ db. shown_over db (Ok has.statement)) (sym met))
+      has.piece has.here has.said has.read (shows ∙ ap (λ db. shown_over db has.said) (sym met))

@@ -27,8 +27,8 @@ use Rattle.bat_core.specs.declared.shared.Obj.TheVariants as obj
 use Rattle.std.specs.declared.vec.Vec.{Vec}
 use Rattle.std.specs.declared.alloc.Global.{Global}
 use Rattle.run_log.specs.Fold.{LogState, run_of}
-use Rattle.answer_text.specs.declared.shown.Shown.{Shown}
-use Rattle.answer_text.specs.Log.{code_of}
+use Rattle.reply_layout.specs.declared.shown.Shown.{Shown}
+use Rattle.reply_layout.specs.Doings.{code_of}
 use Rattle.book_core.specs.Begins.{begin_act}
 use Rattle.query_keys.specs.Keys.{instr_key}
 use Rattle.query_run.specs.declared.step.Query.{Query}
@@ -196,7 +196,7 @@ module _ (options : PoolOptions) (log : List EventTree) (x : Session) where
       → IsWorked options (later (Looks (n + 1) key (looked_of (look_of now.pool key)))) (restaged x x.work (stage.Querying to))
   look_worked s w q n key to is looked =
       let has = subst (IsStage options log x p) is s.stage in
-      let run = subst (IsUnder (order_of x) (state_before options log has.at) now.given p.results has.statement) is has.under in
+      let run = subst (IsUnder (order_of x) (state_before options log has.at) now.given p.results has.said) is has.under in
       let worked = subst (IsWorkedStage options log p) is w.stage in
       restaged_worked w (Looks (n + 1) key (looked_of (look_of now.pool key))) x.work (stage.Querying to) (omega arith)
       (subst (λ m. Worked_at q n key run.step.3 run.step.0.under worked.0 worked.1 m to) (sym (one_less n)) (look_step q n key run.step.3 run.step.0.under worked.0 worked.1 to looked))
@@ -207,7 +207,7 @@ module _ (options : PoolOptions) (log : List EventTree) (x : Session) where
   offer_worked s w q n offer result id is to g =
       let act = Admits (n + 1) offer.key result in
       let has = subst (IsStage options log x p) is s.stage in
-      let run = subst (IsUnder (order_of x) (state_before options log has.at) now.given p.results has.statement) is has.under in
+      let run = subst (IsUnder (order_of x) (state_before options log has.at) now.given p.results has.said) is has.under in
       let worked = subst (IsWorkedStage options log p) is w.stage in
       let same = goes_planned act refl q worked.0 in
       restaged_worked w act (x.work + offer.done) (stage.Querying (step.Open to)) (ap (λ m. x.work + m) (worked.2 result)) (

@@ -1,15 +1,14 @@
 -- Many events of others, and a session that is done.
-use Rattle.std.proofs.Common.{◌≡◌, ℕ, ◌≤◌, List, [], ◌∷◌, ◌++◌, length, false, Result, ap, sym, ◌∙◌, subst, arith}
+use Rattle.std.proofs.Common.{◌≡◌, ℕ, ◌≤◌, List, [], ◌∷◌, ◌++◌, length, false, ap, sym, ◌∙◌, subst, arith}
 use Rattle.std.specs.Prelude.{◌==◌}
 use Rattle.std.specs.List.{AllByRecursion}
 use Rattle.std.proofs.lemmas.Bool.{ne_eqb}
 use Rattle.std.proofs.lemmas.List.{append_assoc, append-nil, take_all}
-use Rattle.sql_tree.specs.Tree.{StmtTree}
-use Rattle.sql_semantics.specs.declared.refusal.Refusal.{Refusal}
 use Rattle.pool_policy.specs.declared.options.PoolOptions.{PoolOptions}
 use Rattle.run_log.specs.Events.{EventTree}
 use Rattle.run_log.specs.Fold.{LogState, after, log_start}
 use Rattle.answer_text.specs.Layout.{replies_text}
+use Rattle.answer_text.specs.Log.{Said}
 use Rattle.book_core.specs.Lawful.{FollowAll, IsLawful}
 use Rattle.session_run.specs.declared.session.Session.{Session}
 use Rattle.session_run.specs.declared.stage.Stage.TheVariants as stage
@@ -46,7 +45,7 @@ done_is options log x s all = let ended = s.ended in omega (arith, ended, all)
 
 -- it has no reply to write then but the last, and its text is the replies to all its statements
 pub done_text : (options : PoolOptions) (log : List EventTree) (x : Session) → Stands options log x → x.stage ≡ stage.Between → length x.pieces ≤ x.ended
-    → (readings : List (Result StmtTree Refusal)) × AreReadings x.pieces readings × (x.text.items ≡ replies_text log x.number readings)
+    → (readings : List Said) × AreReadings x.pieces readings × (x.text.items ≡ replies_text log x.number readings)
 done_text options log x s is all = (
   s.readings,
   subst (λ pieces. AreReadings pieces s.readings) (take_all x.ended x.pieces all) s.read,

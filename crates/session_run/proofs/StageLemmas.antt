@@ -12,14 +12,16 @@ use Rattle.recycle_mark.specs.Marks.{marks_of}
 use Rattle.sql_tree.specs.declared.tree.Stmt.{Stmt}
 use Rattle.sql_tree.specs.Tree.{QueryTree}
 use Rattle.sql_tree.specs.Tree.StmtTree.{Select, ExplainSelect}
-use Rattle.sql_semantics.specs.Answer.{answer_of_stmt}
+use Rattle.sql_semantics.specs.Answer.{answer, answer_of_stmt}
 use Rattle.sql_semantics.specs.declared.refusal.Refusal.{Refusal}
 use Rattle.read_laws.specs.Answered.{Reads}
 use Rattle.plan_queries.specs.Plans.{plan_over, refusal_over}
 use Rattle.pool_policy.specs.declared.options.PoolOptions.{PoolOptions}
 use Rattle.run_log.specs.Events.{ActTree, EventTree, act_tree}
 use Rattle.run_log.specs.Fold.{LogState, run_of}
-use Rattle.answer_text.specs.declared.shown.Shown.{Shown}
+use Rattle.reply_layout.specs.declared.shown.Shown.{Shown}
+use Rattle.reply_layout.specs.Doings.{Beginning, shown_rows}
+use Rattle.answer_text.specs.Log.{doing_over}
 use Rattle.table_store.specs.Content.{Content}
 use Rattle.book_core.specs.Begins.{begin_act, marks_in, unless_refused}
 use Rattle.book_core.specs.Versions.{HasVersions}
@@ -31,7 +33,7 @@ use Rattle.session_run.specs.Readings.{AreReadings}
 use Rattle.session_run.specs.Turns.{IsNext, state_before}
 use Rattle.session_run.specs.Kept.{HasBegun, HasRead, IsStage, IsUnder, Stands, order_of, untold}
 use Rattle.session_run.specs.Stages.{BeginsWith, ComesTo, GoesInPlan, HasComputed, IsSoundStage, MayBegin, ReadsOn, at_stage, explained, with_reply}
-use Rattle.session_run.proofs.InsideLemmas.{explain_begins, explain_refused, query_begins, query_refused}
+use Rattle.session_run.proofs.InsideLemmas.{explain_begins, explain_refuses, explain_shows, plan_begins, query_refuses, query_runs, refused_begins}
 use Rattle.session_run.proofs.OwnLemmas.{event_by}
 use Rattle.session_run.proofs.OutsideLemmas.{explain_computes, query_computes, query_sound, reply_told, restaged, stands_as}
 
@@ -67,7 +69,7 @@ module _ (options : PoolOptions) (log : List EventTree) (x : Session) (text : Ve
     place = has.place;
     piece = has.piece;
     here = has.here;
-    statement = has.statement;
+    said = has.said;
     read = has.read;
     under = has.under;
   }
@@ -129,7 +131,7 @@ module _ (options : PoolOptions) (log : List EventTree) (x : Session) (s : Stand
       go (stage.Querying from) is = query_sound options log x from s is
       go (stage.Explaining plan) is =
           let has = subst (IsStage options log x (progress_of x.number log)) is s.stage in
-          (subst (IsUnder (order_of x) (state_before options log has.at) (run_of options log).given (progress_of x.number log).results has.statement) is has.under).checked
+          (subst (IsUnder (order_of x) (state_before options log has.at) (run_of options log).given (progress_of x.number log).results has.said) is has.under).checked
 
   computed_at : (at next : Stage) (text : Vec ℕ Global) (work : ℕ) → x.stage ≡ at → GoesInPlan x at → ComesTo x at next text.items → Stands options log (record x { text = text; work = work; stage = next })
   computed_at stage.Between next text work is in_plan c =
@@ -195,7 +197,7 @@ module _ (options : PoolOptions) (log : List EventTree) (x : Session) (s : Stand
       let q = begins.0 in
       let new = begins.2 in
       subst (λ to. Does (act_tree (begin_act (Select query) (Ok plan))) (restaged x work to)) (sym begins.1)
-      (query_begins options log x s is piece here query plan q work read outcome (record {
+      (plan_begins options log x s is piece here (Ok (Select query)) plan q work read does (record {
         db = ap (λ (content : Content). content.db) new.snap_is ∙ db;
         versions = subst (HasVersions now.versions) (sym new.snap_is) versions;
         plan_is = new.plan_is;
@@ -205,20 +207,23 @@ module _ (options : PoolOptions) (log : List EventTree) (x : Session) (s : Stand
           marks = new.marks_are ∙ marked ∙ ap marks_of (sym new.plan_is);
           work = new.work;
         };
-      }) meaning)
+      }))
+    where
+      does : doing_over now.db (Ok (Select query)) ≡ Beginning (Some plan) (shown_rows (plan_rows plan now.db))
+      does = query_runs (refusal_over now.db (Select query)) plan (plan_over now.db query) (answer query now.db) outcome ∙ ap (λ rows. Beginning (Some plan) (shown_rows rows)) (sym meaning)
   query_starts (Err refusal) snap marks next work read outcome db versions marked checked fits meaning begins =
       subst (λ to. Does (act_tree (begin_act (Select query) (Err refusal))) (restaged x work to)) (sym begins)
-      (query_refused options log x s is piece here query refusal work read outcome)
+      (refused_begins options log x s is piece here (Ok (Select query)) refusal work read (query_refuses (refusal_over now.db (Select query)) refusal (plan_over now.db query) (answer query now.db) outcome))
 
   -- and an EXPLAIN
   pub explain_starts : (outcome : Result Plan Refusal) (next : Stage) (work : ℕ) → Reads piece (Ok (ExplainSelect query)) → outcome ≡ unless_refused (refusal_over now.db (ExplainSelect query)) (plan_over now.db query)
       → IfOk outcome (λ plan. plan_fault plan ≡ None) → next ≡ explained outcome → Does (act_tree (begin_act (ExplainSelect query) outcome)) (restaged x work next)
   explain_starts (Ok plan) next work read outcome checked begins =
       subst (λ to. Does (act_tree (begin_act (ExplainSelect query) (Ok plan))) (restaged x work to)) (sym begins)
-      (explain_begins options log x s is piece here query plan work checked read outcome)
+      (explain_begins options log x s is piece here (Ok (ExplainSelect query)) plan work checked read (ap (Beginning None) (explain_shows (refusal_over now.db (ExplainSelect query)) plan (plan_over now.db query) outcome)))
   explain_starts (Err refusal) next work read outcome checked begins =
       subst (λ to. Does (act_tree (begin_act (ExplainSelect query) (Err refusal))) (restaged x work to)) (sym begins)
-      (explain_refused options log x s is piece here query refusal work read outcome)
+      (refused_begins options log x s is piece here (Ok (ExplainSelect query)) refusal work read (ap (Beginning None) (explain_refuses (refusal_over now.db (ExplainSelect query)) refusal (plan_over now.db query) (plan_text (plan_over now.db query)) outcome)))
 
 -- and then it has just begun, or ends
 pub begins_so : (snap : Content) (marks : List Bool) (outcome : Result Plan Refusal) (next : Stage) → BeginsWith snap marks outcome next → MayBegin next

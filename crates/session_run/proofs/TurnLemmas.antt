@@ -1,5 +1,5 @@
 -- A query asks the pool for a result, or offers one.
-use Rattle.std.proofs.Common.{◌≡◌, ℕ, ◌+◌, ◌-◌, ◌≤◌, ◌<◌, List, [], ◌∷◌, ◌++◌, map, take, length, true, false, Some, Ok, refl, ap, sym, ◌∙◌, subst, arith}
+use Rattle.std.proofs.Common.{◌≡◌, ℕ, ◌+◌, ◌-◌, ◌≤◌, ◌<◌, List, [], ◌∷◌, ◌++◌, map, take, length, true, false, Some, refl, ap, sym, ◌∙◌, subst, arith}
 use Rattle.std.specs.Prelude.{IsSome, Option, slice_get, unwrap_or}
 use Rattle.std.specs.declared.vec.Vec.{Vec}
 use Rattle.std.specs.declared.alloc.Global.{Global}
@@ -22,7 +22,6 @@ use Rattle.recycle_mark.specs.Marks.{marks_of}
 use Rattle.lineage_key.specs.declared.key.Key.{Key}
 use Rattle.subsume.specs.Cutting.{Entry}
 use Rattle.reuse_laws.specs.Reuse.{merged, selected_in}
-use Rattle.plan_queries.specs.Plans.{plan_over}
 use Rattle.pool_policy.specs.declared.entry.Who.{Who}
 use Rattle.pool_policy.specs.declared.options.Admitted.{Admitted}
 use Rattle.pool_policy.specs.declared.options.PoolOptions.{PoolOptions}
@@ -53,12 +52,12 @@ use Rattle.query_run.specs.declared.step.Query.{Query}
 use Rattle.query_run.specs.declared.step.Offer.{Offer}
 use Rattle.query_run.specs.declared.step.Step.{Step}
 use Rattle.query_run.specs.declared.step.Step.TheVariants as step
-use Rattle.query_run.specs.Queries.{AsksFor, HasArgs, HasAsked, HasGained, HasMark, IsAt, IsLooked, IsOffered, Serves, all_values, has_result, id_at, key_in, value_at, versions_in, was_asked}
+use Rattle.query_run.specs.Queries.{AsksFor, HasArgs, HasAsked, HasGained, IsAt, IsLooked, IsOffered, Serves, all_values, id_at, key_in, value_at, versions_in, was_asked}
 use Rattle.query_run.proofs.WalkLemmas.{as_many_marks}
 use Rattle.session_run.specs.declared.session.Session.{Session}
 use Rattle.session_run.specs.declared.stage.Stage.TheVariants as stage
-use Rattle.session_run.specs.Progress.{Asked, Got, Has, Progress, got_by, ids_before, noted, progress_by, progress_of}
-use Rattle.session_run.specs.Turns.{AsReady, InPlan, IsKnown, IsNext, IsNextAct, IsQueryAct, MayAsk, MayOffer, Order, act_of_next, admit_at, key_at, look_at, query_act, state_before, who_at}
+use Rattle.session_run.specs.Progress.{Asked, Got, Has, Progress, got_by, noted, progress_of}
+use Rattle.session_run.specs.Turns.{AsReady, InPlan, IsKnown, IsNext, IsNextAct, IsQueryAct, MayAsk, MayOffer, Order, act_of_next, admit_at, key_at, look_at, state_before, who_at}
 use Rattle.session_run.specs.Kept.{AreNoted, HasBegun, IsInTurn, IsNoted, IsRun, IsStage, IsStep, IsUnder, Knows, Stands, order_of, untold}
 use Rattle.session_run.proofs.GainedLemmas.{asked_args, asked_at, asked_knows, asked_owes, asked_serves, asked_turn, asked_was, gained_knows, gained_owes, one_less}
 use Rattle.session_run.proofs.LogLemmas.{lawful_sound, state_remembers, worths_next}
@@ -192,11 +191,11 @@ module _ (options : PoolOptions) (log : List EventTree) (lawful : IsLawful optio
     abbrev seen : LogState
     seen = state_before options log asking.at
 
-    run : IsRun order seen now.given p.results asking.statement (step.Asking q n key)
-    run = subst (IsUnder order seen now.given p.results asking.statement) is asking.under
+    run : IsRun order seen now.given p.results asking.said (step.Asking q n key)
+    run = subst (IsUnder order seen now.given p.results asking.said) is asking.under
 
     abbrev asked_plan : Plan
-    asked_plan = plan_over seen.db run.query
+    asked_plan = run.plan
 
     abbrev asker_knows : Knows seen now.given asked_plan q
     asker_knows = run.step.0
@@ -216,16 +215,16 @@ module _ (options : PoolOptions) (log : List EventTree) (lawful : IsLawful optio
     look_is : look ≡ look_at now seen.versions p.results n asks.instr
     look_is = ap (λ (named : Key). Looks (n + 1) named (looked_of (look_of now.pool named))) key_is
 
-    look_next : IsNextAct order options log (who_at x.number p) p p.begun (Ok asking.statement) look
+    look_next : IsNextAct order options log (who_at x.number p) p p.begun asking.said look
     look_next =
-        subst (λ b. IsNextAct order options log (who_at x.number p) p b (Ok asking.statement) look) (sym asking.begun)
-        (later_is order seen now.given p.results asking.statement run.query run.select run.accepted run.meaning now (who_at x.number p) look (does order refl))
+        subst (λ b. IsNextAct order options log (who_at x.number p) p b asking.said look) (sym asking.begun)
+        (later_is order seen now.given p.results asking.said run.plan run.does now (who_at x.number p) look (does order refl))
       where
         does : (o : Order) → order ≡ o → IsQueryAct o now (who_at x.number p) seen asked_plan p.results look
         does InPlan in_plan =
             let before = subst (λ o. IsInTurn o q n) in_plan run.step.5 in
             look_is ∙ sym (ap (act_of_next now (who_at x.number p) seen.versions p.results)
-            (next_known order seen now.given p.results asking.statement run.query run.select run.accepted run.meaning q asker_knows
+            (next_known order seen now.given p.results asking.said run.plan run.does q asker_knows
             ∙ passed_all p.results q asker_noted asker_knows.under n (let low = slice_get_within q.plan.instrs n asks.instr asks.at.here in omega (arith, low)) before
             ∙ next_asks p.results q asker_noted asker_knows.under n asks.instr asks.at run.step.4))
         does AsReady ready =
@@ -248,15 +247,15 @@ module _ (options : PoolOptions) (log : List EventTree) (lawful : IsLawful optio
     asked_long : length (take n q.ids.items) ≡ n
     asked_long = taken_long seen now.given asked_plan q asker_knows p.results asker_noted n asks.instr asks.at
 
-    run_behind : (given : List Face) (results : ℕ → Got) (at : Step) → IsStep order seen given asked_plan results at → IsRun order seen given results asking.statement at
-    run_behind given results at step = record { query = run.query; select = run.select; accepted = run.accepted; meaning = run.meaning; step = step }
+    run_behind : (given : List Face) (results : ℕ → Got) (at : Step) → IsStep order seen given asked_plan results at → IsRun order seen given results asking.said at
+    run_behind given results at step = record { plan = run.plan; does = run.does; step = step }
 
     gained : (given : List Face) → WorthsStay now.given given → (to : Query) (value : Pairs) (id : ℕ) → HasGained q n (obj.Bat value) id q.work to → look_of now.pool key ≡ Exact id → value_in (faces now.pool.entries) id ≡ Some value
-        → IsUnder order seen given (behind (look_of now.pool key)) asking.statement (stage.Querying (step.Open to))
+        → IsUnder order seen given (behind (look_of now.pool key)) asking.said (stage.Querying (step.Open to))
     gained given stay to value id g exact pooled =
         let serves = look_serves.exact id value (subst (λ named. look_of now.pool named ≡ Exact id) asked_key exact) pooled in
         let value_is : value_at q n ≡ Some (Some (Bat value)) = sym (value_known seen now.given asked_plan q asker_knows n) ∙ ap (slice_get (plan_values seen.db asked_plan.instrs)) (sym asked_long) ∙ serves.0 in
-        subst (λ (finding : Finding). IsRun order seen given (behind finding) asking.statement (step.Open to)) (sym exact)
+        subst (λ (finding : Finding). IsRun order seen given (behind finding) asking.said (step.Open to)) (sym exact)
         (run_behind given (behind (Exact id)) (step.Open to) (
           gained_knows seen given asked_plan q (knows_stays seen now.given given stay asked_plan q asker_knows) n asks.instr asks.at value id to value_is g (λ above. stay id (subst (λ o. IsSome o) (sym serves.1) refl) ∙ serves.1),
           noted_gained p.results q to n asks.instr asks.at asker_knows.under asker_noted (obj.Bat value) id q.work g,
@@ -264,11 +263,11 @@ module _ (options : PoolOptions) (log : List EventTree) (lawful : IsLawful optio
         ))
 
     found_behind : (given : List Face) → WorthsStay now.given given → (to : Query) (what : Found) (parts : Vec Part Global) → HasAsked q n to → told what parts.items ≡ look_of now.pool key → HandsOut now.pool.entries what parts.items
-        → ((id : ℕ) → look_of now.pool key ≡ Exact id → ⊥) → IsUnder order seen given (behind (look_of now.pool key)) asking.statement (stage.Querying (step.Found to n what parts))
+        → ((id : ℕ) → look_of now.pool key ≡ Exact id → ⊥) → IsUnder order seen given (behind (look_of now.pool key)) asking.said (stage.Querying (step.Found to n what parts))
     found_behind given stay to what parts a same out not_exact =
         let keyed = ap (look_of now.pool) asked_key in
         let serves = found_serve seen now now.given asked_plan q asker_knows n asks.instr asked_long look_serves what parts.items (same ∙ keyed) out (λ id exact. not_exact id (keyed ∙ exact)) in
-        subst (λ (got : Got). IsRun order seen given (noted n got p.results) asking.statement (step.Found to n what parts)) (sym (in_vain (length log + 1) (look_of now.pool key) not_exact))
+        subst (λ (got : Got). IsRun order seen given (noted n got p.results) asking.said (step.Found to n what parts)) (sym (in_vain (length log + 1) (look_of now.pool key) not_exact))
         (run_behind given (noted n (Asked (length log + 1)) p.results) (step.Found to n what parts) (
           asked_knows seen given asked_plan q (knows_stays seen now.given given stay asked_plan q asker_knows) n to a,
           noted_asked p.results q to n asks.instr asks.at asker_knows.under asker_noted (length log + 1) a,
@@ -278,10 +277,10 @@ module _ (options : PoolOptions) (log : List EventTree) (lawful : IsLawful optio
           (asks.instr, asked_at q to n a asks.instr asks.at, asked_args q to n a asks.instr asks.args, asked_serves q to n a asks.instr what parts.items serves),
         ))
 
-    looked_under : (given : List Face) → WorthsStay now.given given → (to : Step) → IsLooked q n now.pool key to → IsUnder order seen given (behind (look_of now.pool key)) asking.statement (stage.Querying to)
+    looked_under : (given : List Face) → WorthsStay now.given given → (to : Step) → IsLooked q n now.pool key to → IsUnder order seen given (behind (look_of now.pool key)) asking.said (stage.Querying to)
     looked_under given stay (step.Open to) l = gained given stay to l.1 l.0 l.2 l.3 l.4
     looked_under given stay (step.Found to at what parts) l =
-        subst (λ m. IsUnder order seen given (behind (look_of now.pool key)) asking.statement (stage.Querying (step.Found to m what parts))) (sym l.0) (found_behind given stay to what parts l.1 l.2 l.3 l.4)
+        subst (λ m. IsUnder order seen given (behind (look_of now.pool key)) asking.said (stage.Querying (step.Found to m what parts))) (sym l.0) (found_behind given stay to what parts l.1 l.2 l.3 l.4)
     looked_under given stay (step.Begun to) none = absurd none
     looked_under given stay (step.Asking to m named) none = absurd none
     looked_under given stay (step.Offering to m offer) none = absurd none
@@ -290,9 +289,9 @@ module _ (options : PoolOptions) (log : List EventTree) (lawful : IsLawful optio
     -- a query has looked
     pub query_looks : (to : Step) (work : ℕ) → IsLawful options later → IsLooked q n now.pool key to → IsNext order options x.pieces x.number log (event_by x look) × Stands options later (restaged x work (stage.Querying to))
     query_looks to work lawful_later looks = (
-      next_is options log x s asking.piece asking.here (Ok asking.statement) asking.read look look_next,
+      next_is options log x s asking.piece asking.here asking.said asking.read look look_next,
       goes_stands options log x s look work (stage.Querying to) refl (ap (untold x.ended) is) refl refl refl asking
-          (subst (λ m. IsUnder order seen (run_of options later).given (noted m (got_by (length log + 1) (looked_of (look_of now.pool key))) p.results) asking.statement (stage.Querying to)) (sym (one_less n))
+          (subst (λ m. IsUnder order seen (run_of options later).given (noted m (got_by (length log + 1) (looked_of (look_of now.pool key))) p.results) asking.said (stage.Querying to)) (sym (one_less n))
           (looked_under (run_of options later).given (worths_next options log (event_by x look) lawful_later) to looks)) (λ has. has),
     )
 
@@ -305,11 +304,11 @@ module _ (options : PoolOptions) (log : List EventTree) (lawful : IsLawful optio
     abbrev since : LogState
     since = state_before options log offering.at
 
-    offers : IsRun order since now.given p.results offering.statement (step.Offering q n offer)
-    offers = subst (IsUnder order since now.given p.results offering.statement) is offering.under
+    offers : IsRun order since now.given p.results offering.said (step.Offering q n offer)
+    offers = subst (IsUnder order since now.given p.results offering.said) is offering.under
 
     abbrev plan : Plan
-    plan = plan_over since.db offers.query
+    plan = offers.plan
 
     abbrev knows : Knows since now.given plan q
     knows = offers.step.0
@@ -373,16 +372,16 @@ module _ (options : PoolOptions) (log : List EventTree) (lawful : IsLawful optio
         ∙ ap (λ (key : Key). Admits (n + 1) key (answer_of (who_at x.number p) key))
         (offered.key ∙ sym (key_logged since now.given plan q knows p.results noted_so n instr (let low = slice_get_within q.plan.instrs n instr at.here in omega (arith, low))))
 
-    admission_next : IsNextAct order options log (who_at x.number p) p p.begun (Ok offering.statement) admission
+    admission_next : IsNextAct order options log (who_at x.number p) p p.begun offering.said admission
     admission_next =
-        subst (λ b. IsNextAct order options log (who_at x.number p) p b (Ok offering.statement) admission) (sym offering.begun)
-        (later_is order since now.given p.results offering.statement offers.query offers.select offers.accepted offers.meaning now (who_at x.number p) admission (does order refl))
+        subst (λ b. IsNextAct order options log (who_at x.number p) p b offering.said admission) (sym offering.begun)
+        (later_is order since now.given p.results offering.said offers.plan offers.does now (who_at x.number p) admission (does order refl))
       where
         does : (o : Order) → order ≡ o → IsQueryAct o now (who_at x.number p) since plan p.results admission
         does InPlan in_plan =
             let before = subst (λ o. IsInTurn o q n) in_plan offers.step.4 in
             admission_is ∙ sym (ap (act_of_next now (who_at x.number p) since.versions p.results)
-            (next_known order since now.given p.results offering.statement offers.query offers.select offers.accepted offers.meaning q knows
+            (next_known order since now.given p.results offering.said offers.plan offers.does q knows
             ∙ passed_all p.results q noted_so knows.under n (let low = slice_get_within q.plan.instrs n instr at.here in omega (arith, low)) before
             ∙ next_offers p.results q noted_so knows.under n instr at offers.step.3 (Some (Bat offer.value)) offered.value))
         does AsReady ready =
@@ -403,13 +402,11 @@ module _ (options : PoolOptions) (log : List EventTree) (lawful : IsLawful optio
     pub query_offers : (to : Query) (work : ℕ) → HasGained q n (obj.Bat offer.value) id q.work to → IsLawful options admitted
         → IsNext order options x.pieces x.number log (event_by x admission) × Stands options admitted (restaged x work (stage.Querying (step.Open to)))
     query_offers to work g lawful_later = (
-      next_is options log x s offering.piece offering.here (Ok offering.statement) offering.read admission admission_next,
+      next_is options log x s offering.piece offering.here offering.said offering.read admission admission_next,
       goes_stands options log x s admission work (stage.Querying (step.Open to)) refl (ap (untold x.ended) is) refl refl refl offering
-          (subst (λ m. IsUnder order since (run_of options admitted).given (noted m (Has id) p.results) offering.statement (stage.Querying (step.Open to))) (sym (one_less n)) (record {
-            query = offers.query;
-            select = offers.select;
-            accepted = offers.accepted;
-            meaning = offers.meaning;
+          (subst (λ m. IsUnder order since (run_of options admitted).given (noted m (Has id) p.results) offering.said (stage.Querying (step.Open to))) (sym (one_less n)) (record {
+            plan = offers.plan;
+            does = offers.does;
             step = (
               gained_knows since (run_of options admitted).given plan q (knows_stays since now.given (run_of options admitted).given (worths_next options log (event_by x admission) lawful_later) plan q knows)
                   n instr at offer.value id to offered.value g given_worth,

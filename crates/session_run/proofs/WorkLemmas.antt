@@ -18,7 +18,7 @@ use Rattle.query_keys.specs.Laws.{id_given}
 use Rattle.run_log.specs.Events.{ActTree, Begins, Looks, Admits, Writes, Ends, EventTree}
 use Rattle.run_log.specs.Fold.{LogState}
 use Rattle.run_log.proofs.LogLemmas.{each_log}
-use Rattle.answer_text.specs.Log.{code_of}
+use Rattle.reply_layout.specs.Doings.{code_of}
 use Rattle.query_run.specs.declared.step.Query.{Query}
 use Rattle.query_run.specs.declared.step.Step.{Step}
 use Rattle.query_run.specs.declared.step.Step.TheVariants as step

@@ -23,8 +23,8 @@ use Rattle.recycle_pool.specs.declared.found.Part.{Part}
 use Rattle.store_changes.specs.Work.{lost_unless}
 use Rattle.table_store.specs.Content.{Content}
 use Rattle.run_log.specs.Events.{Admits, Ends, EventTree, log_tree}
-use Rattle.answer_text.specs.declared.shown.Shown.{Shown}
-use Rattle.answer_text.specs.Log.{code_of}
+use Rattle.reply_layout.specs.declared.shown.Shown.{Shown}
+use Rattle.reply_layout.specs.Doings.{code_of}
 use Rattle.book_core.specs.BookView.{BookView}
 use Rattle.query_run.specs.declared.step.Query.{Query}
 use Rattle.query_run.specs.declared.step.Offer.{Offer}

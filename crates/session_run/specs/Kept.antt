@@ -4,22 +4,23 @@ use Rattle.cell_core.specs.declared.operator.Instr.{Instr}
 use Rattle.mal_meaning.specs.declared.plan.Plan.{Plan}
 use Rattle.mal_meaning.specs.Meaning.{plan_rows, plan_values}
 use Rattle.mal_check.specs.Checked.{plan_fault}
+use Rattle.mal_print.specs.Canon.{plan_text}
 use Rattle.sql_tree.specs.declared.tree.Stmt.{Stmt}
-use Rattle.sql_tree.specs.Tree.{QueryTree, StmtTree, stmt_tree}
-use Rattle.sql_tree.specs.Tree.StmtTree.{Select, ExplainSelect}
-use Rattle.sql_semantics.specs.Answer.{answer}
+use Rattle.sql_tree.specs.Tree.{stmt_tree}
 use Rattle.sql_semantics.specs.declared.refusal.Refusal.{Refusal}
 use Rattle.sql_grammar.specs.Formed.{IsFormed}
 use Rattle.read_laws.specs.Answered.{Reads}
-use Rattle.plan_queries.specs.Plans.{plan_over, refusal_over}
 use Rattle.pool_policy.specs.declared.entry.Who.{Who}
 use Rattle.pool_policy.specs.declared.options.PoolOptions.{PoolOptions}
 use Rattle.pool_policy.specs.Keeps.{Face}
 use Rattle.run_log.specs.Events.{EventTree, Ends}
 use Rattle.run_log.specs.Fold.{LogState, run_of}
-use Rattle.answer_text.specs.declared.shown.Shown.{Shown}
-use Rattle.answer_text.specs.Log.{code_of, shown_over, statement_place}
-use Rattle.answer_text.specs.Layout.{replies_text, reply_text}
+use Rattle.reply_layout.specs.declared.shown.Shown.{Shown}
+use Rattle.reply_layout.specs.declared.shown.Shown.TheVariants as shown
+use Rattle.reply_layout.specs.Doings.{Beginning, code_of, shown_rows}
+use Rattle.reply_layout.specs.Layout.{reply_text}
+use Rattle.answer_text.specs.Log.{Said, doing_over, shown_over, statement_place}
+use Rattle.answer_text.specs.Layout.{replies_text}
 use Rattle.book_core.specs.Versions.{HasVersions}
 use Rattle.query_keys.specs.Keys.{AreIdsOf}
 use Rattle.query_run.specs.declared.step.Query.{Query}
@@ -86,31 +87,26 @@ IsStep order seen given plan results (step.Ending reply work) = ⊥
 -- ## Statements that have begun
 
 -- it ends with this reply, whatever others do
-pub record EndsWith (order : Order) (seen : LogState) (results : ℕ → Got) (statement : StmtTree) (reply : Shown) : Type 0 where
-  pub act : (s : LogState) (who : Who) → IsLaterAct order s who seen results (Ok statement) (Ends (code_of reply))
-  pub shows : reply ≡ shown_over seen.db (Ok statement)
+pub record EndsWith (order : Order) (seen : LogState) (results : ℕ → Got) (said : Said) (reply : Shown) : Type 0 where
+  pub act : (s : LogState) (who : Who) → IsLaterAct order s who seen results (doing_over seen.db said) (Ends (code_of reply))
+  pub shows : reply ≡ shown_over seen.db said
 
--- a query that is run
-pub record IsRun (order : Order) (seen : LogState) (given : List Face) (results : ℕ → Got) (statement : StmtTree) (at : Step) : Type 0 where
-  pub query : QueryTree
-  pub select : statement ≡ Select query
-  pub accepted : refusal_over seen.db (Select query) ≡ None
-  pub meaning : plan_rows (plan_over seen.db query) seen.db ≡ answer query seen.db
-  pub step : IsStep order seen given (plan_over seen.db query) results at
+-- its plan is run
+pub record IsRun (order : Order) (seen : LogState) (given : List Face) (results : ℕ → Got) (said : Said) (at : Step) : Type 0 where
+  pub plan : Plan
+  pub does : doing_over seen.db said ≡ Beginning (Some plan) (shown_rows (plan_rows plan seen.db))
+  pub step : IsStep order seen given plan results at
 
--- an EXPLAIN that shows a plan
-pub record IsExplained (seen : LogState) (statement : StmtTree) (plan : Plan) : Type 0 where
-  pub query : QueryTree
-  pub explain : statement ≡ ExplainSelect query
-  pub accepted : refusal_over seen.db (ExplainSelect query) ≡ None
+-- it shows a plan
+pub record IsExplained (seen : LogState) (said : Said) (plan : Plan) : Type 0 where
   pub checked : plan_fault plan ≡ None
-  pub plan_is : plan ≡ plan_over seen.db query
+  pub does : doing_over seen.db said ≡ Beginning None (shown.Plan (plan_text plan))
 
-abbrev pub IsUnder : Order → LogState → List Face → (ℕ → Got) → StmtTree → Stage → Type 0
-IsUnder order seen given results statement (stage.Querying (step.Ending reply work)) = EndsWith order seen results statement reply
-IsUnder order seen given results statement (stage.Querying at) = IsRun order seen given results statement at
-IsUnder order seen given results statement (stage.Explaining plan) = IsExplained seen statement plan
-IsUnder order seen given results statement _ = ⊥
+abbrev pub IsUnder : Order → LogState → List Face → (ℕ → Got) → Said → Stage → Type 0
+IsUnder order seen given results said (stage.Querying (step.Ending reply work)) = EndsWith order seen results said reply
+IsUnder order seen given results said (stage.Querying at) = IsRun order seen given results said at
+IsUnder order seen given results said (stage.Explaining plan) = IsExplained seen said plan
+IsUnder order seen given results said _ = ⊥
 
 -- in which order a session goes through its plans
 abbrev pub order_of : Session → Order
@@ -125,9 +121,9 @@ pub record HasBegun (options : PoolOptions) (log : List EventTree) (x : Session)
   pub place : statement_place x.number (x.ended + 1) log ≡ at
   pub piece : List ℕ
   pub here : slice_get x.pieces x.ended ≡ Some piece
-  pub statement : StmtTree
-  pub read : Reads piece (Ok statement)
-  pub under : IsUnder (order_of x) (state_before options log at) (run_of options log).given p.results statement x.stage
+  pub said : Said
+  pub read : Reads piece said
+  pub under : IsUnder (order_of x) (state_before options log at) (run_of options log).given p.results said x.stage
 
 -- ## Sessions
 
@@ -160,7 +156,7 @@ pub record Stands (options : PoolOptions) (log : List EventTree) (x : Session) :
   pub short : length x.pieces ≤ 256
   pub ended : (progress_of x.number log).ended ≡ x.ended
   pub within : x.ended ≤ length x.pieces
-  pub readings : List (Result StmtTree Refusal)
+  pub readings : List Said
   pub read : AreReadings (take x.ended x.pieces) readings
   pub text : x.text.items ++ untold x.ended x.stage ≡ replies_text log x.number readings
   pub placed : (k : ℕ) → 1 ≤ k → k ≤ opened (progress_of x.number log) (progress_of x.number log).begun → statement_place x.number k log ≤ length log

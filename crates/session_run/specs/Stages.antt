@@ -8,10 +8,11 @@ use Rattle.mal_check.specs.Checked.{plan_fault}
 use Rattle.mal_print.specs.Canon.{plan_text}
 use Rattle.run_log.specs.declared.event.Event.{Event}
 use Rattle.run_log.specs.Events.{Ends, act_tree, event_tree, log_tree}
-use Rattle.answer_text.specs.declared.shown.Shown.{Shown}
-use Rattle.answer_text.specs.declared.shown.Shown.TheVariants as shown
-use Rattle.answer_text.specs.Layout.{reply_text}
-use Rattle.answer_text.specs.Log.{code_of, shown_over, tables_met}
+use Rattle.reply_layout.specs.declared.shown.Shown.{Shown}
+use Rattle.reply_layout.specs.declared.shown.Shown.TheVariants as shown
+use Rattle.reply_layout.specs.Layout.{reply_text}
+use Rattle.reply_layout.specs.Doings.{code_of}
+use Rattle.answer_text.specs.Log.{shown_over, tables_met}
 use Rattle.book_core.specs.BookView.{BookView}
 use Rattle.query_run.specs.declared.step.Step.{Step}
 use Rattle.query_run.specs.declared.step.Step.TheVariants as step

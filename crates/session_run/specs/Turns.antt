@@ -1,5 +1,5 @@
 -- The next event of a session, behind a log.
-use Rattle.std.specs.Prelude.{◌≡◌, ℕ, ◌+◌, ◌-◌, ◌≤◌, List, ◌∷◌, length, take, Bool, true, false, Option, Some, None, IsSome, Result, Ok, Err, slice_get}
+use Rattle.std.specs.Prelude.{◌≡◌, ℕ, ◌+◌, ◌-◌, ◌≤◌, List, ◌∷◌, length, take, Bool, true, false, Option, Some, None, IsSome, slice_get}
 use Rattle.std.specs.List.{AllByRecursion}
 use Rattle.cell_core.specs.declared.operator.Arg.{Arg}
 use Rattle.cell_core.specs.declared.operator.Arg.TheVariants.{Const, Var}
@@ -9,34 +9,26 @@ use Rattle.mal_meaning.specs.declared.plan.Plan.{Plan}
 use Rattle.mal_meaning.specs.Meaning.{plan_rows, plan_values}
 use Rattle.recycle_mark.specs.Marks.{marks_of}
 use Rattle.lineage_key.specs.declared.key.Key.{Key}
-use Rattle.sql_tree.specs.Tree.{StmtTree}
-use Rattle.sql_tree.specs.Tree.StmtTree.{Select, ExplainSelect}
-use Rattle.sql_semantics.specs.Effect.{effect}
 use Rattle.sql_semantics.specs.Refusals.{refusal_number}
-use Rattle.sql_semantics.specs.declared.refusal.Refusal.{Refusal}
 use Rattle.sql_semantics.specs.declared.refusal.Refusal.TheVariants.{Overflow}
 use Rattle.read_laws.specs.Answered.{Reads}
-use Rattle.plan_queries.specs.Plans.{plan_over, refusal_over}
 use Rattle.pool_policy.specs.declared.entry.Who.{Who}
 use Rattle.pool_policy.specs.declared.options.PoolOptions.{PoolOptions}
 use Rattle.pool_policy.specs.Admits.{admit_of}
 use Rattle.pool_policy.specs.Looks.{look_of}
 use Rattle.pool_policy.specs.Versions.{Versions}
-use Rattle.run_log.specs.Events.{ActTree, Looks, Admits, Writes, Ends, EventTree, act_tree, looked_of}
+use Rattle.reply_layout.specs.Doings.{Doing, Beginning, code_of, shown_in}
+use Rattle.run_log.specs.Events.{ActTree, Looks, Admits, Ends, EventTree, looked_of}
 use Rattle.run_log.specs.Fold.{LogState, key_offer, run_of}
-use Rattle.book_core.specs.Begins.{begin_act, code_in, unless_refused}
-use Rattle.book_core.specs.Writes.{reply_code, reply_count}
+use Rattle.answer_text.specs.Log.{Said, acts_in, doing_over}
 use Rattle.query_keys.specs.Keys.{instr_key}
 use Rattle.session_run.specs.Progress.{Asked, Got, Has, Progress, Unasked, ids_before, progress_of}
 
 -- ## A statement begins
 
--- what a statement does first, over the tables as they stand: a query or an EXPLAIN begins, and any other statement, and a text that is refused, is one Write
-abbrev pub first_act : LogState → Result StmtTree Refusal → ActTree
-first_act s (Err refusal) = Writes None (refusal_number refusal) 0
-first_act s (Ok (Select query)) = act_tree (begin_act (Select query) (unless_refused (refusal_over s.db (Select query)) (plan_over s.db query)))
-first_act s (Ok (ExplainSelect query)) = act_tree (begin_act (ExplainSelect query) (unless_refused (refusal_over s.db (ExplainSelect query)) (plan_over s.db query)))
-first_act s (Ok statement) = Writes (Some statement) (reply_code (effect statement s.db).1) (reply_count (effect statement s.db).1)
+-- the first of its acts
+abbrev pub IsFirstAct : Doing Plan → ActTree → Type 0
+IsFirstAct doing act = slice_get (acts_in doing) 0 ≡ Some act
 
 -- ## A query goes on
 
@@ -115,15 +107,10 @@ abbrev pub IsQueryAct : Order → LogState → Who → LogState → Plan → (�
 IsQueryAct InPlan s who seen plan results act = act ≡ query_act s who seen plan results
 IsQueryAct AsReady s who seen plan results act = MayDo s who seen plan results act
 
-abbrev pub IsBegunAct : Order → LogState → Who → LogState → (ℕ → Got) → Result Plan Refusal → ActTree → Type 0
-IsBegunAct order s who seen results (Err refusal) act = act ≡ Ends (refusal_number refusal)
-IsBegunAct order s who seen results (Ok plan) act = IsQueryAct order s who seen plan results act
-
--- what a statement does that began in some state
-abbrev pub IsLaterAct : Order → LogState → Who → LogState → (ℕ → Got) → Result StmtTree Refusal → ActTree → Type 0
-IsLaterAct order s who seen results (Ok (Select query)) act = IsBegunAct order s who seen results (unless_refused (refusal_over seen.db (Select query)) (plan_over seen.db query)) act
-IsLaterAct order s who seen results (Ok (ExplainSelect query)) act = act ≡ Ends (code_in (unless_refused (refusal_over seen.db (ExplainSelect query)) (plan_over seen.db query)))
-IsLaterAct order s who seen results _ act = act ≡ Ends 0
+-- what a statement does that began in some state, where it does this: its plan is run, or it ends
+abbrev pub IsLaterAct : Order → LogState → Who → LogState → (ℕ → Got) → Doing Plan → ActTree → Type 0
+IsLaterAct order s who seen results (Beginning (Some plan) shown) act = IsQueryAct order s who seen plan results act
+IsLaterAct order s who seen results doing act = act ≡ Ends (code_of (shown_in doing))
 
 -- ## The next event
 
@@ -131,9 +118,10 @@ IsLaterAct order s who seen results _ act = act ≡ Ends 0
 abbrev pub state_before : PoolOptions → List EventTree → ℕ → LogState
 state_before options log at = run_of options (take (at - 1) log)
 
-abbrev pub IsNextAct : Order → PoolOptions → List EventTree → Who → Progress → Option ℕ → Result StmtTree Refusal → ActTree → Type 0
-IsNextAct order options log who p None reading act = act ≡ first_act (run_of options log) reading
-IsNextAct order options log who p (Some at) reading act = IsLaterAct order (run_of options log) who (state_before options log at) p.results reading act
+-- a statement does what its text does over the tables by which it begins
+abbrev pub IsNextAct : Order → PoolOptions → List EventTree → Who → Progress → Option ℕ → Said → ActTree → Type 0
+IsNextAct order options log who p None said act = IsFirstAct (doing_over (run_of options log).db said) act
+IsNextAct order options log who p (Some at) said act = let seen = state_before options log at in IsLaterAct order (run_of options log) who seen p.results (doing_over seen.db said) act
 
 -- the statement that a session is at
 abbrev pub who_at : ℕ → Progress → Who
@@ -143,7 +131,7 @@ who_at session p = record { session = session; statement = p.ended + 1 }
 pub record IsNext (order : Order) (options : PoolOptions) (pieces : List (List ℕ)) (session : ℕ) (log : List EventTree) (event : EventTree) : Type 0 where
   pub piece : List ℕ
   pub here : slice_get pieces (progress_of session log).ended ≡ Some piece
-  pub reading : Result StmtTree Refusal
+  pub reading : Said
   pub read : Reads piece reading
   pub own : event.session ≡ session
   pub numbered : event.statement ≡ (progress_of session log).ended + 1

@@ -9,7 +9,7 @@ use Rattle.recycle_pool.specs.Answers.{HandsOut, told}
 use Rattle.recycle_pool.specs.declared.found.Found.{Found}
 use Rattle.recycle_pool.specs.declared.found.Part.{Part}
 use Rattle.run_log.specs.Events.{Admits, Ends, EventTree, log_tree}
-use Rattle.answer_text.specs.Log.{code_of}
+use Rattle.reply_layout.specs.Doings.{code_of}
 use Rattle.book_core.specs.BookView.{BookView, state_of}
 use Rattle.query_run.specs.declared.step.Query.{Query}
 use Rattle.query_run.specs.declared.step.Step.{Step}

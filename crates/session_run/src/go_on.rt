@@ -1,7 +1,7 @@
 //! The events of a query under way.
 ghost use Rattle.std.specs.Prelude.{◌≡◌, ℕ, ◌<◌, length, OnOk, OnErr};
 ghost use Rattle.run_log.specs.Events.{log_tree};
-ghost use Rattle.answer_text.specs.Log.{code_of as code_shown};
+ghost use Rattle.reply_layout.specs.Doings.{code_of as code_shown};
 ghost use Rattle.query_run.specs.declared.step.Step.TheVariants as step;
 ghost use Rattle.session_run.specs.declared.stage.Stage.TheVariants as stage;
 ghost use Rattle.session_run.specs.Kept.{Stands};
@@ -10,11 +10,11 @@ ghost use Rattle.session_run.specs.Works.{CountsInside, IsWorked};
 
 use crate::session::Session;
 use crate::stage::Stage;
-use answer_text::Shown;
 use book_core::Book;
 use cell_core::Memory;
 use lineage_key::Key;
 use query_run::{Offer, Query, Step};
+use reply_layout::Shown;
 use run_log::ACCEPTED;
 use score_hook::Scorer;
 use std::alloc::Global;

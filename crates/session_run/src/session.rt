@@ -5,8 +5,8 @@ ghost use Rattle.pool_policy.specs.declared.options.PoolOptions.{PoolOptions as 
 ghost use Rattle.run_log.specs.Events.{log_tree};
 ghost use Rattle.sql_parse.specs.declared.error.ParseError.TheVariants.{Refused};
 ghost use Rattle.sql_semantics.specs.declared.refusal.Refusal.{Refusal as RefusalSeen};
-ghost use Rattle.answer_text.specs.Log.{code_of as code_shown};
-ghost use Rattle.answer_text.specs.declared.shown.Shown.TheVariants as shown;
+ghost use Rattle.reply_layout.specs.Doings.{code_of as code_shown};
+ghost use Rattle.reply_layout.specs.declared.shown.Shown.TheVariants as shown;
 ghost use Rattle.query_run.specs.declared.step.Step.TheVariants as step;
 ghost use Rattle.session_run.specs.declared.stage.Stage.TheVariants as stage;
 ghost use Rattle.session_run.specs.Kept.{HasRead, Stands};
@@ -14,7 +14,7 @@ ghost use Rattle.session_run.specs.Works.{CountsInside, CountsOutside, IsWorked,
 ghost use Rattle.session_run.specs.Stages.{ComesTo, Follows, HasComputed, HasDone, IsReady, IsSoundStage, MayBegin, ReadsOn, at_stage, with_reply};
 
 use crate::stage::Stage;
-use answer_text::{Shown, write_reply};
+use answer_text::write_reply;
 use bat_core::Operate;
 use book_core::Book;
 use cell_core::{Memory, Sequence, Steps, Word};
@@ -22,6 +22,7 @@ use mal_meaning::Plan;
 use mal_print::print_mal;
 use pool_policy::Who;
 use query_run::Step;
+use reply_layout::Shown;
 use score_hook::Scorer;
 use sql_parse::{ParseError, parse};
 use sql_tree::Stmt;

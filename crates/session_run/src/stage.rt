@@ -1,6 +1,6 @@
-use answer_text::Shown;
 use mal_meaning::Plan;
 use query_run::Step;
+use reply_layout::Shown;
 use sql_semantics::Refusal;
 use sql_tree::Stmt;
 

@@ -7,22 +7,22 @@ ghost use Rattle.sql_semantics.specs.declared.refusal.Refusal.{Refusal as Refusa
 ghost use Rattle.sql_tree.specs.Tree.{query_tree, stmt_tree};
 ghost use Rattle.sql_tree.specs.Tree.StmtTree.{Select, ExplainSelect};
 ghost use Rattle.run_log.specs.Events.{log_tree};
-ghost use Rattle.answer_text.specs.Log.{shown_reply};
+ghost use Rattle.reply_layout.specs.Doings.{shown_reply};
 ghost use Rattle.store_changes.specs.Outcomes.{is_change};
 ghost use Rattle.session_run.specs.declared.stage.Stage.TheVariants as stage;
 ghost use Rattle.session_run.specs.Kept.{HasRead, Stands};
 ghost use Rattle.session_run.specs.Stages.{BeginsWith, HasDone, MayBegin, explained};
 ghost use Rattle.session_run.specs.Works.{CountsInside, IsWorked};
 ghost use Rattle.query_run.specs.declared.step.Step.TheVariants as step;
-ghost use Rattle.answer_text.specs.declared.shown.Shown.TheVariants as shown;
+ghost use Rattle.reply_layout.specs.declared.shown.Shown.TheVariants as shown;
 
 use crate::session::Session;
 use crate::stage::Stage;
-use answer_text::Shown;
 use bat_core::Operate;
 use book_core::{Begun, Book};
 use cell_core::{Memory, Steps, Word};
 use query_run::{Query, Step};
+use reply_layout::Shown;
 use score_hook::Scorer;
 use sql_semantics::{Refusal, Reply};
 use sql_tree::Stmt;

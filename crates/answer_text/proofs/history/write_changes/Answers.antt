@@ -3,7 +3,8 @@ use Rattle.std.specs.Option.{option_copied, option_map}
 use Rattle.sql_print.specs.Canon.{canonical}
 use Rattle.sql_tree.specs.Tree.{stmt_tree}
 use Rattle.run_log.specs.Events.{act_tree, log_tree, committed}
-use Rattle.answer_text.specs.Layout.{Change, changes_of, change_from, change_line}
+use Rattle.reply_layout.specs.Layout.{Change, change_from, change_line}
+use Rattle.answer_text.specs.Layout.{changes_of}
 use Rattle.answer_text.proofs.ChangeLemmas.{changes_of-passed, changes_of-more, lines_more, lines_from}
 use Rattle.answer_text.proofs.history.write_changes.Goals as goal
 

@@ -1,7 +1,8 @@
 use Rattle.std.proofs.Common.{◌≡◌, ◌≤◌, ◌++◌, take, length}
 use Rattle.std.specs.Prelude.{flat_map}
 use Rattle.std.specs.List.{enumerate_from}
-use Rattle.answer_text.specs.Layout.{changes_of, change_line}
+use Rattle.reply_layout.specs.Layout.{change_line}
+use Rattle.answer_text.specs.Layout.{changes_of}
 use Rattle.run_log.specs.Events.{log_tree}
 use Rattle.answer_text.proofs.history.write_changes.Given as goal
 

@@ -4,7 +4,7 @@ use Rattle.cell_core.specs.CellText.{cell_text}
 use Rattle.csv.specs.Records.{fields_of}
 use Rattle.csv.specs.Writing.{row_text, writer_setup}
 use Rattle.csv.specs.declared.writer.QuoteStyle.TheVariants as style
-use Rattle.answer_text.specs.Layout.{row_record}
+use Rattle.reply_layout.specs.Layout.{row_record}
 use Rattle.answer_text.proofs.RecordLemmas.{rows_more, row_writer}
 use Rattle.answer_text.proofs.records.with_records.Goals as goal
 

@@ -1,7 +1,7 @@
 use Rattle.std.proofs.Common.{◌≡◌, ℕ, true, false, Some, ◌++◌, take, Vec, Global}
 use Rattle.std.specs.Prelude.{flat_map}
 use Rattle.csv.specs.Writing.{default_writer, with_flexible, writer_setup, fields_written, has_written, text_written}
-use Rattle.answer_text.specs.Layout.{row_record}
+use Rattle.reply_layout.specs.Layout.{row_record}
 use Rattle.answer_text.proofs.records.with_records.Given as goal
 
 abbrev pub invariant-loop-row : goal.invariant-loop-row

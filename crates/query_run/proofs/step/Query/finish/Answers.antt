@@ -4,7 +4,7 @@ use Rattle.bat_core.specs.Objects.{values_of}
 use Rattle.bat_core.specs.declared.shared.Obj.{Obj}
 use Rattle.mal_exec.specs.Results.{known_of}
 use Rattle.mal_meaning.specs.Output.{output_rows}
-use Rattle.answer_text.specs.declared.shown.Shown.TheVariants as shown
+use Rattle.reply_layout.specs.declared.shown.Shown.TheVariants as shown
 use Rattle.query_run.specs.Queries.{EndsWith}
 use Rattle.query_run.proofs.WalkLemmas.{each_there, rows_at_end}
 use Rattle.query_run.proofs.step.Query.finish.Goals as goal
