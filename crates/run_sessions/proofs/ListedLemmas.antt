@@ -1,5 +1,5 @@
 -- What a log says of a session, and its statements there, by one event more.
-use Rattle.std.proofs.Common.{◌≡◌, ℕ, zero, suc, ◌+◌, ◌≤◌, ◌<◌, List, [], ◌∷◌, ◌++◌, map, take, length, Bool, true, false, cond, Some, Result, refl, ap, sym, ◌∙◌, subst, arith}
+use Rattle.std.proofs.Common.{◌≡◌, ℕ, zero, suc, ◌+◌, ◌≤◌, ◌<◌, List, [], ◌∷◌, ◌++◌, map, take, length, Bool, true, false, cond, Some, refl, ap, sym, ◌∙◌, subst, arith}
 use Rattle.std.specs.Prelude.{filter, slice_get, ◌==◌}
 use Rattle.std.proofs.lemmas.Bool.{eq-eqb}
 use Rattle.std.proofs.lemmas.List.{append_assoc, append-nil, map-append}
@@ -7,10 +7,8 @@ use Rattle.std.proofs.lemmas.List.Elements.{filter-append}
 use Rattle.std.proofs.lemmas.Option.{same_Some}
 use Rattle.cell_core.specs.declared.table.Db.{Db}
 use Rattle.read_laws.specs.Answered.{EachReadsAsOne, Reads}
-use Rattle.sql_semantics.specs.declared.refusal.Refusal.{Refusal}
-use Rattle.sql_tree.specs.Tree.{StmtTree}
 use Rattle.run_log.specs.Events.{ActTree, EventTree}
-use Rattle.answer_text.specs.Log.{AreActs, AreStatements, logged_of, tables_met}
+use Rattle.answer_text.specs.Log.{AreActs, AreStatements, Said, logged_of, tables_met}
 use Rattle.session_run.specs.Readings.{AreReadings}
 use Rattle.run_sessions.proofs.PlaceLemmas.{none_there}
 
@@ -39,7 +37,7 @@ logged_other session log event other = logged_more session log event false other
 -- ## Statements
 
 -- they stay where their tables do
-pub statements_stay : (log later : List EventTree) (session k : ℕ) (readings : List (Result StmtTree Refusal)) (logged : List (ℕ × ActTree))
+pub statements_stay : (log later : List EventTree) (session k : ℕ) (readings : List Said) (logged : List (ℕ × ActTree))
     → ((j : ℕ) → k ≤ j → j < k + length readings → tables_met later session j ≡ tables_met log session j) → AreStatements log session k readings logged → AreStatements later session k readings logged
 statements_stay log later session k [] logged same are = are
 statements_stay log later session k (reading ∷ readings) logged same are = (
@@ -51,7 +49,7 @@ statements_stay log later session k (reading ∷ readings) logged same are = (
 )
 
 -- one statement more
-pub statements_next : (log : List EventTree) (session k j : ℕ) (readings : List (Result StmtTree Refusal)) (reading : Result StmtTree Refusal) (logged : List (ℕ × ActTree)) (acts : List ActTree) → j ≡ k + length readings
+pub statements_next : (log : List EventTree) (session k j : ℕ) (readings : List Said) (reading : Said) (logged : List (ℕ × ActTree)) (acts : List ActTree) → j ≡ k + length readings
     → AreActs (tables_met log session j) reading acts → AreStatements log session k readings logged → AreStatements log session k (readings ++ reading ∷ []) (logged ++ map {B = ℕ × ActTree} (λ act. (j, act)) acts)
 statements_next log session k j [] reading logged acts is are none =
     let same : j ≡ k = omega (arith, is) in
@@ -77,21 +75,21 @@ taken_suc [] n x there = none_there n x there
 taken_suc (y ∷ xs) zero x there = ap (λ z. z ∷ []) (same_Some y x there)
 taken_suc (y ∷ xs) (suc n) x there = ap (λ zs. y ∷ zs) (taken_suc xs n x there)
 
-readings_on : (pieces : List (List ℕ)) (readings : List (Result StmtTree Refusal)) (piece : List ℕ) (reading : Result StmtTree Refusal) → AreReadings pieces readings → Reads piece reading → AreReadings (pieces ++ piece ∷ []) (readings ++ reading ∷ [])
+readings_on : (pieces : List (List ℕ)) (readings : List Said) (piece : List ℕ) (reading : Said) → AreReadings pieces readings → Reads piece reading → AreReadings (pieces ++ piece ∷ []) (readings ++ reading ∷ [])
 readings_on [] [] piece reading are is = (is, tt)
 readings_on [] (r ∷ rs) piece reading are is = absurd are
 readings_on (p ∷ ps) [] piece reading are is = absurd are
 readings_on (p ∷ ps) (r ∷ rs) piece reading are is = (are.0, readings_on ps rs piece reading are.1 is)
 
 -- one text more
-pub readings_next : (pieces : List (List ℕ)) (n : ℕ) (readings : List (Result StmtTree Refusal)) (piece : List ℕ) (reading : Result StmtTree Refusal) → slice_get pieces n ≡ Some piece → AreReadings (take n pieces) readings → Reads piece reading
+pub readings_next : (pieces : List (List ℕ)) (n : ℕ) (readings : List Said) (piece : List ℕ) (reading : Said) → slice_get pieces n ≡ Some piece → AreReadings (take n pieces) readings → Reads piece reading
     → AreReadings (take (n + 1) pieces) (readings ++ reading ∷ [])
 readings_next pieces n readings piece reading here are is =
     let next : n + 1 ≡ suc n = omega arith in
     subst (λ some. AreReadings some (readings ++ reading ∷ [])) (sym (ap (λ k. take k pieces) next ∙ taken_suc pieces n piece here)) (readings_on (take n pieces) readings piece reading are is)
 
 -- texts read as one thing each
-pub readings_one : EachReadsAsOne → (pieces : List (List ℕ)) (a b : List (Result StmtTree Refusal)) → AreReadings pieces a → AreReadings pieces b → a ≡ b
+pub readings_one : EachReadsAsOne → (pieces : List (List ℕ)) (a b : List Said) → AreReadings pieces a → AreReadings pieces b → a ≡ b
 readings_one each [] [] [] p q = refl
 readings_one each [] (r ∷ a) b p q = absurd p
 readings_one each [] [] (r ∷ b) p q = absurd q

@@ -1,5 +1,5 @@
 -- The events of a session stay in order, whatever event comes next.
-use Rattle.std.proofs.Common.{◌≡◌, ℕ, ◌+◌, ◌≤◌, List, [], ◌∷◌, ◌++◌, map, take, length, false, true, Option, Some, None, Result, refl, ap, sym, ◌∙◌, subst, arith}
+use Rattle.std.proofs.Common.{◌≡◌, ℕ, ◌+◌, ◌≤◌, List, [], ◌∷◌, ◌++◌, map, take, length, false, true, Option, Some, None, refl, ap, sym, ◌∙◌, subst, arith}
 use Rattle.std.specs.Prelude.{slice_get, ◌==◌}
 use Rattle.std.proofs.lemmas.List.{append_assoc, append-nil, length-take-le, map-append}
 use Rattle.std.proofs.lemmas.Option.{same_Some}
@@ -7,11 +7,10 @@ use Rattle.cell_core.specs.declared.table.Db.{Db}
 use Rattle.pool_policy.specs.declared.options.PoolOptions.{PoolOptions}
 use Rattle.pool_policy.proofs.Ends.{all_append}
 use Rattle.read_laws.specs.Answered.{EachReadsAsOne, Reads}
-use Rattle.sql_semantics.specs.declared.refusal.Refusal.{Refusal}
-use Rattle.sql_tree.specs.Tree.{StmtTree}
 use Rattle.run_log.specs.Events.{ActTree, Ends, EventTree}
 use Rattle.run_log.specs.Fold.{run_of}
-use Rattle.answer_text.specs.Log.{AreActs, AreStatements, acts_over, code_of, is_of_pool, is_opening, logged_of, shown_over, tables_met, with_between}
+use Rattle.reply_layout.specs.Doings.{code_of}
+use Rattle.answer_text.specs.Log.{AreActs, AreStatements, Said, acts_over, doing_over, is_of_pool, is_opening, logged_of, shown_over, tables_met, with_between}
 use Rattle.session_run.specs.declared.session.Session.{Session}
 use Rattle.session_run.specs.Progress.{Progress, progress_by, progress_of}
 use Rattle.session_run.specs.Readings.{AreReadings}
@@ -102,7 +101,7 @@ module _ (options : PoolOptions) (log : List EventTree) (x : Session) (s : Stand
       let placed : placed_now p p.begun ≡ p.ended + 1 = ap (placed_now p) begun in
       met_before (x.ended + 1) (omega arith) (omega (arith, placed, ended))
 
-  opens_later : (at : ℕ) → p.begun ≡ Some at → (reading : Result StmtTree Refusal) (first : ActTree)
+  opens_later : (at : ℕ) → p.begun ≡ Some at → (reading : Said) (first : ActTree)
       → acts_over (tables_met log x.number (x.ended + 1)) reading ≡ first ∷ Ends (code_of (shown_over (tables_met log x.number (x.ended + 1)) reading)) ∷ []
       → acts_over (tables_met later x.number (x.ended + 1)) reading ≡ first ∷ Ends (code_of (shown_over (tables_met later x.number (x.ended + 1)) reading)) ∷ []
   opens_later at begun reading first opens =
@@ -164,7 +163,7 @@ module _ (options : PoolOptions) (log : List EventTree) (x : Session) (s : Stand
     ended_at n = record x { ended = n }
 
     -- a statement is finished
-    finishes : (acts : List ActTree) (reading : Result StmtTree Refusal) → Reads next.piece reading → AreActs (tables_met later x.number (x.ended + 1)) reading acts
+    finishes : (acts : List ActTree) (reading : Said) → Reads next.piece reading → AreActs (tables_met later x.number (x.ended + 1)) reading acts
         → o.opened ++ (x.ended + 1, event.act) ∷ [] ≡ map {B = ℕ × ActTree} (λ act. (x.ended + 1, act)) acts → q.begun ≡ None → IsInOrder later (ended_at (x.ended + 1))
     finishes acts reading read are same none = record {
       readings = o.readings ++ reading ∷ [];
@@ -276,7 +275,7 @@ module _ (options : PoolOptions) (log : List EventTree) (x : Session) (s : Stand
           go : (begun : Option ℕ) → p.begun ≡ begun → IsInOrder later y
           go None is =
               let act = subst (λ b. IsNextAct order options log (who_at x.number p) p b next.reading event.act) is next.act in
-              starts is (subst (StartsAs (run_of options log).db next.reading) (sym act) (starts_as (run_of options log) next.reading))
+              starts is (starts_as (run_of options log).db next.reading event.act act)
           go (Some at) is =
               let act = subst (λ b. IsNextAct order options log (who_at x.number p) p b next.reading event.act) is next.act in
-              goes_on at is (goes_on_as order (run_of options log) (who_at x.number p) (state_before options log at) p.results next.reading event.act act)
+              goes_on at is (goes_on_as order (run_of options log) (who_at x.number p) (state_before options log at) p.results (doing_over (state_before options log at).db next.reading) event.act act)

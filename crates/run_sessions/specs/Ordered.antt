@@ -1,11 +1,10 @@
 -- The events of a session, in the order of its statements.
-use Rattle.std.specs.Prelude.{◌≡◌, ℕ, ◌+◌, List, [], ◌∷◌, ◌++◌, map, take, true, Option, Some, None, Result, slice_get}
+use Rattle.std.specs.Prelude.{◌≡◌, ℕ, ◌+◌, List, [], ◌∷◌, ◌++◌, map, take, true, Option, Some, None, slice_get}
 use Rattle.std.specs.List.{AllByRecursion}
 use Rattle.read_laws.specs.Answered.{Reads}
-use Rattle.sql_semantics.specs.declared.refusal.Refusal.{Refusal}
-use Rattle.sql_tree.specs.Tree.{StmtTree}
 use Rattle.run_log.specs.Events.{ActTree, Ends, EventTree}
-use Rattle.answer_text.specs.Log.{AreStatements, acts_over, code_of, is_of_pool, logged_of, shown_over, tables_met}
+use Rattle.reply_layout.specs.Doings.{code_of}
+use Rattle.answer_text.specs.Log.{AreStatements, Said, acts_over, is_of_pool, logged_of, shown_over, tables_met}
 use Rattle.session_run.specs.declared.session.Session.{Session}
 use Rattle.session_run.specs.Progress.{progress_of}
 use Rattle.session_run.specs.Readings.{AreReadings}
@@ -14,7 +13,7 @@ use Rattle.session_run.specs.Readings.{AreReadings}
 pub record HasOpened (log : List EventTree) (x : Session) (acts : List (ℕ × ActTree)) : Type 0 where
   pub piece : List ℕ
   pub here : slice_get x.pieces x.ended ≡ Some piece
-  pub reading : Result StmtTree Refusal
+  pub reading : Said
   pub read : Reads piece reading
   pub first : ActTree
   pub opens : acts_over (tables_met log x.number (x.ended + 1)) reading ≡ first ∷ Ends (code_of (shown_over (tables_met log x.number (x.ended + 1)) reading)) ∷ []
@@ -28,7 +27,7 @@ IsOpenedAs log x (Some at) acts = HasOpened log x acts
 
 -- its events are those of its statements that have ended, and of the one that has begun
 pub record IsInOrder (log : List EventTree) (x : Session) : Type 0 where
-  pub readings : List (Result StmtTree Refusal)
+  pub readings : List Said
   pub read : AreReadings (take x.ended x.pieces) readings
   pub finished : List (ℕ × ActTree)
   pub opened : List (ℕ × ActTree)

@@ -1,11 +1,9 @@
 -- The sessions of a run, behind its log.
-use Rattle.std.specs.Prelude.{◌≡◌, ℕ, ◌+◌, ◌≤◌, ◌<◌, List, [], ◌∷◌, ◌++◌, length, map, sum_by, Bool, true, false, Result, slice_get, Some}
-use Rattle.sql_semantics.specs.declared.refusal.Refusal.{Refusal}
-use Rattle.sql_tree.specs.Tree.{StmtTree}
+use Rattle.std.specs.Prelude.{◌≡◌, ℕ, ◌+◌, ◌≤◌, ◌<◌, List, [], ◌∷◌, ◌++◌, length, map, sum_by, Bool, true, false, slice_get, Some}
 use Rattle.pool_policy.specs.declared.options.PoolOptions.{PoolOptions}
 use Rattle.run_log.specs.Events.{EventTree, log_tree}
 use Rattle.answer_text.specs.Layout.{replies_text}
-use Rattle.answer_text.specs.Log.{AreStatements, logged_of}
+use Rattle.answer_text.specs.Log.{AreStatements, Said, logged_of}
 use Rattle.book_core.specs.BookView.{BookView, state_of}
 use Rattle.session_run.specs.declared.session.Session.{Session}
 use Rattle.session_run.specs.declared.stage.Stage.TheVariants.{Between}
@@ -79,7 +77,7 @@ pub record HaveEnded (old new : BookView) (before after : List Session) : Type 0
 
 -- the text of a session that did all its statements: the replies to them, of which each stands once and in its order in the log
 abbrev pub IsText : List EventTree → ℕ → List (List ℕ) → List ℕ → Type 0
-IsText log session pieces text = (readings : List (Result StmtTree Refusal)) × AreReadings pieces readings × (text ≡ replies_text log session readings) × AreStatements log session 1 readings (logged_of session log)
+IsText log session pieces text = (readings : List Said) × AreReadings pieces readings × (text ≡ replies_text log session readings) × AreStatements log session 1 readings (logged_of session log)
 
 -- the texts of the sessions from a number on, each over the readings of its script
 abbrev pub AreTexts : List EventTree → ℕ → List (List (List ℕ)) → List (List ℕ) → Type 0

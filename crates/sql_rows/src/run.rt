@@ -8,10 +8,11 @@ ghost use Rattle.std.specs.Prelude.{◌≡◌, true};
 ghost use Rattle.rows_to_mal.specs.Rows.{keeps_rows};
 ghost use Rattle.rows_to_mal.specs.Writes.{is_write};
 
-use answer_text::{Shown, write_reply};
+use answer_text::write_reply;
 use cell_core::{Cell, Db, Memory, RunError, Sequence, Table, copy_columns};
 use group_to_mal::compile_query;
 use mal_meaning::slow_run;
+use reply_layout::Shown;
 use rows_to_mal::{compile_rows, compile_write};
 use sql_changes::{change, slow_effect};
 use sql_check::{CheckError, check, refusal_of};

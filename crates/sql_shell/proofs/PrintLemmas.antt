@@ -12,7 +12,8 @@ use Rattle.run_log.specs.declared.event.Totals.{Totals}
 use Rattle.run_log.specs.Events.{EventTree}
 use Rattle.pool_sound.specs.Sound.{IsSoundAlong}
 use Rattle.answer_text.specs.Log.{AreStatements, logged_of}
-use Rattle.answer_text.specs.Layout.{history_text, log_text, replies_text, session_line, session_text, sessions_text, totals_text}
+use Rattle.reply_layout.specs.Layout.{session_line}
+use Rattle.answer_text.specs.Layout.{history_text, log_text, replies_text, session_text, sessions_text, totals_text}
 use Rattle.command_line.specs.declared.command.RunOptions.{RunOptions}
 use Rattle.session_run.specs.Work.{run_totals}
 use Rattle.run_sessions.specs.Tables.{AreTexts, IsText}

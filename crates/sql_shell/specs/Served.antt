@@ -7,7 +7,8 @@ use Rattle.pool_policy.specs.declared.options.PoolOptions.{PoolOptions}
 use Rattle.run_log.specs.Events.{EventTree}
 use Rattle.pool_sound.specs.Sound.{IsSoundAlong}
 use Rattle.answer_text.specs.Log.{IsOrdered}
-use Rattle.answer_text.specs.Layout.{printed, session_line}
+use Rattle.reply_layout.specs.Layout.{session_line}
+use Rattle.answer_text.specs.Layout.{printed}
 use Rattle.command_line.specs.declared.command.Command.{Command}
 use Rattle.command_line.specs.declared.command.RunOptions.{RunOptions}
 use Rattle.store_changes.specs.Work.{Counts}

@@ -10,7 +10,7 @@ use Rattle.sql_tree.specs.contracts.tree.Stmt as StmtRow
 use Rattle.sql_semantics.specs.contracts.refusal.Refusal as RefusalRow
 use Rattle.sql_semantics.proofs.refusal.Refusal.TheSendSync as Refusal
 use Rattle.mal_meaning.proofs.plan.Plan.TheSendSync as Plan
-use Rattle.answer_text.proofs.shown.Shown.TheSendSync as Shown
+use Rattle.reply_layout.proofs.shown.Shown.TheSendSync as Shown
 use Rattle.query_run.proofs.step.Step.TheSendSync as Step
 use Rattle.session_run.specs.contracts.stage.Stage as StageRow
 use Rattle.session_run.specs.contracts.session.Session as SessionRow
