@@ -9,7 +9,7 @@ use Rattle.cell_core.specs.declared.table.Db.{Db}
 use Rattle.read_laws.specs.Answered.{EachReadsAsOne, Reads}
 use Rattle.run_log.specs.Events.{ActTree, EventTree}
 use Rattle.answer_text.specs.Log.{AreActs, AreStatements, Said, logged_of, tables_met}
-use Rattle.session_run.specs.Readings.{AreReadings}
+use Rattle.read_laws.specs.Readings.{AreReadings}
 use Rattle.run_sessions.proofs.PlaceLemmas.{none_there}
 
 -- ## What a log says of a session

@@ -13,7 +13,7 @@ use Rattle.reply_layout.specs.Doings.{code_of}
 use Rattle.answer_text.specs.Log.{AreActs, AreStatements, Said, acts_over, doing_over, is_of_pool, is_opening, logged_of, shown_over, tables_met, with_between}
 use Rattle.session_run.specs.declared.session.Session.{Session}
 use Rattle.session_run.specs.Progress.{Progress, progress_by, progress_of}
-use Rattle.session_run.specs.Readings.{AreReadings}
+use Rattle.read_laws.specs.Readings.{AreReadings}
 use Rattle.session_run.specs.Kept.{Stands, opened as placed_now}
 use Rattle.session_run.specs.Turns.{IsNext, IsNextAct, Order, state_before, who_at}
 use Rattle.session_run.proofs.LogLemmas.{ArePlaced, other_progress, own_progress, place_next, tables_next, tables_stay}

@@ -13,7 +13,7 @@ use Rattle.book_core.specs.BookView.{BookView}
 use Rattle.session_run.specs.declared.session.Session.{Session}
 use Rattle.session_run.specs.Kept.{IsStage, Stands}
 use Rattle.session_run.specs.Progress.{progress_of}
-use Rattle.session_run.specs.Readings.{AreReadings}
+use Rattle.read_laws.specs.Readings.{AreReadings}
 use Rattle.session_run.specs.Turns.{InPlan, IsDone}
 use Rattle.session_run.proofs.RunLemmas.{done_is, done_text}
 use Rattle.run_sessions.specs.Played.{IsPlayed, IsScheduled, RiseFrom, Starts}

@@ -7,7 +7,7 @@ use Rattle.reply_layout.specs.Doings.{code_of}
 use Rattle.answer_text.specs.Log.{AreStatements, Said, acts_over, is_of_pool, logged_of, shown_over, tables_met}
 use Rattle.session_run.specs.declared.session.Session.{Session}
 use Rattle.session_run.specs.Progress.{progress_of}
-use Rattle.session_run.specs.Readings.{AreReadings}
+use Rattle.read_laws.specs.Readings.{AreReadings}
 
 -- the first of a session's statements that have not ended has begun: its Begin stands in the log, and behind it looks and admissions
 pub record HasOpened (log : List EventTree) (x : Session) (acts : List (ℕ × ActTree)) : Type 0 where

@@ -8,7 +8,7 @@ use Rattle.book_core.specs.BookView.{BookView, state_of}
 use Rattle.session_run.specs.declared.session.Session.{Session}
 use Rattle.session_run.specs.declared.stage.Stage.TheVariants.{Between}
 use Rattle.session_run.specs.Kept.{Stands}
-use Rattle.session_run.specs.Readings.{AreReadings}
+use Rattle.read_laws.specs.Readings.{AreReadings}
 use Rattle.session_run.specs.Stages.{HasDone}
 use Rattle.session_run.specs.Turns.{InPlan}
 use Rattle.session_run.specs.Works.{IsWorked, done_by, lost_of}

@@ -19,7 +19,7 @@ use Rattle.session_run.specs.declared.session.Session.{Session}
 use Rattle.session_run.specs.declared.stage.Stage.{Stage}
 use Rattle.session_run.specs.declared.stage.Stage.TheVariants as stage
 use Rattle.session_run.specs.Progress.{Got, Progress, progress_of}
-use Rattle.session_run.specs.Readings.{AreReadings}
+use Rattle.read_laws.specs.Readings.{AreReadings}
 use Rattle.session_run.specs.Turns.{Order, state_before}
 use Rattle.session_run.specs.Kept.{HasBegun, IsRun, IsStage, IsStep, IsUnder, Knows, Stands, opened, order_of}
 use Rattle.session_run.proofs.LogLemmas.{ArePlaced, log_long, other_progress, place_stays, placed_other, replies_stay, state_stays, worths_next}

@@ -22,7 +22,7 @@ use Rattle.session_run.specs.declared.session.Session.{Session}
 use Rattle.session_run.specs.declared.stage.Stage.{Stage}
 use Rattle.session_run.specs.declared.stage.Stage.TheVariants as stage
 use Rattle.session_run.specs.Progress.{Progress, nothing_got, progress_by, progress_of}
-use Rattle.session_run.specs.Readings.{AreReadings}
+use Rattle.read_laws.specs.Readings.{AreReadings}
 use Rattle.session_run.specs.Turns.{IsNext, IsNextAct, state_before, who_at}
 use Rattle.session_run.specs.Kept.{HasBegun, IsStage, IsUnder, Stands, opened, order_of, untold}
 use Rattle.session_run.proofs.LogLemmas.{ArePlaced, log_long, own_progress, place_next, place_stays, placed_next, placed_quiet, replies_more, replies_stay, state_next, state_stays, tables_next, tables_stay}

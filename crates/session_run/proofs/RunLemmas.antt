@@ -12,7 +12,7 @@ use Rattle.answer_text.specs.Log.{Said}
 use Rattle.book_core.specs.Lawful.{FollowAll, IsLawful}
 use Rattle.session_run.specs.declared.session.Session.{Session}
 use Rattle.session_run.specs.declared.stage.Stage.TheVariants as stage
-use Rattle.session_run.specs.Readings.{AreReadings}
+use Rattle.read_laws.specs.Readings.{AreReadings}
 use Rattle.session_run.specs.Turns.{IsDone, IsNext, Order}
 use Rattle.session_run.specs.Kept.{Stands, untold}
 use Rattle.session_run.proofs.OtherLemmas.{others_stay}

@@ -29,7 +29,7 @@ use Rattle.session_run.specs.declared.session.Session.{Session}
 use Rattle.session_run.specs.declared.stage.Stage.{Stage}
 use Rattle.session_run.specs.declared.stage.Stage.TheVariants as stage
 use Rattle.session_run.specs.Progress.{Progress, progress_of}
-use Rattle.session_run.specs.Readings.{AreReadings}
+use Rattle.read_laws.specs.Readings.{AreReadings}
 use Rattle.session_run.specs.Turns.{IsNext, state_before}
 use Rattle.session_run.specs.Kept.{HasBegun, HasRead, IsStage, IsUnder, Stands, order_of, untold}
 use Rattle.session_run.specs.Stages.{BeginsWith, ComesTo, GoesInPlan, HasComputed, IsSoundStage, MayBegin, ReadsOn, at_stage, explained, with_reply}

@@ -1,4 +1,3 @@
-pub mod Readings
 pub mod Progress
 pub mod Turns
 pub mod Kept

@@ -24,7 +24,8 @@ use Rattle.sql_shell.specs.Inputs.{IsCourse}
 use Rattle.sql_shell.specs.Numbers.{AreShort}
 use Rattle.sql_shell.specs.Ready.{IsServedBy}
 use Rattle.sql_shell.specs.Scripts.{AreCut, names_of}
-use Rattle.sql_shell.specs.Served.{AreAllRead, IsMade, IsRun, IsServed, pool_of, texts_under}
+use Rattle.read_laws.specs.Readings.{AreAllRead}
+use Rattle.sql_shell.specs.Served.{IsMade, IsRun, IsServed, pool_of, texts_under}
 use Rattle.sql_shell.specs.declared.inputs.Course.{Course}
 use Rattle.sql_shell.specs.declared.scripts.Script.{Script}
 use Rattle.sql_shell.proofs.ScriptLemmas.{are_of}

@@ -12,7 +12,7 @@ use Rattle.answer_text.specs.Layout.{printed}
 use Rattle.command_line.specs.declared.command.Command.{Command}
 use Rattle.command_line.specs.declared.command.RunOptions.{RunOptions}
 use Rattle.store_changes.specs.Work.{Counts}
-use Rattle.session_run.specs.Readings.{AreReadings}
+use Rattle.read_laws.specs.Readings.{AreAllRead}
 use Rattle.session_run.specs.Work.{run_lost, run_totals, run_work}
 use Rattle.run_sessions.specs.Played.{IsScheduled}
 use Rattle.command_line.specs.Command.{files_of, options_of}
@@ -32,12 +32,6 @@ most_entries = 1024
 -- the pool of a run with these options
 abbrev pub pool_of : RunOptions → PoolOptions
 pool_of options = record { places = most_entries; budget = options.budget; evict = options.evict; weights = options.weights; admit = options.admit; credits = options.credits }
-
--- the statements of each script read so
-abbrev pub AreAllRead : List (List (List ℕ)) → List (List (Result StmtTree Refusal)) → Type 0
-AreAllRead [] [] = Unit {0}
-AreAllRead (pieces ∷ scripts) (readings ∷ others) = AreReadings pieces readings × AreAllRead scripts others
-AreAllRead _ _ = ⊥
 
 -- a run of scripts with these names and statements has this log, and this is what is printed of it: the log has each statement once and in its session's order, each reply is what its statement means over the tables as the commits before its place leave them, the history is the commits, and the pool, its totals and each event are those of this log; after each event the pool is sound, so that what is pooled is what its lineage evaluates to; and the numbers that are printed of the pool are short
 pub record IsServed (options : RunOptions) (names : List (List ℕ)) (scripts : List (List (List ℕ))) (text : List ℕ) (log : List EventTree) (work : ℕ) : Type 0 where
