@@ -10,6 +10,7 @@ use Rattle.session_run.specs.Work.{run_lost, run_totals, run_work}
 use Rattle.run_sessions.specs.Played.{IsScheduled}
 use Rattle.command_line.specs.Command.{default_options}
 use Rattle.sample_scripts.specs.Scripts.{changes, queries}
+use Rattle.sql_shell.specs.Numbers.{AreShort}
 use Rattle.sql_shell.specs.Served.{pool_of}
 
 -- the pool of a run with the default options
@@ -20,10 +21,11 @@ default_pool = pool_of default_options
 abbrev pub generated_text : ℕ → Totals → List ℕ
 generated_text seed totals = codes "generated " ++ decimal seed ++ codes "\n" ++ totals_text totals
 
--- the two sample scripts of a number, a session each, one behind the other and with the default options, have this log, and this is what is written of it: the totals are those of the log, after each event of which the pool is sound; while the counter goes from here to there
+-- the two sample scripts of a number, a session each, one behind the other and with the default options, have this log, and this is what is written of it: the totals are those of the log, after each event of which the pool is sound, and the numbers of looks, admissions and totals are short; while the counter goes from here to there
 pub record IsGenerated (seed : ℕ) (text : List ℕ) (log : List EventTree) (work before after : ℕ) : Type 0 where
   pub scheduled : IsScheduled default_pool (changes seed ∷ queries seed ∷ []) [] log
   pub written_is : text ≡ generated_text seed (run_totals default_pool log)
   pub work_is : work ≡ run_work default_pool log
   pub sound : IsSoundAlong default_pool log
+  pub short : AreShort log (run_totals default_pool log)
   pub counted : Counts before after work (run_lost default_pool log)

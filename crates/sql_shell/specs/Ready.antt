@@ -1,4 +1,4 @@
--- What the code keeps of what it has read, and what a run of it gives; no public clause names it.
+-- What the code keeps of what it has read, which `top_by_turns` gives back with a `run`; and what a run of it gives.
 use Rattle.std.specs.Prelude.{ℕ, ◌≤◌, List, length}
 use Rattle.std.specs.List.{AllByRecursion}
 use Rattle.run_log.specs.Events.{EventTree}

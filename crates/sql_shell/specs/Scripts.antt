@@ -44,7 +44,7 @@ AreToldFirst bytes (name ∷ names) (text ∷ texts) = (bytes name ≡ Some text
 abbrev pub CanBeRun : (List ℕ → Option (List ℕ)) → List (List ℕ) → Type 0
 CanBeRun bytes names = AllByRecursion (λ name. IfSome (bytes name) IsRunnable) names
 
--- ## What the code keeps, which no public clause names
+-- ## What the code keeps, and `top_by_turns` gives back with a `run`
 
 abbrev pub names_of : List Script → List (List ℕ)
 names_of scripts = map (λ (script : Script). script.name) scripts

@@ -46,7 +46,8 @@ pub struct ThreadedRun {
 
 /// Does all that `top` does but a run in threads: it answers every `replay`, every `generate` and every
 /// command that ends before its first statement, by the clauses that `top` has, and gives a `run` back once
-/// its scripts are read. It always returns: nothing that it is handed may wait.
+/// its scripts are read. It returns, if the source, the sink and the kernel that it is handed do: it has no
+/// leave of its own to wait.
 pub fn top_by_turns<S: Scripts, K: Sink, E: Operate + Sync, L: Ledger>(
     alloc: Global,
     words: &[Word],

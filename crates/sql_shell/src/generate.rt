@@ -8,6 +8,7 @@ ghost use Rattle.score_hook.specs.Scores.{IsInRange, score_of};
 ghost use Rattle.sql_shell.specs.Generated as told;
 ghost use Rattle.sql_shell.specs.Generated.{IsGenerated};
 
+use crate::numbers::numbers_are_short;
 use crate::produce::{Produced, pool_for};
 use crate::scripts::Failure;
 use crate::served::{Served, failed, hand_out};
@@ -89,6 +90,7 @@ fn replay_samples<E: Operate, L: Ledger>(
     scripts.push(queries)?;
     let pool = default_pool(alloc);
     let run = play_sessions(alloc, scripts, &[], pool, scorer, kernel, steps)?;
+    numbers_are_short(&run);
     let text = generated_text(alloc, seed, &run.totals)?;
     let Run { log, totals, .. } = run;
     Ok(Produced {

@@ -5,7 +5,7 @@
 //! It stands on `command_line` for the words, on `causes` for reading and writing, on `turn_lines` for the
 //! schedule, on `sample_scripts` for those of `generate`, on `thread_sessions` for sessions in threads and on
 //! `run_sessions` for those that take turns on one thread, and on `answer_text` for the layouts.
-//! `top_by_turns` does all of it but a run in threads, and so it returns, as its type has no leave to wait.
+//! `top_by_turns` does all of it but a run in threads: it returns, if what it is handed does.
 //! The clause `served` of both is the project's headline: the log has each statement once and in its session's
 //! order, under `replay` it is the log of the schedule, each reply is what its statement means over the
 //! tables at its place, and the totals and the work are those that the log says.

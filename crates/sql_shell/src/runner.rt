@@ -23,7 +23,7 @@ use std::sync::ledger::Ledger;
 use std::thread::Threads;
 use thread_sessions::serve_sessions;
 
-/// What runs sessions. One whose type has no handle to wait by returns.
+/// What runs sessions. One whose type has no handle to wait by returns, if the kernel does.
 pub trait SessionRunner {
     // The course that they take.
     ghost course: { Self → CourseSeen };

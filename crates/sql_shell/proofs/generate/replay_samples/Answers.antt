@@ -38,4 +38,4 @@ returns g c =
     let scripts = items ∙ ap₂ (λ (a b : List (List ℕ)). a ∷ b ∷ []) c.in_ok-changes.ensures.changes c.in_ok-changes.ensures.queries in
     subst (λ (events : List Event). IsGenerated seed c.in_ok-text.text.items (log_tree events) run.totals.work c.args.steps.now c.play_sessions.new.steps) (sym c.from_vec.ensures)
     (generated_of seed c.default_pool-pool.result c.push-2.new.self.items [] c.in_ok-text.text.items log run.totals c.args.steps.now c.play_sessions.new.steps
-    c.default_pool-pool.ensures scripts refl played.scheduled played.totals played.counted c.in_ok-text.ensures played.sound)
+    c.default_pool-pool.ensures scripts refl played.scheduled played.totals played.counted c.in_ok-text.ensures played.sound c.numbers_are_short.ensures)
