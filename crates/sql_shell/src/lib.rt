@@ -19,6 +19,7 @@ mod produce;
 mod runner;
 mod scripts;
 mod served;
+mod threaded;
 
 pub use begun::{Begun, ThreadedRun, top_by_turns};
 pub use run_log::{Act, Event};

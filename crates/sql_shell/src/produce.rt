@@ -156,13 +156,13 @@ pub(crate) fn pool_for(options: RunOptions) -> PoolOptions
 
 /// Scripts as their names and the texts of their statements.
 #[derive(Drop)]
-struct Parts {
-    names: Vec<Word>,
-    scripts: Vec<Sequence<Word>>,
+pub(crate) struct Parts {
+    pub(crate) names: Vec<Word>,
+    pub(crate) scripts: Vec<Sequence<Word>>,
 }
 
 /// The names of scripts and the texts of their statements.
-fn split(alloc: Global, scripts: Vec<Script>) -> Result<Parts, Memory>
+pub(crate) fn split(alloc: Global, scripts: Vec<Script>) -> Result<Parts, Memory>
     ensures names { IfOk result (λ parts. parts.names.items ≡ names_of scripts.items) }
     ensures scripts { IfOk result (λ parts. parts.scripts.items ≡ pieces_in scripts.items) }
 {
@@ -181,7 +181,12 @@ fn split(alloc: Global, scripts: Vec<Script>) -> Result<Parts, Memory>
 
 /// What is printed of a run: each session under its name, the history, the totals, and the log if it is
 /// asked for.
-fn print_run(alloc: Global, events: bool, names: &[Word], run: &Run) -> Result<Vec<u8>, Memory>
+pub(crate) fn print_run(
+    alloc: Global,
+    events: bool,
+    names: &[Word],
+    run: &Run,
+) -> Result<Vec<u8>, Memory>
     requires few { length names.now ≤ 16 }
     requires each { length run.now.texts.items ≡ length names.now }
     ensures { IfOk result (λ text. text.items ≡ ((texts_under 1 names.now (map (λ (t : VecSeen ℕ GlobalSeen). t.items) run.now.texts.items) ++ history_text (log_tree run.now.log.items)) ++ totals_text run.now.totals) ++ (if events then log_text (log_tree run.now.log.items) else [])) }

@@ -1,4 +1,4 @@
-//! How the sessions of a run go: by turns on one thread, or in threads.
+//! How the sessions of a run go by turns on one thread.
 ghost use Rattle.std.specs.Prelude.{◌≡◌, ◌≤◌, ◌^◌, ℕ, List, length, map, IfOk};
 ghost use Rattle.std.specs.declared.vec.Vec.{Vec as VecSeen};
 ghost use Rattle.std.specs.declared.alloc.Global.{Global as GlobalSeen};
@@ -8,7 +8,7 @@ ghost use Rattle.pool_sound.specs.Sound.{IsSoundAlong};
 ghost use Rattle.session_run.specs.Work.{run_totals};
 ghost use Rattle.run_sessions.specs.Tables.{AreTexts};
 ghost use Rattle.sql_shell.specs.declared.inputs.Course.{Course as CourseSeen};
-ghost use Rattle.sql_shell.specs.declared.inputs.Course.TheVariants.{ByTurns, InThreads};
+ghost use Rattle.sql_shell.specs.declared.inputs.Course.TheVariants.{ByTurns};
 ghost use Rattle.sql_shell.specs.Inputs.{AreTurnsOf};
 ghost use Rattle.sql_shell.specs.Served.{IsMade};
 
@@ -18,10 +18,7 @@ use pool_policy::PoolOptions;
 use run_sessions::{Run, play_sessions};
 use score_hook::Scorer;
 use std::alloc::Global;
-use std::sync::Wait;
 use std::sync::ledger::Ledger;
-use std::thread::Threads;
-use thread_sessions::serve_sessions;
 
 /// What runs sessions. One whose type has no handle to wait by returns, if the kernel does.
 pub trait SessionRunner {
@@ -80,30 +77,5 @@ impl SessionRunner for TurnRunner {
             kernel,
             steps,
         )
-    }
-}
-
-/// Runs each on a thread of its own, as far as threads can be made.
-#[derive(Drop)]
-pub struct ThreadRunner<'a, R: Threads + Wait + Sync> {
-    /// The runtime, which makes threads and waits.
-    pub rt: &'a R,
-    /// How many workers each query has.
-    pub workers: u32,
-}
-
-impl<'a, R: Threads + Wait + Sync> SessionRunner for ThreadRunner<'a, R> {
-    ghost course = { λ s. InThreads s.workers };
-
-    fn run_scripts<E: Operate + Sync, L: Ledger>(
-        &self,
-        alloc: Global,
-        scripts: Vec<Sequence<Word>>,
-        pool: PoolOptions,
-        scorer: &Scorer,
-        kernel: &E,
-        _steps: &mut Steps<L>,
-    ) -> Result<Run, Memory> {
-        serve_sessions(self.rt, alloc, scripts, pool, scorer, kernel, self.workers)
     }
 }

@@ -12,8 +12,9 @@ ghost use Rattle.sql_shell.specs.Served.{is_status};
 
 use crate::begun::{Begun, ThreadedRun, top_by_turns};
 use crate::produce::{Produced, produce};
-use crate::runner::{SessionRunner, ThreadRunner};
+use crate::runner::SessionRunner;
 use crate::scripts::{Failure, STATUS_SERVED, STATUS_UNWRITTEN, Script};
+use crate::threaded::serve_in_threads;
 use bat_core::Operate;
 use causes::{Scripts, Sink, write_all};
 use cell_core::{Memory, Sequence, Steps, Word};
@@ -97,8 +98,7 @@ pub fn top<R: Threads + Wait + Sync, S: Scripts, K: Sink, E: Operate + Sync, L: 
                 workers,
                 scripts,
             } = run;
-            let runner = ThreadRunner { rt, workers };
-            serve(&runner, alloc, options, scripts, out, kernel, steps)
+            serve_in_threads(rt, alloc, workers, options, scripts, out, kernel)
         }
     }
 }
