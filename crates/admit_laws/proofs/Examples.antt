@@ -67,6 +67,15 @@ orphan = refl
 no_room : answered (admit_of (session 2) 2 (offer (from_five 1) seven) first) ≡ (NoRoom 64, (1 ∷ [], 2, 2, 2, 0 ∷ 1 ∷ []))
 no_room = refl
 
+-- two columns of 64 bytes that nobody holds, and a selection of 72: giving up the second column isn't enough, so it stays
+abbrev two : PoolState
+two =
+    let one = (admit_of (session 1) 1 (offer (bind (codes "a") 2) column) (empty_pool (record (small 1) { budget = 130 }))).1 in
+    release_of 1 (admit_of (session 1) 2 (offer (bind (codes "b") 2) column) one).1
+
+no_room_stays : answered (admit_of (session 2) 3 (offer (from_five 1) seven) two) ≡ (NoRoom 64, (1 ∷ 2 ∷ [], 3, 3, 3, 0 ∷ 0 ∷ 1 ∷ []))
+no_room_stays = refl
+
 -- where shapes start without a credit, a new one gets its number, and an offer of one that has its number leaves that
 no_credit : answered (admit_of (session 2) 2 (offer (bind (codes "a") 2) column) (empty_pool (small 0))) ≡ (NoCredit 1, ([], 1, 2, 1, 0 ∷ []))
 no_credit = refl
