@@ -1,0 +1,4 @@
+pub mod HeldLemmas
+pub mod ShapeLemmas
+pub mod LeftLemmas
+mod Examples
