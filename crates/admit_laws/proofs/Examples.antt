@@ -67,7 +67,7 @@ orphan = refl
 no_room : answered (admit_of (session 2) 2 (offer (from_five 1) seven) first) ≡ (NoRoom 64, (1 ∷ [], 2, 2, 2, 0 ∷ 1 ∷ []))
 no_room = refl
 
--- two columns of 64 bytes that nobody holds, and a selection of 72: giving up the second column isn't enough, so it stays
+-- two columns of 64 bytes that no session holds, and a selection of 72: giving up the second column isn't enough, so it stays
 abbrev two : PoolState
 two =
     let one = (admit_of (session 1) 1 (offer (bind (codes "a") 2) column) (empty_pool (record (small 1) { budget = 130 }))).1 in
@@ -83,7 +83,7 @@ no_credit = refl
 no_credit_again : answered (admit_of (session 2) 3 (offer (bind (codes "a") 2) column) (admit_of (session 2) 2 (offer (bind (codes "a") 2) column) (empty_pool (small 0))).1) ≡ (NoCredit 1, ([], 1, 3, 1, 0 ∷ []))
 no_credit_again = refl
 
--- who of the first three holds each entry, its uses, and whether it has paid back
+-- which of the first three sessions hold each entry, its uses, and whether it has paid back
 abbrev holds : PoolState → List (List Bool × ℕ × Bool)
 holds pool = map (λ (e : PoolEntry). (take 4 e.pins, e.stats.reuses, e.is_paid)) pool.entries
 

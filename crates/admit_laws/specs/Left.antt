@@ -1,4 +1,4 @@
--- What an admission leaves that takes nothing.
+-- What is left by an admission that takes nothing.
 use Rattle.std.specs.Prelude.{◌≡◌, ℕ, List, ◌∷◌, ◌++◌, Bool, true, false, Some}
 use Rattle.lineage_key.specs.declared.key.Key.{Key}
 use Rattle.lineage_key.specs.declared.shape.Shape.{Shape}
@@ -34,7 +34,7 @@ pub record IsHeldToo (who : Who) (now : ℕ) (key : Key) (id : ℕ) (old new : P
   pub id_is : entry.id ≡ id
   pub after : new ≡ record old { moment = now; entries = front ++ pinned who entry ∷ back }
 
--- what is left, by the answer: where only the credit or the room is lacking, the shape may have got its number
+-- what is left, by the answer: where only the credit or the room is missing, the shape may have got its number
 abbrev pub IsLeft : Who → ℕ → Offer → PoolState → Admitted → PoolState → Type 0
 IsLeft who now offer old (Taken id bytes gone) new = Unit {0}
 IsLeft who now offer old (There id) new = IsHeldToo who now offer.key id old new

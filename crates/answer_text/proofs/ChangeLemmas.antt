@@ -40,7 +40,7 @@ pub changes_of-passed : (log : List Event) (i : ℕ) (event : Event) → i < len
 changes_of-passed log i event within is none =
     changes_of-take log i event within is ∙ ap (λ o. changes_of (log_tree (take i log)) ++ cons_option (change_from event.session event.statement o) []) none ∙ append-nil _
 
--- a change stands behind the others
+-- a change is added after the others
 pub changes_of-more : (log : List Event) (i : ℕ) (event : Event) (change : Change) → i < length log → event ≡ get_or log i event → change_from event.session event.statement (committed (act_tree event.act)) ≡ Some change → changes_of (log_tree (take (i + 1) log)) ≡ changes_of (log_tree (take i log)) ++ change ∷ []
 changes_of-more log i event change within is some =
     changes_of-take log i event within is ∙ ap (λ o. changes_of (log_tree (take i log)) ++ cons_option o []) some

@@ -10,8 +10,8 @@ use Rattle.sql_tree.specs.Tree.{ExprTree, QueryTree, StmtTree}
 use Rattle.sql_tree.specs.Tree.ExprTree.{Literal, ColumnOf}
 use Rattle.sql_tree.specs.Tree.CondTree.{Within}
 use Rattle.sql_tree.specs.Tree.StmtTree.{CreateTable, DropTable, InsertInto, Select, ExplainSelect}
-use Rattle.sql_semantics.specs.declared.refusal.Refusal.{Refusal}
-use Rattle.sql_semantics.specs.declared.refusal.Refusal.TheVariants.{Syntax, NoTable}
+use Rattle.sql_definitions.specs.declared.refusal.Refusal.{Refusal}
+use Rattle.sql_definitions.specs.declared.refusal.Refusal.TheVariants.{Syntax, NoTable}
 use Rattle.mal_opt.specs.Passes.{constant_value}
 use Rattle.reply_layout.specs.declared.shown.Shown.TheVariants as shown
 use Rattle.answer_text.specs.Log.{acts_over, tables_met, AreStatements, logged_of, IsOrdered, with_between}
@@ -19,7 +19,7 @@ use Rattle.run_log.specs.Events.{EventTree, ActTree, Begins, Writes, Ends}
 use Rattle.run_log.specs.Totals.{no_totals}
 use Rattle.mal_meaning.specs.declared.plan.Plan.{Plan}
 use Rattle.plan_queries.specs.Plans.{optimised_plan, plan_over}
-use Rattle.sql_semantics.specs.Effect.{replay}
+use Rattle.sql_definitions.specs.Effect.{replay}
 use Rattle.reply_layout.specs.Layout.{record_text, reply_text}
 use Rattle.answer_text.specs.Layout.{printed}
 
@@ -103,7 +103,7 @@ abbrev acts_from : List EventTree → ℕ → ℕ → List (Result StmtTree Refu
 acts_from log session k [] = []
 acts_from log session k (reading ∷ readings) = map {B = ℕ × ActTree} (λ act. (k, act)) (acts_over (tables_met log session k) reading) ++ acts_from log session (k + 1) readings
 
--- nothing stands between
+-- there is nothing between
 with_none : (acts : List ActTree) → acts ≡ with_between [] acts
 with_none [] = refl
 with_none (act ∷ []) = refl
@@ -140,7 +140,7 @@ output = refl
 
 -- ## Two sessions
 
--- the second session's insert comes before the table is there, and is refused, and so is a text that is no statement
+-- the second session's insert comes before the table exists and is refused, like a text that is no statement
 abbrev pub two_log : List EventTree
 two_log =
     event 2 1 (Writes (Some insert_t) 3 0) ∷ event 1 1 (Writes (Some create_t) 0 0)
@@ -163,7 +163,7 @@ two_output = refl
 
 -- ## EXPLAIN and DROP
 
--- an EXPLAIN that the tables accept shows the plan of its query, optimised, as an independent implementation prints it, and one that they refuse is refused like its query
+-- an accepted EXPLAIN shows the optimised plan of its query, as an independent implementation prints it; another is refused like its query
 abbrev pub explain_log : List EventTree
 explain_log =
     event 1 1 (Begins 3 None) ∷ event 1 1 (Ends 3) ∷ event 1 2 (Writes (Some create_t) 0 0)

@@ -6,8 +6,8 @@ use Rattle.reply_layout.specs.Layout.{Change, change_from, history_of, named_lin
 use Rattle.answer_text.specs.Log.{Said, shown_over, tables_met}
 use Rattle.pool_policy.specs.declared.options.Admitted.{Admitted}
 use Rattle.pool_policy.specs.declared.options.Admitted.TheVariants as admitted
-use Rattle.run_log.specs.declared.event.Looked.{Looked}
-use Rattle.run_log.specs.declared.event.Looked.TheVariants as looked
+use Rattle.run_log.specs.declared.event.FoundLog.{FoundLog}
+use Rattle.run_log.specs.declared.event.FoundLog.TheVariants as looked
 use Rattle.run_log.specs.declared.event.Totals.{Totals}
 use Rattle.run_log.specs.Events.{ActTree, Begins, Looks, Admits, Writes, Ends, EventTree, committed}
 
@@ -17,7 +17,7 @@ use Rattle.run_log.specs.Events.{ActTree, Begins, Looks, Admits, Writes, Ends, E
 abbrev pub changes_of : List EventTree → List Change
 changes_of log = filter_map (λ (event : EventTree). change_from event.session event.statement (committed event.act)) log
 
--- the history: how many changes were accepted, and a line for each
+-- the history: the number of accepted changes, and a line for each
 abbrev pub history_text : List EventTree → List ℕ
 history_text log = history_of (changes_of log)
 
@@ -38,13 +38,13 @@ abbrev pub one_number : List ℕ → ℕ → List ℕ
 one_number name n = name ++ codes " " ++ decimal n
 
 -- what a look found
-abbrev pub looked_text : Looked → List ℕ
+abbrev pub looked_text : FoundLog → List ℕ
 looked_text (looked.Exact id) = one_number (codes "exact") id
 looked_text (looked.Within id) = one_number (codes "within") id
 looked_text (looked.Across pieces) = one_number (codes "across") pieces
 looked_text looked.Miss = codes "miss"
 
--- what an admission answers
+-- the answer to an admission
 abbrev pub admitted_text : Admitted → List ℕ
 admitted_text (admitted.Taken id bytes gone) = one_number (codes "taken") id ++ codes " " ++ decimal bytes ++ codes " " ++ decimal gone
 admitted_text (admitted.There id) = one_number (codes "there") id
@@ -64,7 +64,7 @@ act_text (Ends code) = one_number (codes "end") code
 abbrev pub event_line : ℕ → EventTree → List ℕ
 event_line i event = decimal i ++ codes " " ++ decimal event.session ++ codes " " ++ decimal event.statement ++ codes " " ++ act_text event.act ++ codes "\n"
 
--- how many events there are, and a line for each
+-- the number of events, and a line for each
 abbrev pub log_text : List EventTree → List ℕ
 log_text log = codes "log " ++ decimal (length log) ++ codes "\n" ++ flat_map (λ (i, event). event_line i event) (enumerate_from 1 log)
 

@@ -3,7 +3,7 @@ use Rattle.std.specs.Prelude.{◌≡◌, ℕ, suc, ◌+◌, ◌≤◌, ◌==◌,
 use Rattle.std.specs.List.{AllByRecursion}
 use Rattle.cell_core.specs.declared.table.Db.{Db}
 use Rattle.sql_tree.specs.Tree.{StmtTree}
-use Rattle.sql_semantics.specs.declared.refusal.Refusal.{Refusal}
+use Rattle.sql_definitions.specs.declared.refusal.Refusal.{Refusal}
 use Rattle.mal_print.specs.Canon.{plan_text}
 use Rattle.mal_meaning.specs.declared.plan.Plan.{Plan}
 use Rattle.plan_queries.specs.Plans.{plan_over}
@@ -29,7 +29,7 @@ statement_place session statement (event ∷ log) = if is_place session statemen
 
 -- ## What a text does
 
--- what a statement's text says: the statement, or the refusal of the text
+-- the reading of a statement's text: the statement, or the refusal of the text
 abbrev pub Said : Type 0
 Said = Result StmtTree Refusal
 
@@ -48,7 +48,7 @@ abbrev pub acts_in : Doing Plan → List ActTree
 acts_in (Writing statement shown) = Writes statement (code_of shown) (count_of shown) ∷ []
 acts_in (Beginning plan shown) = Begins (begin_code plan shown) plan ∷ Ends (code_of shown) ∷ []
 
--- those of a statement that meets these tables
+-- the acts of a statement that meets these tables
 abbrev pub acts_over : Db → Said → List ActTree
 acts_over db said = acts_in (doing_over db said)
 
@@ -62,16 +62,16 @@ is_of_pool (Looks instr key found) = true
 is_of_pool (Admits instr key result) = true
 is_of_pool _ = false
 
--- acts between the first and the last of two
+-- `between` put between two acts
 abbrev pub with_between : List ActTree → List ActTree → List ActTree
 with_between between (first ∷ last ∷ []) = first ∷ (between ++ last ∷ [])
 with_between between acts = acts
 
--- acts of a statement that meets these tables: those that it has by itself, with looks and admissions between the Begin and the End of a query
+-- acts of a statement that meets these tables: its own, with looks and admissions between the Begin and the End of a query
 abbrev pub AreActs : Db → Said → List ActTree → Type 0
 AreActs db reading acts = (between : List ActTree) × AllByRecursion (λ act. is_of_pool act ≡ true) between × (acts ≡ with_between between (acts_over db reading))
 
--- acts with their statements' numbers are those of a session's statements from k on: of each statement once, in their order, and no others
+-- numbered acts are exactly those of a session's statements from k on, in their order, each once
 abbrev pub AreStatements : List EventTree → ℕ → ℕ → List Said → List (ℕ × ActTree) → Type 0
 AreStatements log session k [] logged = logged ≡ []
 AreStatements log session k (reading ∷ readings) logged =
@@ -79,7 +79,7 @@ AreStatements log session k (reading ∷ readings) logged =
     × AreActs (tables_met log session k) reading acts
     × AreStatements log session (k + 1) readings later
 
--- what a log says of a session: the acts of its events, each with its statement's number
+-- the acts of a session in a log, each with its statement's number
 abbrev pub logged_of : ℕ → List EventTree → List (ℕ × ActTree)
 logged_of session log = map (λ (event : EventTree). (event.statement, event.act)) (filter (λ (event : EventTree). event.session == session) log)
 

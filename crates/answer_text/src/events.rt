@@ -6,10 +6,11 @@ ghost use Rattle.answer_text.specs.Layout.{act_text, admitted_text, event_line, 
 use crate::number::write_number;
 use cell_core::Memory;
 use pool_policy::Admitted;
-use run_log::{Act, Event, Looked};
+use run_log::{Act, Event, FoundLog};
 use std::alloc::Global;
 
-/// Appends a log: how many events it has, and a line for each. Where memory runs out, `out` stays as it was.
+/// Appends a log: the number of its events, and a line for each. Where memory runs out, `out` is
+/// unchanged.
 pub fn write_log(alloc: Global, log: &[Event], out: &mut Vec<u8>) -> Result<(), Memory>
     ensures ok { OnOk result (out.new.items ≡ out.old.items ++ log_text (log_tree log.now)) }
     ensures err { OnErr result (out.new.items ≡ out.old.items) }
@@ -84,21 +85,21 @@ fn write_act(act: &Act, out: &mut Vec<u8>) -> Result<(), Memory>
 }
 
 /// Appends what a look found.
-fn write_looked(found: Looked, out: &mut Vec<u8>) -> Result<(), Memory>
+fn write_looked(found: FoundLog, out: &mut Vec<u8>) -> Result<(), Memory>
     ensures { OnOk result (out.new.items ≡ out.old.items ++ looked_text found) }
 {
     match found {
-        Looked::Exact(id) => write_one("exact", id, out),
-        Looked::Within(id) => write_one("within", id, out),
-        Looked::Across(pieces) => write_one("across", pieces, out),
-        Looked::Miss => {
+        FoundLog::Exact(id) => write_one("exact", id, out),
+        FoundLog::Within(id) => write_one("within", id, out),
+        FoundLog::Across(pieces) => write_one("across", pieces, out),
+        FoundLog::Miss => {
             out.extend_from_slice(b"miss")?;
             Ok(())
         }
     }
 }
 
-/// Appends what an admission answered.
+/// Appends the answer to an admission.
 fn write_admitted(answer: Admitted, out: &mut Vec<u8>) -> Result<(), Memory>
     ensures { OnOk result (out.new.items ≡ out.old.items ++ admitted_text answer) }
 {

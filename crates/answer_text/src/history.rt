@@ -11,8 +11,8 @@ use cell_core::Memory;
 use run_log::{Event, StmtText};
 use std::alloc::Global;
 
-/// Appends the history of a log: how many changes were accepted, and a line for each. Where memory
-/// runs out, `out` stays as it was.
+/// Appends the history of a log: the number of accepted changes, and a line for each. Where memory
+/// runs out, `out` is unchanged.
 pub fn write_history(alloc: Global, log: &[Event], out: &mut Vec<u8>) -> Result<(), Memory>
     ensures ok { OnOk result (out.new.items ≡ out.old.items ++ history_text (log_tree log.now)) }
     ensures err { OnErr result (out.new.items ≡ out.old.items) }
@@ -25,7 +25,7 @@ pub fn write_history(alloc: Global, log: &[Event], out: &mut Vec<u8>) -> Result<
     Ok(())
 }
 
-/// How many changes a log accepts.
+/// The number of accepted changes in a log.
 fn count_changes(log: &[Event]) -> usize
     ensures { result ≡ length (changes_of (log_tree log.now)) }
 {

@@ -9,7 +9,7 @@ use cell_text::write_cell;
 use csv::{ByteRecord, WriterBuilder};
 use std::alloc::Global;
 
-/// The text with the records of the rows behind it.
+/// The text, followed by the records of the rows.
 pub(crate) fn with_records(
     alloc: Global,
     text: Vec<u8>,
@@ -34,7 +34,8 @@ pub(crate) fn with_records(
     }
 }
 
-/// Makes the record that of a row. The field serves for the text of one cell after the other.
+/// Fills the record with the cells of a row. `field` is a buffer for the text of one cell at a
+/// time.
 fn fill_record(row: &[Cell], field: &mut Vec<u8>, fields: &mut ByteRecord) -> Result<(), Memory>
     ensures { OnOk result (fields_of fields.new ≡ map cell_text row.now) }
 {

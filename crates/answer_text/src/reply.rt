@@ -7,7 +7,7 @@ use cell_core::Memory;
 use reply_layout::Shown;
 use std::alloc::Global;
 
-/// Appends the reply to statement `k` of a session. Where memory runs out, `out` stays as it was.
+/// Appends the reply to statement `k` of a session. Where memory runs out, `out` is unchanged.
 pub fn write_reply(alloc: Global, k: u32, reply: &Shown, out: &mut Vec<u8>) -> Result<(), Memory>
     ensures ok { OnOk result (out.new.items ≡ out.old.items ++ reply_text k reply.now) }
     ensures err { OnErr result (out.new.items ≡ out.old.items) }
@@ -43,7 +43,7 @@ fn reply_bytes(alloc: Global, k: u32, reply: &Shown) -> Result<Vec<u8>, Memory>
             text.extend_from_slice(b"\n")?;
             return with_records(alloc, text, rows.as_slice());
         }
-        Shown::Plan(plan) => {
+        Shown::Mal(plan) => {
             text.extend_from_slice(b" plan ")?;
             write_number(line_count(plan.as_slice()) as u64, &mut text)?;
             text.extend_from_slice(b"\n")?;
@@ -60,7 +60,7 @@ fn reply_bytes(alloc: Global, k: u32, reply: &Shown) -> Result<Vec<u8>, Memory>
     Ok(text)
 }
 
-/// Appends the line of a session. Where memory runs out, `out` stays as it was.
+/// Appends the line of a session. Where memory runs out, `out` is unchanged.
 pub fn write_session_line(
     alloc: Global,
     session: u32,

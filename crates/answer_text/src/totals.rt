@@ -7,7 +7,8 @@ use cell_core::Memory;
 use run_log::Totals;
 use std::alloc::Global;
 
-/// Appends the pool section: a line for each of the totals. Where memory runs out, `out` stays as it was.
+/// Appends the pool section: a line for each of the totals. Where memory runs out, `out` is
+/// unchanged.
 pub fn write_totals(alloc: Global, totals: &Totals, out: &mut Vec<u8>) -> Result<(), Memory>
     ensures ok { OnOk result (out.new.items ≡ out.old.items ++ totals_text totals.now) }
     ensures err { OnErr result (out.new.items ≡ out.old.items) }

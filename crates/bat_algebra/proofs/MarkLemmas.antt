@@ -43,7 +43,7 @@ oids_count from n small =
     let here : from ≡ from + 0 = omega arith in
     ap (λ k. oids_from k n) here ∙ oids_counted from 0 n (omega arith)
 
--- a base that is no oid gives Nil at each place
+-- a base that is no oid yields Nil at each place
 nils_from : (k n : ℕ) → replicate n Nil ≡ map (counted_from Nil) (range_with_len k n)
 nils_from k zero = refl
 nils_from k (suc n) = ap (λ l. Nil ∷ l) (nils_from (k + 1) n)

@@ -21,11 +21,11 @@ insert = insert_sorted by_head
 abbrev sort : Pairs → Pairs
 sort = sorted_by by_head
 
--- no pair of these stands before that one
+-- no pair of these is before that one
 abbrev NoneBefore : Cell × Cell → Pairs → Type 0
 NoneBefore x ys = AllByRecursion (λ y. by_head y x ≡ false) ys
 
--- it stands before all of these
+-- it is before all of these
 abbrev IsBefore : Cell × Cell → Pairs → Type 0
 IsBefore x ys = AllByRecursion (λ y. by_head x y ≡ true) ys
 
@@ -47,16 +47,16 @@ insert_first : (x : Cell × Cell) (ys : Pairs) → NoneBefore x ys → insert x 
 insert_first x [] all = refl
 insert_first x (y ∷ ys) all = ap (λ b. cond b (y ∷ insert x ys) (x ∷ y ∷ ys)) all.0
 
--- the first of the first list, before which none stands
+-- the first of the first list, before which there is none
 first_out : (x : Cell × Cell) (us ys : Pairs) → NoneBefore x us → NoneBefore x ys → sort ((x ∷ us) ++ ys) ≡ x ∷ sort (us ++ ys)
 first_out x us ys a b = insert_first x (sort (us ++ ys)) (none_sorted x (us ++ ys) (none_both x us ys a b))
 
--- the first of the second list, which stands before the whole first one
+-- the first of the second list, which is before the whole first one
 second_out : (y : Cell × Cell) (us ys : Pairs) → IsBefore y us → NoneBefore y ys → sort (us ++ y ∷ ys) ≡ y ∷ sort (us ++ ys)
 second_out y [] ys a b = insert_first y (sort ys) (none_sorted y ys b)
 second_out y (u ∷ us) ys a b = ap (insert u) (second_out y us ys a.1 b) ∙ ap (λ c. cond c (y ∷ insert u (sort (us ++ ys))) (u ∷ y ∷ sort (us ++ ys))) a.0
 
--- what stands before the first stands before all that ascends from there
+-- a pair before the first is before all that ascends from there
 before_all : (y x : Cell × Cell) (xs : Pairs) → by_head y x ≡ true → NoneBefore x xs → IsBefore y xs
 before_all y x [] h all = tt
 before_all y x (z ∷ zs) h all = (
@@ -133,12 +133,12 @@ all_out (p ∷ ps) = ap (λ qs. p ∷ qs) (all_out ps)
 
 -- ## Merges of merges
 
--- what is inserted in turn stands as if it were inserted in the other
+-- two insertions can be exchanged
 swapped : (x u : Cell × Cell) (ys : Pairs) → by_head u x ≡ true → insert u (insert x ys) ≡ insert x (insert u ys)
 swapped x u [] h = ap (λ b. cond b (x ∷ insert u []) (u ∷ x ∷ [])) (head_order.one_way u x h) ∙ sym (ap (λ b. cond b (u ∷ insert x []) (x ∷ u ∷ [])) h)
 swapped x u (z ∷ zs) h = by_first (swapped x u zs h) (by_head z x) (by_head z u) refl refl
   where
-    -- behind u stands x
+    -- x comes after u
     last : insert x (u ∷ z ∷ zs) ≡ u ∷ insert x (z ∷ zs)
     last = ap (λ b. cond b (u ∷ insert x (z ∷ zs)) (x ∷ u ∷ z ∷ zs)) h
 
@@ -217,7 +217,7 @@ sort_ascends (x ∷ xs) = inserted_ascends x (sort xs) (sort_ascends xs)
 pub sorted_ascends : (out xs : Pairs) → out ≡ sort xs → Ascends out
 sorted_ascends out xs is = subst Ascends (sym is) (sort_ascends xs)
 
--- heads that rise ascend, and stand in their order already
+-- heads that rise ascend, and are in their order already
 rising_sorted : (x : Cell × Cell) (xs : Pairs) → neighbours_from is_below x.0 (heads_of xs) ≡ true → (sort (x ∷ xs) ≡ x ∷ xs) × NoneBefore x xs
 rising_sorted x [] e = (refl, tt)
 rising_sorted x (y ∷ ys) e =

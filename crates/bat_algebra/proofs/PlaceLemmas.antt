@@ -25,7 +25,7 @@ places_push p n (y ∷ ys) x =
     places_push p (suc n) ys x ∙ ap (λ k. places_where p (suc n) ys ++ (if p x then k ∷ [] else [])) there in
     kept_push (p y) n (places_where p (suc n) (ys ++ x ∷ [])) (places_where p (suc n) ys) (if p x then (n + length (y ∷ ys)) ∷ [] else []) rest
 
--- a first element more, and places that stand one further
+-- one more first element, and places that are one further
 shift_one : {X : Type 0} (b : Bool) (d h : X) (hs : List X) (n : ℕ) (far near : List ℕ) → picked d (h ∷ hs) far ≡ picked d hs near → picked d (h ∷ hs) (if b then suc n ∷ far else far) ≡ picked d hs (if b then n ∷ near else near)
 shift_one true d h hs n far near same = ap (λ l. get_or hs n d ∷ l) same
 shift_one false d h hs n far near same = same
@@ -72,7 +72,7 @@ picked_tails p (h ∷ hs) [] same = refl
 picked_tails p (h ∷ hs) (t ∷ ts) same =
     tail_step (p t) h t ts (places_where p 1 ts) (filter (λ q. p q.1) (zip hs ts)) (shift p Nil t ts 0 ts ∙ picked_tails p hs ts (omega arith))
 
--- a place is written behind others
+-- a place is written after others
 pub place_step : {X : Type 0} (p : X → Bool) (xs : List X) (i : ℕ) (x : X) (old new : List ℕ) (kept : Bool) → new ≡ old ++ (if kept then i ∷ [] else []) → old ≡ places_where p 0 (take i xs) → kept ≡ p x → x ≡ get_or xs i x → i < length xs → new ≡ places_where p 0 (take (i + 1) xs)
 place_step p xs i x old new kept written before test is within =
     let long : i ≡ 0 + length (take i xs) = omega (arith, length-take-le i xs (omega arith)) in

@@ -8,11 +8,11 @@ use Rattle.cell_core.specs.Relations.{is_ordered, is_within}
 abbrev pub fits_day : ℤ → Bool
 fits_day n = int_le (negsuc (2 ^ 31 - 1)) n && int_le n (pos (2 ^ 31 - 1))
 
--- of the numbers of a kind, those behind a low bound are those from first on
+-- of the numbers of a kind, those above a low bound are those from first on
 abbrev pub IsFirst : {X : Type 0} → (X → Cell) → (X → Bool) → X → Cell → Bool → Type 0
 IsFirst {X} cell_of is_one first low li = (x : X) → is_one x ≡ true → is_ordered true (cell_of first) (cell_of x) ≡ (is_nil low || is_ordered li low (cell_of x))
 
--- and those before a high bound are those up to last
+-- and those below a high bound are those up to last
 abbrev pub IsLast : {X : Type 0} → (X → Cell) → (X → Bool) → X → Cell → Bool → Type 0
 IsLast {X} cell_of is_one last high hi = (x : X) → is_one x ≡ true → is_ordered true (cell_of x) (cell_of last) ≡ (is_nil high || is_ordered hi (cell_of x) high)
 

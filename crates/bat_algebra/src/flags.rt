@@ -11,7 +11,7 @@ use cell_core::{Cell, Memory};
 use chunk_core::Part;
 use std::alloc::Global;
 
-/// Flags over the span of oids, by which it is known what is among them.
+/// Flags over the span of oids, which say which numbers are among them.
 #[derive(Drop)]
 pub(crate) struct Flags {
     /// The least oid.
@@ -106,7 +106,6 @@ fn set_flag(cell: &Cell, base: u64, flags: &mut Vec<bool>) -> bool
     true
 }
 
-/// Whether a cell is flagged.
 #[inline]
 pub(crate) fn cell_flagged(cell: &Cell, base: u64, flags: &[bool]) -> bool
     ensures { result ≡ is_flagged base flags.now cell.now }
@@ -117,7 +116,6 @@ pub(crate) fn cell_flagged(cell: &Cell, base: u64, flags: &[bool]) -> bool
     }
 }
 
-/// Whether an oid is flagged.
 #[inline]
 fn oid_flagged(oid: u64, base: u64, flags: &[bool]) -> bool
     ensures { result ≡ is_flagged base flags.now (Oid oid) }

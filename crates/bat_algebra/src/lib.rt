@@ -1,9 +1,9 @@
-//! The operators of plans on one BAT or two, but for joins: which pairs are kept, how they are turned,
-//! and what stands beside their heads.
+//! The operators of plans on one BAT or two, but for joins: those that keep pairs, exchange head
+//! and tail, or put other cells beside heads.
 //!
-//! It stands on `cell_core`, whose definitions say what each operator gives, and on `bat_core`. Each
-//! call gives exactly the pairs of its definition, in order, and its counter rises by the stated work:
-//! the pairs that it reads and those of its result. Columns that stay as they are, are shared.
+//! It uses `cell_core`, whose definitions say what each operator returns, and `bat_core`. Each call
+//! returns exactly the pairs of its definition, in order, and its counter rises by the stated work:
+//! the pairs that it reads and those of its result. Columns that don't change are shared.
 #![tactic(auto)]
 
 mod flags;

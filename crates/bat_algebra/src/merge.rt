@@ -12,8 +12,9 @@ use cell_core::{Memory, Steps, compare};
 use std::alloc::Global;
 use std::sync::ledger::Ledger;
 
-/// All pairs of the parts in the order of their heads, which rise in each part. Where two parts have
-/// one head, the pair of the earlier part comes first. The counter rises by the pairs of the result.
+/// All pairs of the parts in the order of their heads, which rise in each part. Where two parts
+/// have one head, the pair of the earlier part comes first. The counter rises by the pairs of the
+/// result.
 ///
 /// It merges neighbours two by two, so each pair is moved as often as the parts can be halved.
 pub fn merge_by_heads<L: Ledger>(
@@ -96,7 +97,7 @@ fn is_second_next(a: &Bat, i: u64, b: &Bat, j: u64) -> bool
     j < b.len() && is_head_before(b, j, a, i)
 }
 
-/// Whether the head at a place stands before another.
+/// Whether the head at a place is before another.
 fn is_head_before(b: &Bat, j: u64, a: &Bat, i: u64) -> bool
     requires second { j < length b.now }
     requires first { i < length a.now }

@@ -1,4 +1,4 @@
-//! Numbers whose order is that of the cells that are kept as them.
+//! Numbers that represent cells of one kind, in the same order.
 ghost use Rattle.std.specs.Prelude.{◌≡◌, Bool, IfSome, true};
 ghost use Rattle.cell_core.specs.declared.cell.Cell.{Cell as CellSeen};
 ghost use Rattle.cell_core.specs.declared.cell.Cell.TheVariants.{Int, Day};
@@ -8,7 +8,7 @@ ghost use Rattle.bat_algebra.specs.Spans.{IsFirst, IsLast, IsSpan, fits_day};
 
 use cell_core::Cell;
 
-/// Numbers as which the cells of one kind are kept, in their order.
+/// A number that represents a cell of one kind; numbers have the order of their cells.
 pub(crate) trait Ordered: Copy {
     /// The cell of a number.
     ghost cell_of: { Self → CellSeen };
@@ -16,8 +16,9 @@ pub(crate) trait Ordered: Copy {
     /// Whether it is a number of the type.
     ghost is_one: { Self → Bool };
 
-    /// The first and the last of the numbers that lie between two bounds, of which Nil is none. None where a bound is a
-    /// cell of another kind, or where no number of the type lies behind it.
+    /// The first and the last of the numbers that lie between two bounds; a Nil bound doesn't
+    /// restrict. None where a bound is a cell of another kind, or where no number of the type lies
+    /// beyond it.
     fn span(low: &Cell, high: &Cell, li: bool, hi: bool) -> Option<(Self, Self)>
         ensures { IfSome result (λ span. IsSpan cell_of is_one span.0 span.1 low.now high.now li hi) };
 
@@ -61,7 +62,7 @@ impl Ordered for i32 {
     }
 }
 
-/// The first Int behind a bound.
+/// The first Int after a low bound, or the bound itself where it is included.
 fn first_int(low: &Cell, li: bool) -> Option<i64>
     ensures { IfSome result (λ first. IsFirst Int fits_int first low.now li) }
 {
@@ -73,7 +74,7 @@ fn first_int(low: &Cell, li: bool) -> Option<i64>
     }
 }
 
-/// The last Int before a bound.
+/// The last Int before a high bound, or the bound itself where it is included.
 fn last_int(high: &Cell, hi: bool) -> Option<i64>
     ensures { IfSome result (λ last. IsLast Int fits_int last high.now hi) }
 {
@@ -85,7 +86,7 @@ fn last_int(high: &Cell, hi: bool) -> Option<i64>
     }
 }
 
-/// The first day behind a bound.
+/// The first day after a low bound, or the bound itself where it is included.
 fn first_day(low: &Cell, li: bool) -> Option<i32>
     ensures { IfSome result (λ first. IsFirst Day fits_day first low.now li) }
 {
@@ -97,7 +98,7 @@ fn first_day(low: &Cell, li: bool) -> Option<i32>
     }
 }
 
-/// The last day before a bound.
+/// The last day before a high bound, or the bound itself where it is included.
 fn last_day(high: &Cell, hi: bool) -> Option<i32>
     ensures { IfSome result (λ last. IsLast Day fits_day last high.now hi) }
 {
@@ -109,7 +110,7 @@ fn last_day(high: &Cell, hi: bool) -> Option<i32>
     }
 }
 
-/// Whether a number is another, or below it.
+/// Whether a number is at most another.
 #[inline]
 fn is_at_most(a: i64, b: i64) -> bool
     ensures ints { result ≡ is_ordered true (Int a) (Int b) }

@@ -1,4 +1,4 @@
-//! BATs turned round, and heads beside themselves.
+//! BATs with head and tail exchanged, and heads beside themselves.
 ghost use Rattle.std.specs.Prelude.{◌≡◌, ◌+◌, length, IfOk, OnErr};
 ghost use Rattle.cell_core.specs.Relations.{reversed, mirrored};
 
@@ -7,7 +7,7 @@ use cell_core::{Memory, Steps};
 use std::alloc::Global;
 use std::sync::ledger::Ledger;
 
-/// Each pair turned round: its tail is the head. Both columns are shared.
+/// Each pair with head and tail exchanged. Both columns are shared.
 pub fn reverse<L: Ledger>(alloc: Global, b: &Bat, steps: &mut Steps<L>) -> Result<Bat, Memory>
     ensures value { IfOk result (λ out. out ≡ reversed b.now) }
     ensures work { IfOk result (λ out. steps.new ≡ steps.old + (length b.now + length out)) }

@@ -15,7 +15,7 @@ use Rattle.cell_core.specs.Calc.{over_two, all_or_none}
 use Rattle.bat_calc.specs.declared.function.Function.{Function}
 use Rattle.bat_calc.specs.Functions.{function_of, column, applied}
 
--- what stands behind a cell that is there
+-- the cells after a first one
 behind : (o : Option (List Cell)) (z : Cell) (ys : List Cell) → option_map (λ l. z ∷ l) o ≡ Some ys → (zs : List Cell) × (o ≡ Some zs) × (z ∷ zs ≡ ys)
 behind None z ys same = cc
 behind (Some zs) z ys same = (zs, refl, cc)

@@ -1,4 +1,4 @@
--- What each function gives of two cells.
+-- The value of each function of two cells.
 use Rattle.std.specs.Prelude.{ℕ, ◌≤◌, List, length, map, Option, Some, ◌+ℤ◌, ◌-ℤ◌, ◌*ℤ◌}
 use Rattle.std.specs.List.{range_with_len}
 use Rattle.std.specs.Ordering.{is_eq, is_ne, is_lt, is_le, is_gt, is_ge}
@@ -10,7 +10,7 @@ use Rattle.cell_core.specs.Calc.{arithmetic, comparison, conjunction, disjunctio
 use Rattle.bat_calc.specs.declared.function.Function.{Function}
 use Rattle.bat_calc.specs.declared.function.Function.TheVariants as function
 
--- a function of two cells, where None is an overflow; Not and IsNil take no notice of the second
+-- a function of two cells, where None is an overflow; Not and IsNil ignore the second
 abbrev pub function_of : Function → Cell → Cell → Option Cell
 function_of function.Plus = arithmetic (λ x y. x +ℤ y)
 function_of function.Minus = arithmetic (λ x y. x -ℤ y)
@@ -35,6 +35,6 @@ Reaches count (One cell) = Unit {0}
 abbrev pub column : ℕ → Value → List Cell
 column count v = map (λ k. cell_at k v) (range_with_len 0 count)
 
--- what a function gives of pairs of cells
+-- the values of a function of pairs of cells
 abbrev pub applied : Function → Pairs → Option (List Cell)
 applied function pairs = all_or_none (map (λ p. function_of function p.0 p.1) pairs)

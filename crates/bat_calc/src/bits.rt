@@ -112,7 +112,7 @@ pub(crate) fn add_opposites(
     }
 }
 
-/// Adds the opposites of bits, whatever stands beside them.
+/// Adds the opposites of bits, whatever is beside them.
 fn add_turned(
     alloc: Global,
     bits: &[bool],

@@ -21,7 +21,7 @@ use chunk_core::Part;
 use std::alloc::Global;
 use std::sync::ledger::Ledger;
 
-/// A function over two values. The counter stays where it was if there is no value.
+/// A function over two values. The counter stays as it was if there is no value.
 pub(crate) fn calculate<L: Ledger>(
     alloc: Global,
     function: Function,
@@ -100,7 +100,7 @@ fn cells_over(
     cells_of(alloc, function, &rows)
 }
 
-/// The first cells of a value: its tails, or the scalar again and again.
+/// The first cells of a value: its tails, or the scalar repeated.
 fn column_of(alloc: Global, obj: &Obj, count: u64) -> Result<Cells, Memory>
     requires { Reaches count (value_of obj.now) }
     ensures { IfOk result (λ cells. cells ≡ column count (value_of obj.now)) }
@@ -156,7 +156,7 @@ fn add_cells(
     }
 }
 
-/// Tails beside the first heads of a BAT, which are shared where none is left out.
+/// Tails beside the first heads of a BAT, which are shared where these are all.
 fn with_first_heads(alloc: Global, first: &Bat, tails: Cells) -> Result<Bat, Memory>
     requires { length tails ≤ length first.now }
     ensures { IfOk result (λ out. out ≡ zip (heads_of first.now) tails) }

@@ -1,5 +1,5 @@
-//! Functions of two numbers, over parts that hold numbers alone, and of two cells that lie in parts, each by
-//! a loop of its own.
+//! Functions of two numbers, over parts that hold numbers alone, and of two cells that lie in
+//! parts, each by a loop of its own.
 ghost use Rattle.std.specs.Prelude.{◌≡◌, ◌++◌, ◌<◌, length, map, slice_index_or, Some, None, OnOk};
 ghost use Rattle.std.specs.List.{zip};
 ghost use Rattle.cell_core.specs.declared.cell.Cell.TheVariants.{Int, Nil};
@@ -195,8 +195,8 @@ impl OfNumbers for AtLeast {
     }
 }
 
-/// Adds the cells of a function over a run, by its form for numbers where both parts hold numbers alone, and
-/// cell by cell where both hold cells.
+/// Adds the cells of a function over a run, by its form for numbers where both parts hold numbers
+/// alone, and cell by cell where both hold cells.
 pub(crate) fn add_numbers<F: OfNumbers>(
     alloc: Global,
     function: Function,
@@ -276,7 +276,6 @@ fn cell_at<F: OfNumbers>(left: &[Cell], right: &[Cell], at: usize) -> Option<Cel
     F::of_cells(lent_at(left, at), lent_at(right, at))
 }
 
-/// The cell at a place.
 #[inline]
 fn lent_at(cells: &[Cell], at: usize) -> &Cell
     requires { at < length cells.now }
@@ -285,7 +284,6 @@ fn lent_at(cells: &[Cell], at: usize) -> &Cell
     &cells[at]
 }
 
-/// The number at a place.
 #[inline]
 fn int_at(numbers: &[i64], at: usize) -> i64
     requires { at < length numbers.now }

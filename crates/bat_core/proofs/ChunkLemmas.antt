@@ -6,7 +6,7 @@ use Rattle.std.proofs.Math.Seq.{drop-append-add, take-add}
 use Rattle.std.proofs.Math.Nat.{div-add-mod}
 use Rattle.bat_core.specs.Chunks.{AreFull}
 
--- where the rest of a list begins with a piece, the list up to its end is what stands before and the piece
+-- where the rest of a list begins with a piece, the list up to its end is what comes before and the piece
 pub piece_more : {X : Type 0} (xs piece rest : List X) (from : ℕ) → drop from xs ≡ piece ++ rest → take (from + length piece) xs ≡ take from xs ++ piece
 piece_more xs piece rest from split =
     take-add from (length piece) xs ∙ ap (λ p. take from xs ++ p) (ap (λ r. take (length piece) r) split ∙ take_at piece rest (length piece) refl)
@@ -31,7 +31,7 @@ back_more front back xs from k same place =
     ap (λ l. drop from l) (sym same) ∙ ap (λ n. drop n (front ++ back)) place ∙ drop-append-add front back k ∙ sym (append-nil (drop k back)) in
     piece_more xs (drop k back) [] from split
 
--- and the first of the piece stands at its place
+-- and the first of the piece is at its place
 pub piece_first : {X : Type 0} (xs piece : List X) (from : ℕ) (d : X) → from < length xs → 0 < length piece → take (from + length piece) xs ≡ take from xs ++ piece → get_or piece 0 d ≡ get_or xs from d
 piece_first xs piece from d within some same =
     let long : length (take from xs) ≡ from = length-take-le from xs (omega arith) in
@@ -52,7 +52,7 @@ module _ {C X : Type 0} (items : C → List X) (n : ℕ) where
   full_at (c ∷ cs) zero d full within = full.0
   full_at (c ∷ cs) (suc q) d full within = full_at cs q d full.1 (omega arith)
 
-  -- what stands from place r of chunk q on
+  -- the elements from place r of chunk q on
   pub rest_at : (chunks : List C) (q r : ℕ) (d : C) → AreFull items n chunks → q < length chunks → r ≤ n → drop (n * q + r) (flat_map items chunks) ≡ drop r (items (get_or chunks q d)) ++ flat_map items (drop (suc q) chunks)
   rest_at [] q r d full within small = absurd (omega arith)
   rest_at (c ∷ cs) zero r d full within small =
@@ -98,7 +98,7 @@ module _ {C X : Type 0} (items : C → List X) (n : ℕ) where
     pub chunk_long : length chunk ≡ n
     chunk_long = ap length is ∙ full_at chunks (from / n) d full (chunk_within chunks xs from some full same within)
 
-    -- from its place on it is what stands there
+    -- the elements from its place on, by chunks
     chunk_split : drop from xs ≡ drop (from % n) chunk ++ flat_map items (drop (suc (from / n)) chunks)
     chunk_split =
         let place : n * (from / n) + from % n ≡ from = div-add-mod from n in

@@ -14,14 +14,13 @@ use std::alloc::Global;
 use std::marker::Model;
 
 /// A binary association table, which contracts see as its list of pairs (head, tail). It has fewer
-/// than 2^60 pairs, with fewer than 2^62 stated bytes; one that would grow past its limit answers
-/// `Memory`.
+/// than 2^60 pairs, with fewer than 2^62 stated bytes; growing past a limit fails with `Memory`.
 pub struct Bat {
     heads: Cells,
     tails: Cells,
 }
 
-// By a call of its own, so that proofs needn't go through its forms where one is let go.
+// By a call of its own, so that proofs needn't go through its forms where one is dropped.
 impl Drop for Bat {
     fn drop(self) {
         let Bat { heads: _, tails: _ } = self;
@@ -116,7 +115,7 @@ impl Bat {
         64 + self.tails().bytes() + heads
     }
 
-    /// Whether each head stands strictly before the next, which is kept and not tested.
+    /// Whether each head is strictly before the next, which is kept and not tested.
     pub fn heads_rise(&self) -> bool
         ensures { result ≡ rises (heads_of self.now) }
     {

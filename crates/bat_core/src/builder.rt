@@ -16,15 +16,15 @@ use std::alloc::Global;
 use std::marker::Model;
 use std::mem;
 
-/// A column that is being made, which contracts see as the list of its cells. What is kept of them is
-/// told a chunk at a time.
+/// A column that is being made, which contracts see as the list of its cells. The facts about them
+/// are updated a chunk at a time.
 pub struct CellsBuilder {
     pile: Pile,
     facts: Facts,
     loose: Chunk,
 }
 
-// By a call of its own, so that proofs needn't go through its forms where one is let go.
+// By a call of its own, so that proofs needn't go through its forms where one is dropped.
 impl Drop for CellsBuilder {
     fn drop(self) {
         let CellsBuilder {
@@ -60,7 +60,7 @@ impl CellsBuilder {
         }
     }
 
-    /// The beginning of a column with the cells of a pile, of which these facts are told.
+    /// The beginning of a column with the cells of a pile, about which these facts hold.
     pub(crate) fn behind(alloc: Global, pile: Pile, facts: Facts) -> CellsBuilder
         requires { AreToldOf facts pile }
         ensures { result ≡ pile }
@@ -84,7 +84,8 @@ impl CellsBuilder {
         self.loose.push(alloc, cell)
     }
 
-    /// Adds the cells of a part at the end, in order. On `Memory` some may be there.
+    /// Adds the cells of a part at the end, in order. On `Memory` the column keeps the cells that it had,
+    /// and the first of these may follow.
     pub fn push_part(&mut self, alloc: Global, part: Part<'_>) -> Result<(), Memory>
         ensures { OnOk result (self.new ≡ self.old ++ part_cells part.entry) }
     {
@@ -94,8 +95,8 @@ impl CellsBuilder {
         Ok(())
     }
 
-    /// Adds the cells of a part at these places, in the order of the places. On `Memory` some may be
-    /// there.
+    /// Adds the cells of a part at these places, in the order of the places. On `Memory` the column keeps
+    /// the cells that it had, and the first of these may follow.
     pub fn push_places(
         &mut self,
         alloc: Global,
@@ -157,7 +158,7 @@ pub struct BatBuilder {
     tails: CellsBuilder,
 }
 
-// By a call of its own, so that proofs needn't go through its forms where one is let go.
+// By a call of its own, so that proofs needn't go through its forms where one is dropped.
 impl Drop for BatBuilder {
     fn drop(self) {
         let BatBuilder { heads: _, tails: _ } = self;

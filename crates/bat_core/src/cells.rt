@@ -17,8 +17,8 @@ use std::alloc::Global;
 use std::marker::Model;
 use std::sync::Arc;
 
-/// The cells of a column, which contracts see as their list. A column that grows past its limit of
-/// 2^60 stated bytes answers `Memory`.
+/// The cells of a column, which contracts see as their list. Growing past the limit of 2^60 stated
+/// bytes fails with `Memory`.
 pub struct Cells {
     pile: Pile,
     piled: Facts,
@@ -26,7 +26,7 @@ pub struct Cells {
     facts: Facts,
 }
 
-// By a call of its own, so that proofs needn't go through its forms where one is let go.
+// By a call of its own, so that proofs needn't go through its forms where one is dropped.
 impl Drop for Cells {
     fn drop(self) {
         let Cells {
@@ -64,7 +64,7 @@ impl Cells {
         }
     }
 
-    /// The column of the cells of a pile and others behind it, of which these facts are told.
+    /// The column of the cells of a pile and others after it, about which these facts hold.
     pub(crate) fn from_parts(
         alloc: Global,
         pile: Pile,
@@ -187,7 +187,7 @@ impl Cells {
         self.facts.bytes
     }
 
-    /// Whether each cell stands strictly before the next.
+    /// Whether each cell is strictly before the next.
     pub fn rises(&self) -> bool
         ensures { result ≡ rises self.now }
     {
@@ -234,7 +234,7 @@ impl Cells {
         out.finish(alloc)
     }
 
-    /// A builder that goes on behind these cells. The full chunks are shared.
+    /// A builder that continues after these cells. The full chunks are shared.
     fn reopened(&self, alloc: Global) -> Result<CellsBuilder, Memory>
         ensures { IfOk result (λ builder. builder ≡ self.now) }
     {
@@ -271,7 +271,6 @@ fn last_len(last: &Option<Arc<Chunk>>) -> usize
     }
 }
 
-/// The same last chunk.
 fn share_last(last: &Option<Arc<Chunk>>) -> Result<Option<Arc<Chunk>>, Memory>
     ensures { IfOk result (λ copy. last_cells copy ≡ last_cells last.now) }
 {

@@ -7,13 +7,13 @@ use crate::shared::Shared;
 use cell_core::{Memory, Word};
 use std::alloc::Global;
 
-/// Where the columns of a database come from.
+/// A source of a database's columns.
 pub trait Columns {
     // The database whose columns these are.
     ghost database: { Self → Db };
 
-    /// The cells of a column, each beside the number of its row as an oid, from 0. None stands
-    /// for a table or a column that the database doesn't have.
+    /// The cells of a column, each beside the number of its row as an oid, from 0; None for a table
+    /// or a column that the database doesn't have.
     fn column(&self, alloc: Global, table: &Word, column: &Word) -> Result<Option<Shared>, Memory>
         ensures { IfOk result (λ found. found ≡ bound table.now column.now (database self.now)) };
 }

@@ -1,4 +1,4 @@
-//! The cells of columns that are made whole, and what is known of them.
+//! The cells of columns that are made in one step, and the facts about them.
 ghost use Rattle.std.specs.Prelude.{◌≡◌, ◌+◌, ◌*◌, ◌^◌, ◌<◌, length, IfOk, IfSome, replicate};
 ghost use Rattle.chunk_core.specs.Facts.{AreToldOf, rises, is_dense};
 ghost use Rattle.chunk_core.specs.Filled.{oids_from};

@@ -1,10 +1,10 @@
 //! Binary association tables (BATs): lists of pairs of cells, kept as two columns.
 //!
-//! It stands on `cell_core` for cells and on `chunk_core` for chunks of them. A column (`Cells`) is
-//! made by a builder and doesn't change from then on, so several columns share its chunks: a BAT that
-//! is reversed, mirrored or given other tails copies no cell. Contracts see a `Bat` as its list of
-//! pairs and a column as its list of cells, and nothing of the chunks. Its stated bytes and whether its
-//! heads rise are kept as it grows, and cost no pass.
+//! It uses `cell_core` for cells and `chunk_core` for chunks of them. A column (`Cells`) is made by
+//! a builder and doesn't change from then on, so several columns share its chunks: a BAT that is
+//! reversed, mirrored or given other tails copies no cell. Contracts see a `Bat` as its list of
+//! pairs and a column as its list of cells, and nothing of the chunks. A BAT's stated bytes and
+//! whether its heads rise are kept as it grows, and cost no pass.
 #![tactic(auto)]
 
 mod bat;

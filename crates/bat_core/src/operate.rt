@@ -11,8 +11,9 @@ use std::sync::ledger::Ledger;
 
 /// A machine that runs the operators of plans.
 pub trait Operate {
-    /// The value of an operator on arguments that fit it. None fit `Op::Bind`, whose value is a column
-    /// of a database. The counter rises by the stated work, and on `Overflow` by at most that.
+    /// The value of an operator on arguments that fit it. None fit `Op::Bind`, whose value is a
+    /// column of a database. The counter rises by the stated work, and on `Overflow` by at most
+    /// that.
     fn run<L: Ledger>(
         &self,
         alloc: Global,

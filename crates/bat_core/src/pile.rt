@@ -59,7 +59,7 @@ impl Pile {
         chunk.part(from % CHUNK)
     }
 
-    /// Adds a full chunk at the end. Where memory is wanting, the chunk comes back.
+    /// Adds a full chunk at the end. Where memory runs out, the chunk is returned.
     pub fn add(&mut self, alloc: Global, chunk: Chunk) -> Result<(), Chunk>
         requires { length (chunk_cells chunk) ≡ CHUNK }
         ensures ok { OnOk result (self.new ≡ self.old ++ chunk_cells chunk) }

@@ -1,4 +1,4 @@
-//! BATs that many values share, and the values that operators take and give.
+//! BATs that many values share, and the values that operators take and return.
 ghost use Rattle.std.specs.Prelude.{◌≡◌, ◌<◌, ◌^◌, IfOk};
 ghost use Rattle.cell_core.specs.Pairs.{pair_count};
 ghost use Rattle.bat_core.specs.Objects.{value_of};
@@ -9,7 +9,7 @@ use std::alloc::Global;
 use std::marker::Model;
 use std::sync::Arc;
 
-/// A BAT behind an `Arc`, which contracts see as the BAT's list of pairs.
+/// A BAT in an `Arc`, which contracts see as the BAT's list of pairs.
 #[derive(Drop)]
 pub struct Shared {
     bat: Arc<Bat>,
@@ -49,7 +49,7 @@ impl Shared {
     }
 }
 
-/// What an operator takes or gives.
+/// What an operator takes or returns.
 #[derive(Drop)]
 pub enum Obj {
     /// A binary association table.

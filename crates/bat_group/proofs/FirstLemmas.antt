@@ -24,7 +24,7 @@ place_from_low low (suc n) oid a b =
       | false ↦ λ e. let other : low ≡ oid → ⊥ = eqb-false low oid e in omega (arith, a, b, other, place_from_low (low + 1) n oid (omega (arith, a, other)) (omega (arith, b)))
     ] refl
 
--- the number of an oid among the first, or behind them, is itself
+-- the number of an oid among the first, or right after them, is itself
 pub oid_place : (count oid : ℕ) → oid ≤ count → position_or_len (is_oid oid) (oids_from 0 count) ≡ oid
 oid_place count oid h = omega (arith, place_from_low 0 count oid (omega arith) (omega (arith, h)))
 

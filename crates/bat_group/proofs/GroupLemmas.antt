@@ -19,7 +19,7 @@ pub zip_tails : (f : Cell → Cell) (b : Pairs) → zip (heads_of b) (map f (tai
 zip_tails f [] = refl
 zip_tails f (p ∷ b) = ap (λ rest. (p.0, f p.1) ∷ rest) (zip_tails f b)
 
--- only the first cells stand beside others
+-- only the first cells are beside others
 pub zip_take : (n : ℕ) (xs ys : List Cell) → length ys ≤ n → zip (take n xs) ys ≡ zip xs ys
 zip_take n [] [] short = ap (λ l. zip l []) (take_all n [] (omega arith))
 zip_take n [] (y ∷ ys) short = ap (λ l. zip l (y ∷ ys)) (take_all n [] (omega arith))

@@ -20,7 +20,7 @@ pub known_made : {X : Type 0} (f : X → Cell) → ((x : X) → is_nil (f x) ≡
 known_made f some [] = refl
 known_made f some (x ∷ xs) = ap (λ b. cond (not b) (f x ∷ known (map f xs)) (known (map f xs))) (some x) ∙ ap (λ l. f x ∷ l) (known_made f some xs)
 
--- one more of the cells behind others
+-- one more of the cells after others
 pub behind_more : (before cells : List Cell) (i : ℕ) → i < length cells → before ++ take (i + 1) cells ≡ (before ++ take i cells) ++ get_or cells i Nil ∷ []
 behind_more before cells i within = ap (λ l. before ++ l) (take_more cells i Nil within) ∙ sym (append_assoc before (take i cells) (get_or cells i Nil ∷ []))
 
@@ -42,7 +42,7 @@ pub summed_numbers : (before : List Cell) (numbers : List ℤ) → 0 < length nu
 summed_numbers before [] some = absurd (omega arith)
 summed_numbers before (n ∷ ns) some = summed_some before (Int n) (map Int ns) refl
 
--- ## The better of two cells stands for both, where `better a b` says that a takes the place of b
+-- ## The better of two cells represents both, where `better a b` says that a takes the place of b
 module _ (better : Cell → Cell → Bool) (chain : (a b c : Cell) → better a b ≡ true → better b c ≡ true → better a c ≡ true)
     (unchain : (a b c : Cell) → better a b ≡ false → better b c ≡ false → better a c ≡ false) where
   abbrev taken : Cell → Cell → Cell
@@ -73,7 +73,7 @@ module _ (better : Cell → Cell → Bool) (chain : (a b c : Cell) → better a 
         either true = xs
         either false = ps
 
-    -- the best of some cells stands for all of them
+    -- the best of some cells represents all of them
     pub best_next : (before cells : List Cell) (i : ℕ) (p x q : Cell) → i < length cells → is_nil p ≡ false → is_nil x ≡ false → x ≡ get_or cells i Nil → q ≡ cond (better x p) x p
         → A (before ++ p ∷ []) ≡ A (before ++ take i cells) → A (before ++ q ∷ []) ≡ A (before ++ take (i + 1) cells)
     best_next before cells i p x q within ps xs read is so_far =

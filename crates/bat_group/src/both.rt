@@ -5,7 +5,8 @@ ghost use Rattle.chunk_core.specs.Parts.{part_cells};
 use bat_core::Cells;
 use chunk_core::Part;
 
-/// The cells of two columns from a place on, as far as both lie together, and not past another place.
+/// The cells of two columns from a place on, as far as both lie together, and not past another
+/// place.
 pub(crate) fn run_of_both<'a>(
     cells: &'a Cells,
     groups: &'a Cells,

@@ -27,7 +27,7 @@ pub(crate) fn number_each(alloc: Global, cells: &Cells) -> Result<Cells, Memory>
     met.out.finish(alloc)
 }
 
-/// The cells of a part get their numbers.
+/// Gives the cells of a part their numbers.
 fn meet_part(alloc: Global, part: Part<'_>, met: &mut Numbered<Cell>) -> Result<(), Memory>
     requires { met.old.count + length (part_cells part) ≤ 2 ^ 60 }
     ensures few { OnOk result (met.new.count ≤ met.old.count + length (part_cells part.entry)) }
@@ -39,7 +39,7 @@ fn meet_part(alloc: Global, part: Part<'_>, met: &mut Numbered<Cell>) -> Result<
     Ok(())
 }
 
-/// The cell at a place of a part gets its number.
+/// Gives the cell at a place of a part its number.
 #[inline]
 fn meet_at(alloc: Global, part: Part<'_>, at: usize, met: &mut Numbered<Cell>) -> Result<(), Memory>
     requires within { at < length (part_cells part) }

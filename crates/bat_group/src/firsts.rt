@@ -14,8 +14,8 @@ use chunk_core::Part;
 use std::alloc::Global;
 use std::collections::HashMap;
 
-/// The cells met so far. A column of group numbers meets the oids 0, 1, 2 and so on, each of which is
-/// its own number: then nothing is looked up.
+/// The cells met so far. A column of group numbers meets the oids 0, 1, 2 and so on, each of which
+/// is its own number: then nothing is looked up.
 #[derive(Drop)]
 pub(crate) enum Firsts {
     /// The oids from 0 on, as many as were met.
@@ -25,8 +25,8 @@ pub(crate) enum Firsts {
 }
 
 impl Firsts {
-    /// The number of a cell: that of the same cell before, or else the next. After Memory nothing is
-    /// said of the cells met.
+    /// The number of a cell: that of the same cell before, or else the next. After Memory nothing
+    /// is known of the cells met.
     pub(crate) fn number(
         &mut self,
         alloc: Global,
@@ -44,7 +44,8 @@ impl Firsts {
         }
     }
 
-    /// Whether the cell at a place of a part is surely among those met. It costs next to nothing.
+    /// True only where the cell at a place of a part is among those met; false may also mean that
+    /// it isn't known. It costs next to nothing.
     #[inline(always)]
     pub(crate) fn has_met(&self, count: u64, part: Part<'_>, at: usize) -> bool
         requires { at < length (part_cells part) }
@@ -121,7 +122,6 @@ fn numbered_oids(alloc: Global, count: u64) -> Result<HashMap<Cell, u64>, Memory
     Ok(numbers)
 }
 
-/// The oid at a place.
 #[inline]
 pub(crate) fn oid_at(oids: &[u64], at: usize) -> u64
     requires { at < length oids.now }

@@ -21,7 +21,7 @@ use std::alloc::Global;
 
 /// The groups met so far, and the total of each in the order of their numbers.
 #[derive(Drop)]
-pub(crate) struct Totals {
+pub(crate) struct GroupTotals {
     /// The groups with their numbers.
     pub firsts: Firsts,
     /// How many groups there are.
@@ -52,14 +52,14 @@ fn total_pairs(
     cells: &Cells,
     groups: &Cells,
     both: u64,
-) -> Result<Totals, Memory>
+) -> Result<GroupTotals, Memory>
     requires cells { both ≤ length cells.now }
     requires groups { both ≤ length groups.now }
     requires few { both < 2 ^ 60 }
     ensures few { IfOk result (λ met. met.count ≤ both) }
     ensures totals { IfOk result (λ met. AreTotals aggregate met (take both cells.now) (take both groups.now)) }
 {
-    let mut met = Totals {
+    let mut met = GroupTotals {
         firsts: Firsts::Oids,
         count: 0,
         totals: Vec::new(alloc),
@@ -73,8 +73,8 @@ fn total_pairs(
     Ok(met)
 }
 
-impl Totals {
-    /// The groups of a part are met, with the cells beside them. Groups that are oids beside numbers
+impl GroupTotals {
+    /// Meets the groups of a part, with the cells beside them. Groups that are oids beside numbers
     /// have a loop of their own for each aggregate, without a test for each pair.
     fn add_pairs(
         &mut self,
@@ -96,7 +96,7 @@ impl Totals {
         }
     }
 
-    /// The groups with these oids are met, with the numbers beside them.
+    /// Meets the groups with these oids, with the numbers beside them.
     fn add_ints(
         &mut self,
         alloc: Global,
@@ -118,7 +118,7 @@ impl Totals {
         }
     }
 
-    /// The groups of a part are met, one after another, with the cells beside them.
+    /// Meets the groups of a part, one after another, with the cells beside them.
     #[inline(always)]
     fn add_each(
         &mut self,
@@ -138,7 +138,7 @@ impl Totals {
         Ok(())
     }
 
-    /// The group at a place is met, with the cell beside it.
+    /// Meets the group at a place, with the cell beside it.
     #[inline(always)]
     fn add_pair(
         &mut self,
@@ -155,14 +155,14 @@ impl Totals {
         ensures totals { OnOk result ((so_far met : List CellSeen) → length so_far ≡ length met → AreTotals aggregate self.old so_far met → AreTotals aggregate self.new (so_far ++ slice_index_or (part_cells cells.entry) at Nil ∷ []) (met ++ slice_index_or (part_cells groups.entry) at Nil ∷ [])) }
     {
         let number = self.meet(alloc, aggregate, groups, at)?;
-        // Never so, since each group that was met has its total.
+        // This never happens, since each group that was met has its total.
         if number >= self.totals.len() {
             return Err(Memory);
         }
         add_at(aggregate, cells, at, &mut self.totals[number])
     }
 
-    /// The groups from a place on are met, beside which there are no cells.
+    /// Meets the groups from a place on, beside which there are no cells.
     fn meet_from(
         &mut self,
         alloc: Global,
@@ -183,7 +183,7 @@ impl Totals {
         Ok(())
     }
 
-    /// The groups of a part are met, beside which there are no cells.
+    /// Meets the groups of a part, beside which there are no cells.
     fn meet_part(
         &mut self,
         alloc: Global,
@@ -200,7 +200,7 @@ impl Totals {
         Ok(())
     }
 
-    /// The group at a place is met, and what is its number.
+    /// Meets the group at a place, and returns its number.
     #[inline(always)]
     fn meet(
         &mut self,
@@ -221,7 +221,7 @@ impl Totals {
     }
 }
 
-/// The total of no cells is added where the number is the next.
+/// Adds the total of no cells where the number is the next.
 #[inline]
 fn begin_total(aggregate: Aggregate, number: u64, totals: &mut Vec<Cell>) -> Result<(), Memory>
     ensures { OnOk result (totals.new.items ≡ (if number == length totals.old.items then totals.old.items ++ aggregate_of aggregate [] ∷ [] else totals.old.items)) }

@@ -16,8 +16,8 @@ use cell_core::{Cell, Memory, Steps};
 use std::alloc::Global;
 use std::sync::ledger::Ledger;
 
-/// Each head beside the number of its tail, an oid. The counter rises by the pairs of `b` and of the
-/// result.
+/// Each head beside the number of its tail, an oid. The counter rises by the pairs of `b` and of
+/// the result.
 pub fn group_new<L: Ledger>(alloc: Global, b: &Bat, steps: &mut Steps<L>) -> Result<Bat, Memory>
     ensures value { IfOk result (λ out. out ≡ grouped b.now) }
     ensures work { IfOk result (λ out. steps.new ≡ steps.old + (length b.now + length out)) }
@@ -60,8 +60,8 @@ pub fn group_derive<L: Ledger>(
     Ok(out)
 }
 
-/// The numbers of the pairs of cells that stand side by side: by keys where the left ones are all oids and
-/// the right ones all ints, all days, or all kept as cells.
+/// The numbers of the pairs of cells that are side by side: by keys where the left ones are all
+/// oids and the right ones all ints, all days, or all kept as cells.
 fn number_pairs(alloc: Global, left: &Cells, right: &Cells) -> Result<Cells, Memory>
     ensures { IfOk result (λ out. out ≡ map (λ p. Cell.Oid (group_number same_pair (zip left.now right.now) p)) (zip left.now right.now)) }
 {
@@ -77,7 +77,7 @@ fn number_pairs(alloc: Global, left: &Cells, right: &Cells) -> Result<Cells, Mem
     }
 }
 
-/// The numbers of the pairs of cells that stand side by side, whatever they are.
+/// The numbers of the pairs of cells that are side by side, whatever their kinds.
 fn number_each_pair(alloc: Global, left: &Cells, right: &Cells) -> Result<Cells, Memory>
     ensures { IfOk result (λ out. out ≡ map (λ p. Cell.Oid (group_number same_pair (zip left.now right.now) p)) (zip left.now right.now)) }
 {

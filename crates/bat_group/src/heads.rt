@@ -32,7 +32,7 @@ pub(crate) fn first_heads(alloc: Global, g: &Bat) -> Result<Bat, Memory>
     met.out.finish(alloc)
 }
 
-/// All groups are met.
+/// Meets all groups.
 fn all_heads(alloc: Global, g: &Bat) -> Result<Heads, Memory>
     ensures { IfOk result (λ met. AreHeads met g.now) }
 {
@@ -51,7 +51,7 @@ fn all_heads(alloc: Global, g: &Bat) -> Result<Heads, Memory>
 }
 
 impl Heads {
-    /// The groups of a part are met. Those that are oids have a loop of their own, without a test of
+    /// Meets the groups of a part. Those that are oids have a loop of their own, without a test of
     /// their form for each.
     fn meet_part(&mut self, alloc: Global, heads: Part<'_>, tails: Part<'_>) -> Result<(), Memory>
         requires even { length (part_cells tails) ≡ length (part_cells heads) }
@@ -65,7 +65,7 @@ impl Heads {
         }
     }
 
-    /// The groups of a part are met, one after another.
+    /// Meets the groups of a part, one after another.
     #[inline(always)]
     fn meet_each(&mut self, alloc: Global, heads: Part<'_>, tails: Part<'_>) -> Result<(), Memory>
         requires even { length (part_cells tails) ≡ length (part_cells heads) }
@@ -79,7 +79,7 @@ impl Heads {
         Ok(())
     }
 
-    /// The group at a place is met.
+    /// Meets the group at a place.
     #[inline(always)]
     fn meet(
         &mut self,
@@ -100,7 +100,7 @@ impl Heads {
         self.meet_other(alloc, heads, tails, at)
     }
 
-    /// The group at a place is met. If it is a new one, the head there is its first.
+    /// Meets the group at a place. If it is a new one, the head there is its first.
     #[inline(never)]
     fn meet_other(
         &mut self,

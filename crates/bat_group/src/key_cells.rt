@@ -34,7 +34,7 @@ pub(crate) fn number_keys<'a, K: PartKey<'a>>(
     Ok(Some(out))
 }
 
-/// The cells of a part get their numbers; false where one has no key of this kind.
+/// Gives the cells of a part their numbers; false where one has no key of this kind.
 fn meet_part<'a, K: PartKey<'a>>(
     alloc: Global,
     part: Part<'a>,

@@ -1,4 +1,5 @@
-//! Pairs of an oid and a cell that are numbered by their first occurrence, with the oid and the cell's key.
+//! Pairs of an oid and a cell that are numbered by their first occurrence, with the oid and the
+//! cell's key.
 ghost use Rattle.std.specs.Prelude.{◌≡◌, ◌+◌, ◌++◌, ◌≤◌, ◌^◌, length, map, IfOk, IfSome, OnOk, IsTrue};
 ghost use Rattle.std.specs.List.{zip};
 ghost use Rattle.cell_core.specs.declared.cell.Cell.TheVariants.{Oid};
@@ -16,8 +17,8 @@ use cell_core::Memory;
 use chunk_core::Part;
 use std::alloc::Global;
 
-/// The numbers of the pairs of cells that stand side by side; None where not all of the left ones are kept
-/// as oids, or one of the right ones has no key of this kind.
+/// The numbers of the pairs of cells that are side by side; None where not all of the left ones are
+/// kept as oids, or one of the right ones has no key of this kind.
 pub(crate) fn number_key_pairs<'a, K: PartKey<'a>>(
     alloc: Global,
     left: &'a Cells,
@@ -42,7 +43,7 @@ pub(crate) fn number_key_pairs<'a, K: PartKey<'a>>(
     Ok(Some(out))
 }
 
-/// The pairs of a part get their numbers; false where one of the cells has no key of this kind.
+/// Gives the pairs of a part their numbers; false where one of the cells has no key of this kind.
 fn meet_part<'a, K: PartKey<'a>>(
     alloc: Global,
     oids: &[u64],

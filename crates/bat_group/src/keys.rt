@@ -1,4 +1,5 @@
-//! Keys by which the cells of a part are grouped: numbers as they are kept, and cells where they lie.
+//! Keys by which the cells of a part are grouped: numbers as they are kept, and cells where they
+//! lie.
 ghost use Rattle.std.specs.Prelude.{◌≡◌, ◌<◌, length, map, slice_index_or, IfSome, refl};
 ghost use Rattle.cell_core.specs.declared.cell.Cell.{Cell as CellSeen};
 ghost use Rattle.cell_core.specs.declared.cell.Cell.TheVariants.{Int, Day, Nil};
@@ -10,7 +11,7 @@ use cell_core::Cell;
 use chunk_core::Part;
 use std::hash::Hash;
 
-/// What stands for a cell where cells are grouped.
+/// A value that represents a cell where cells are grouped.
 pub(crate) trait CellKey: Eq + Hash + Copy + Drop {
     /// The cell of a key.
     ghost cell_of: { Self → CellSeen };
@@ -84,7 +85,6 @@ fn day_at(numbers: &[i32], at: usize) -> i32
     numbers[at]
 }
 
-/// The cell at a place.
 #[inline]
 fn lent_at(cells: &[Cell], at: usize) -> &Cell
     requires { at < length cells.now }

@@ -1,11 +1,12 @@
 //! Groups of equal cells, and aggregates over them.
 //!
-//! It stands on `cell_core` for cells and for the definition of each operator, on `bat_core` for BATs,
-//! and on `cell_calc` for aggregates that take one cell after another. Each of its operators gives its
-//! definition exactly, in one pass over the parts of its columns with a hash of what was seen, and with
-//! its stated work. Parts of numbers are taken as numbers: an aggregate by a loop over them, groups of ints
-//! and of days by keys of a number or two, and groups that are oids from 0 on by no hash at all. A group has a number by its first
-//! occurrence, and Nil is the same as Nil there.
+//! It uses `cell_core` for cells and for the definition of each operator, `bat_core` for BATs, and
+//! `cell_calc` for aggregates that take one cell after another. Each of its operators computes its
+//! definition exactly, in one pass over the parts of its columns with a hash table of what was
+//! seen, and with its stated work. Parts of numbers are taken as numbers: an aggregate by a loop
+//! over them, groups of ints and of days by keys of a number or two, and groups that are oids from
+//! 0 on by no hash at all. A group has a number by its first occurrence, and Nil is the same as Nil
+//! there.
 #![tactic(auto)]
 
 mod both;

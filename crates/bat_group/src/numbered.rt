@@ -11,7 +11,7 @@ use std::alloc::Global;
 use std::collections::HashMap;
 use std::hash::Hash;
 
-/// The keys met so far, and what each of them got.
+/// The keys met so far, and the number that each of them got.
 #[derive(Drop)]
 pub(crate) struct Numbered<K: Eq + Hash + Drop> {
     /// Each key that was met with its number.
@@ -35,7 +35,7 @@ impl<K: Eq + Hash + Drop> Numbered<K> {
         }
     }
 
-    /// A key gets its number.
+    /// Gives a key its number.
     #[inline(always)]
     pub(crate) fn meet(&mut self, alloc: Global, key: K) -> Result<(), Memory>
         requires { self.old.count < 2 ^ 60 }
@@ -48,8 +48,8 @@ impl<K: Eq + Hash + Drop> Numbered<K> {
 }
 
 impl Numbered<Cell> {
-    /// A cell gets its number. It is looked up where it lies, and shared only where it is the first of
-    /// its number.
+    /// Gives a cell its number. It is looked up where it lies, and shared only where it is the
+    /// first of its number.
     #[inline]
     pub(crate) fn meet_cell(&mut self, alloc: Global, cell: &Cell) -> Result<(), Memory>
         requires { self.old.count < 2 ^ 60 }

@@ -12,7 +12,7 @@ use cell_calc::Aggregate;
 use cell_core::{Cell, Memory};
 use chunk_core::Part;
 
-/// The cells of a part are taken into a total.
+/// Takes the cells of a part into a total.
 pub(crate) fn add_part(aggregate: Aggregate, part: Part<'_>, total: &mut Cell) -> Result<(), Memory>
     ensures { OnOk result ((before : List CellSeen) → total.old ≡ aggregate_of aggregate before → total.new ≡ aggregate_of aggregate (before ++ part_cells part.entry)) }
 {
@@ -25,7 +25,7 @@ pub(crate) fn add_part(aggregate: Aggregate, part: Part<'_>, total: &mut Cell) -
     }
 }
 
-/// The cells of a part are taken into a total, one after another.
+/// Takes the cells of a part into a total, one after another.
 fn add_each(aggregate: Aggregate, part: Part<'_>, total: &mut Cell) -> Result<(), Memory>
     ensures { OnOk result ((before : List CellSeen) → total.old ≡ aggregate_of aggregate before → total.new ≡ aggregate_of aggregate (before ++ part_cells part.entry)) }
 {
@@ -35,7 +35,7 @@ fn add_each(aggregate: Aggregate, part: Part<'_>, total: &mut Cell) -> Result<()
     Ok(())
 }
 
-/// The cell at a place is taken into a total.
+/// Takes the cell at a place into a total.
 #[inline(always)]
 pub(crate) fn add_at(
     aggregate: Aggregate,
@@ -52,7 +52,7 @@ pub(crate) fn add_at(
     }
 }
 
-/// The cell at a place is taken into a total, whatever it is.
+/// Takes the cell at a place into a total, whatever it is.
 fn add_held(aggregate: Aggregate, part: Part<'_>, at: usize, total: &mut Cell) -> Result<(), Memory>
     requires { at < length (part_cells part) }
     ensures { OnOk result ((before : List CellSeen) → total.old ≡ aggregate_of aggregate before → total.new ≡ aggregate_of aggregate (before ++ slice_index_or (part_cells part.entry) at Nil ∷ [])) }
@@ -61,7 +61,7 @@ fn add_held(aggregate: Aggregate, part: Part<'_>, at: usize, total: &mut Cell) -
     aggregate.add(total, held.cell())
 }
 
-/// A number is taken into a total.
+/// Takes a number into a total.
 #[inline(always)]
 fn add_int(aggregate: Aggregate, number: i64, total: &mut Cell) -> Result<(), Memory>
     ensures { OnOk result ((before : List CellSeen) → total.old ≡ aggregate_of aggregate before → total.new ≡ aggregate_of aggregate (before ++ Int number ∷ [])) }
@@ -74,7 +74,6 @@ fn add_int(aggregate: Aggregate, number: i64, total: &mut Cell) -> Result<(), Me
     }
 }
 
-/// A number is counted.
 #[inline(always)]
 fn count_int(number: i64, total: &mut Cell) -> Result<(), Memory>
     ensures { OnOk result ((before : List CellSeen) → total.old ≡ counted before → total.new ≡ counted (before ++ Int number ∷ [])) }
@@ -91,7 +90,6 @@ fn count_int(number: i64, total: &mut Cell) -> Result<(), Memory>
     }
 }
 
-/// A number is added to a sum.
 #[inline(always)]
 fn sum_int(number: i64, total: &mut Cell) -> Result<(), Memory>
     ensures { OnOk result ((before : List CellSeen) → total.old ≡ summed before → total.new ≡ summed (before ++ Int number ∷ [])) }
@@ -133,7 +131,7 @@ fn raise_to(number: i64, total: &mut Cell) -> Result<(), Memory>
     }
 }
 
-/// The cells of a part that aren't Nil are added to a count.
+/// Adds the cells of a part that aren't Nil to a count.
 fn count_part(part: Part<'_>, total: &mut Cell) -> Result<(), Memory>
     ensures { OnOk result ((before : List CellSeen) → total.old ≡ counted before → total.new ≡ counted (before ++ part_cells part.entry)) }
 {
@@ -174,7 +172,6 @@ fn known_cells(cells: &[Cell]) -> usize
     count
 }
 
-/// The numbers are added to a sum.
 fn sum_ints(numbers: &[i64], total: &mut Cell) -> Result<(), Memory>
     ensures { OnOk result ((before : List CellSeen) → total.old ≡ summed before → total.new ≡ summed (before ++ map Int numbers.now)) }
 {
@@ -229,7 +226,7 @@ fn sum_with(sum: i128, more: i128) -> Result<i128, Memory>
     }
 }
 
-/// The least of the numbers is taken into the least so far.
+/// Takes the least of the numbers into the least so far.
 fn take_least(numbers: &[i64], total: &mut Cell) -> Result<(), Memory>
     ensures { OnOk result ((before : List CellSeen) → total.old ≡ least before → total.new ≡ least (before ++ map Int numbers.now)) }
 {
@@ -240,7 +237,7 @@ fn take_least(numbers: &[i64], total: &mut Cell) -> Result<(), Memory>
     Aggregate::Min.add(total, &Cell::Int(best))
 }
 
-/// The least of the numbers, which is as good as all of them.
+/// The least of the numbers, which represents all of them in a least.
 fn least_of(numbers: &[i64]) -> i64
     requires { 0 < length numbers.now }
     ensures { (before : List CellSeen) → least (before ++ Int result ∷ []) ≡ least (before ++ map Int numbers.now) }
@@ -252,7 +249,7 @@ fn least_of(numbers: &[i64]) -> i64
     best
 }
 
-/// The greatest of the numbers is taken into the greatest so far.
+/// Takes the greatest of the numbers into the greatest so far.
 fn take_greatest(numbers: &[i64], total: &mut Cell) -> Result<(), Memory>
     ensures { OnOk result ((before : List CellSeen) → total.old ≡ greatest before → total.new ≡ greatest (before ++ map Int numbers.now)) }
 {
@@ -263,7 +260,7 @@ fn take_greatest(numbers: &[i64], total: &mut Cell) -> Result<(), Memory>
     Aggregate::Max.add(total, &Cell::Int(best))
 }
 
-/// The greatest of the numbers, which is as good as all of them.
+/// The greatest of the numbers, which represents all of them in a greatest.
 fn greatest_of(numbers: &[i64]) -> i64
     requires { 0 < length numbers.now }
     ensures { (before : List CellSeen) → greatest (before ++ Int result ∷ []) ≡ greatest (before ++ map Int numbers.now) }
@@ -275,7 +272,6 @@ fn greatest_of(numbers: &[i64]) -> i64
     best
 }
 
-/// The number at a place.
 #[inline]
 pub(crate) fn number_at(numbers: &[i64], at: usize) -> i64
     requires { at < length numbers.now }

@@ -11,10 +11,9 @@ use cell_core::{Cell, Memory, Steps};
 use std::alloc::Global;
 use std::sync::ledger::Ledger;
 
-/// For each distinct tail of `g`, by its first occurrence: an oid from 0, and how many of the
-/// tails of `b` beside it aren't Nil, an Int. Tails stand beside each other by position, and
-/// those past the shorter BAT add nothing. The counter rises by the pairs of both and of the
-/// result.
+/// For each distinct tail of `g`, by its first occurrence: an oid from 0, and how many of the tails
+/// of `b` beside it aren't Nil, an Int. Tails are beside each other by position, and those past the
+/// shorter BAT add nothing. The counter rises by the pairs of both and of the result.
 pub fn subcount<L: Ledger>(
     alloc: Global,
     b: &Bat,
@@ -28,10 +27,10 @@ pub fn subcount<L: Ledger>(
     subaggregate(alloc, Aggregate::Count, b, g, steps)
 }
 
-/// For each distinct tail of `g`, by its first occurrence: an oid from 0, and the sum of the
-/// tails of `b` beside it that aren't Nil, a Huge or Nil. Tails stand beside each other by
-/// position, and those past the shorter BAT add nothing. Memory is also the answer where a sum
-/// leaves 128 bits. The counter rises by the pairs of both and of the result.
+/// For each distinct tail of `g`, by its first occurrence: an oid from 0, and the sum of the tails
+/// of `b` beside it that aren't Nil, a Huge or Nil. Tails are beside each other by position, and
+/// those past the shorter BAT add nothing. It also fails with `Memory` where a sum leaves 128 bits.
+/// The counter rises by the pairs of both and of the result.
 pub fn subsum<L: Ledger>(
     alloc: Global,
     b: &Bat,
@@ -46,7 +45,7 @@ pub fn subsum<L: Ledger>(
 }
 
 /// For each distinct tail of `g`, by its first occurrence: an oid from 0, and the least of the
-/// tails of `b` beside it that aren't Nil, or Nil. Tails stand beside each other by position, and
+/// tails of `b` beside it that aren't Nil, or Nil. Tails are beside each other by position, and
 /// those past the shorter BAT add nothing. The counter rises by the pairs of both and of the
 /// result.
 pub fn submin<L: Ledger>(
@@ -63,7 +62,7 @@ pub fn submin<L: Ledger>(
 }
 
 /// For each distinct tail of `g`, by its first occurrence: an oid from 0, and the greatest of the
-/// tails of `b` beside it that aren't Nil, or Nil. Tails stand beside each other by position, and
+/// tails of `b` beside it that aren't Nil, or Nil. Tails are beside each other by position, and
 /// those past the shorter BAT add nothing. The counter rises by the pairs of both and of the
 /// result.
 pub fn submax<L: Ledger>(

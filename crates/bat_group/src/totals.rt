@@ -22,8 +22,8 @@ pub fn count<L: Ledger>(_alloc: Global, b: &Bat, steps: &mut Steps<L>) -> Result
     Ok(cell)
 }
 
-/// The sum of the tails that aren't Nil, a Huge; Nil is the sum of none. Memory is also the answer
-/// where the sum leaves 128 bits. The counter rises by the pairs of `b`.
+/// The sum of the tails that aren't Nil, a Huge; Nil is the sum of none. It also fails with
+/// `Memory` where the sum leaves 128 bits. The counter rises by the pairs of `b`.
 pub fn sum<L: Ledger>(_alloc: Global, b: &Bat, steps: &mut Steps<L>) -> Result<Cell, Memory>
     ensures value { IfOk result (λ cell. cell ≡ summed (tails_of b.now)) }
     ensures work { OnOk result (steps.new ≡ steps.old + length b.now) }

@@ -1,14 +1,12 @@
 //! The arguments of operators by their forms.
 ghost use Rattle.std.specs.Prelude.{◌≡◌, [], ◌∷◌, IsTrue};
 ghost use Rattle.cell_core.specs.declared.operator.Value.TheVariants.{Bat as BatValue, One as OneValue};
-ghost use Rattle.cell_core.specs.Pairs.{is_true as is_true_cell};
 ghost use Rattle.bat_core.specs.Objects.{value_of, values_of};
 ghost use Rattle.bat_kernel.specs.Shapes.{is_bat, is_two_bats, is_bat_and_cell, is_range, is_two, is_one};
 
 use bat_core::{Bat, Obj};
 use cell_core::Cell;
 
-/// One BAT.
 pub(crate) fn one_bat(args: &[Obj]) -> &Bat
     requires { IsTrue (is_bat (values_of args.now)) }
     ensures { values_of args.now ≡ BatValue result.now ∷ [] }
@@ -19,7 +17,6 @@ pub(crate) fn one_bat(args: &[Obj]) -> &Bat
     }
 }
 
-/// Two BATs.
 pub(crate) fn two_bats(args: &[Obj]) -> (&Bat, &Bat)
     requires { IsTrue (is_two_bats (values_of args.now)) }
     ensures { values_of args.now ≡ BatValue result.0.now ∷ BatValue result.1.now ∷ [] }
@@ -30,7 +27,6 @@ pub(crate) fn two_bats(args: &[Obj]) -> (&Bat, &Bat)
     }
 }
 
-/// Two values.
 pub(crate) fn two_values(args: &[Obj]) -> (&Obj, &Obj)
     requires { IsTrue (is_two (values_of args.now)) }
     ensures { values_of args.now ≡ value_of result.0.now ∷ value_of result.1.now ∷ [] }
@@ -41,7 +37,6 @@ pub(crate) fn two_values(args: &[Obj]) -> (&Obj, &Obj)
     }
 }
 
-/// One value.
 pub(crate) fn one_value(args: &[Obj]) -> &Obj
     requires { IsTrue (is_one (values_of args.now)) }
     ensures { values_of args.now ≡ value_of result.now ∷ [] }
@@ -52,7 +47,6 @@ pub(crate) fn one_value(args: &[Obj]) -> &Obj
     }
 }
 
-/// A BAT and a scalar.
 pub(crate) fn bat_and_cell(args: &[Obj]) -> (&Bat, &Cell)
     requires { IsTrue (is_bat_and_cell (values_of args.now)) }
     ensures { values_of args.now ≡ BatValue result.0.now ∷ OneValue result.1.now ∷ [] }
@@ -78,11 +72,4 @@ pub(crate) fn range(args: &[Obj]) -> (&Bat, &Cell, &Cell, &Cell, &Cell)
         ] => { (b.bat(), low, high, li, hi) }
         _ => unreachable!(),
     }
-}
-
-/// Whether a cell is true, and neither false nor Nil.
-pub(crate) fn is_true(cell: &Cell) -> bool
-    ensures { result ≡ is_true_cell cell.now }
-{
-    matches!(cell, Cell::Bit(true))
 }

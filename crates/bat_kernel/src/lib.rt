@@ -1,8 +1,8 @@
 //! The machine that runs the operators of plans.
 //!
-//! It stands on the crates that compute the operators: `bat_algebra`, `bat_calc`, `bat_group` and
-//! `bat_join`. It promises what `bat_core::Operate` asks: the value of each operator on arguments that
-//! fit it, with exactly its stated work.
+//! It uses the crates that compute the operators: `bat_algebra`, `bat_calc`, `bat_group` and
+//! `bat_join`. It fulfils the contract of `bat_core::Operate`: the value of each operator on
+//! arguments that fit it, with exactly its stated work.
 #![tactic(auto)]
 
 mod arguments;

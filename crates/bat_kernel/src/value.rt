@@ -8,9 +8,9 @@ ghost use Rattle.cell_core.specs.Forms.{form_of};
 ghost use Rattle.cell_core.specs.Kinds.{Fits};
 ghost use Rattle.bat_core.specs.Objects.{value_of, values_of};
 
-use crate::arguments::{bat_and_cell, is_true, one_bat, one_value, range, two_bats, two_values};
+use crate::arguments::{bat_and_cell, one_bat, one_value, range, two_bats, two_values};
 use bat_algebra::{cross, kdifference, kunion, mark_t, mirror, project, reverse, select, semijoin};
-use bat_calc::{bit_and, bit_not, bit_or, eq, ge, gt, is_nil, le, lt, minus, ne, plus, times};
+use bat_calc::{over_one, over_two};
 use bat_core::{Bat, Obj, Shared};
 use bat_group::{
     count, group_derive, group_heads, group_new, max, min, subcount, submax, submin, subsum, sum,
@@ -56,7 +56,7 @@ fn of_range<L: Ledger>(alloc: Global, args: &[Obj], steps: &mut Steps<L>) -> Res
     ensures work { OnOk result (steps.new ≡ steps.old + work_of op.Select (values_of args.now)) }
 {
     let (b, low, high, li, hi) = range(args);
-    let out = select(alloc, b, low, high, is_true(li), is_true(hi), steps)?;
+    let out = select(alloc, b, low, high, li.is_true(), hi.is_true(), steps)?;
     obj_of(alloc, out)
 }
 
@@ -209,56 +209,6 @@ fn bat_of_two<L: Ledger>(
         Op::Subsum => subsum(alloc, l, r, steps),
         Op::Submin => submin(alloc, l, r, steps),
         Op::Submax => submax(alloc, l, r, steps),
-        _ => unreachable!(),
-    }
-}
-
-/// What a function of two cells gives.
-fn over_two<L: Ledger>(
-    alloc: Global,
-    op: Op,
-    x: &Obj,
-    y: &Obj,
-    steps: &mut Steps<L>,
-) -> Result<Obj, RunError>
-    requires { form_of op ≡ form.TwoCells }
-    ensures value { IfOk result (λ out. operate op (value_of x.now ∷ value_of y.now ∷ []) ≡ Some (value_of out)) }
-    ensures overflow { result ≡ Err RunError.Overflow → operate op (value_of x.now ∷ value_of y.now ∷ []) ≡ None }
-    ensures work { OnOk result (steps.new ≡ steps.old + work_of op (value_of x.now ∷ value_of y.now ∷ [])) }
-    ensures uncounted { result ≡ Err RunError.Overflow → steps.new ≡ steps.old }
-{
-    match op {
-        Op::Plus => plus(alloc, x, y, steps),
-        Op::Minus => minus(alloc, x, y, steps),
-        Op::Times => times(alloc, x, y, steps),
-        Op::Eq => eq(alloc, x, y, steps),
-        Op::Ne => ne(alloc, x, y, steps),
-        Op::Lt => lt(alloc, x, y, steps),
-        Op::Le => le(alloc, x, y, steps),
-        Op::Gt => gt(alloc, x, y, steps),
-        Op::Ge => ge(alloc, x, y, steps),
-        Op::And => bit_and(alloc, x, y, steps),
-        Op::Or => bit_or(alloc, x, y, steps),
-        _ => unreachable!(),
-    }
-}
-
-/// What a function of one cell gives.
-fn over_one<L: Ledger>(
-    alloc: Global,
-    op: Op,
-    x: &Obj,
-    steps: &mut Steps<L>,
-) -> Result<Obj, RunError>
-    requires { form_of op ≡ form.OneCell }
-    ensures value { IfOk result (λ out. operate op (value_of x.now ∷ []) ≡ Some (value_of out)) }
-    ensures overflow { result ≡ Err RunError.Overflow → operate op (value_of x.now ∷ []) ≡ None }
-    ensures work { OnOk result (steps.new ≡ steps.old + work_of op (value_of x.now ∷ [])) }
-    ensures uncounted { result ≡ Err RunError.Overflow → steps.new ≡ steps.old }
-{
-    match op {
-        Op::Not => bit_not(alloc, x, steps),
-        Op::IsNil => is_nil(alloc, x, steps),
         _ => unreachable!(),
     }
 }

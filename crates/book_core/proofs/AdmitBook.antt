@@ -23,7 +23,7 @@ use Rattle.book_core.proofs.AdmitLemmas.{may_offer, offer_fits, offer_with, same
 use Rattle.book_core.proofs.BookLemmas.{IsQuiet, at_of, plain_state, quiet_book}
 use Rattle.book_core.proofs.GoneLemmas.{gone_few}
 
--- what may be offered of a book as it is seen may be offered of it
+-- what may be offered to the view of a book may be offered to the book
 pub can_inside : (b : Inside) {seen : BookView} (key : Key) (value : Pairs) (work : ℕ) → book_shown b ≡ seen → CanOffer key value work (state_of seen) → CanOffer key value work (state_of (book_shown b))
 can_inside b key value work is = subst (λ (v : BookView). CanOffer key value work (state_of v)) (sym is)
 
@@ -47,7 +47,7 @@ module _ (b : Inside) (known : IsBook b) (key : Key) (value : Pairs) (work prese
       let fits : IsOffer s.pool offer = subst (IsOffer s.pool) offer_is (offer_fits s key value work can known.state.sound) in
       subst (λ (p : PoolState). IsOffer p offer) known.state.pool fits
 
-  -- and is answered like what the fold of the log offers
+  -- and is answered like the offer of the fold of the log
   pub admit_is : (who : Who) (answer : Admitted × PoolState) → answer ≡ admit_of who (length b.log.items + 1) offer b.pool → answer ≡ admit_of who (s.at + 1) (key_offer key s) s.pool
   admit_is who answer done =
       done ∙ ap (λ n. admit_of who (n + 1) offer b.pool) (sym (at_of b)) ∙ ap (λ (p : PoolState). admit_of who (s.at + 1) offer p) (sym known.state.pool)
@@ -57,7 +57,7 @@ module _ (b : Inside) (known : IsBook b) (key : Key) (value : Pairs) (work prese
   pub admit_done : (who : Who) (long : ℕ) (answer : Admitted × PoolState) → long ≡ length b.log.items → answer ≡ admit_of who (long + 1) offer b.pool → answer ≡ admit_of who (length b.log.items + 1) offer b.pool
   admit_done who long answer is done = done ∙ ap (λ n. admit_of who (n + 1) offer b.pool) is
 
-  -- of a pool with few entries few go
+  -- a pool with few entries evicts few
   pub admit_gone : (who : Who) (answer : Admitted × PoolState) {held : List PoolEntry} → answer ≡ admit_of who (length b.log.items + 1) offer b.pool → held ≡ b.pool.entries → length held ≤ 1024 → gone_in answer.0 ≤ 1024
   admit_gone who answer done are few =
       let least = gone_few who (length b.log.items + 1) offer b.pool in

@@ -1,4 +1,4 @@
--- One event more.
+-- One more event.
 use Rattle.std.proofs.Common.{◌≡◌, ℕ, ◌+◌, ◌≤◌, ◌<◌, List, [], ◌∷◌, ◌++◌, length, Bool, true, false, cond, refl, ap, sym, ◌∙◌, subst, arith, length-append}
 use Rattle.std.specs.Prelude.{fold, get_or, slice_set, ◌==◌, ◌^◌, Option, None}
 use Rattle.std.proofs.lemmas.List.{map-append, length-map, length-set}
@@ -14,7 +14,7 @@ use Rattle.pool_policy.specs.Versions.{Versions}
 use Rattle.table_store.specs.Content.{Content, version_of}
 use Rattle.run_log.specs.declared.event.Event.{Event}
 use Rattle.run_log.specs.declared.event.Act.TheVariants as act
-use Rattle.run_log.specs.declared.event.Looked.{Looked}
+use Rattle.run_log.specs.declared.event.FoundLog.{FoundLog}
 use Rattle.run_log.specs.declared.event.Totals.{Totals}
 use Rattle.run_log.specs.Events.{EventTree, act_tree, event_tree, log_tree}
 use Rattle.run_log.specs.Fold.{LogState, after, log_start, run_of}
@@ -30,7 +30,7 @@ use Rattle.book_core.specs.Lawful.{FollowAll, IsLawful}
 use Rattle.book_core.specs.Versions.{HasVersions}
 use Rattle.book_core.proofs.OpenLemmas.{few_up, flag_set, one_down}
 
--- the state behind one event more
+-- the state after one more event
 pub state_more : (old new : Inside) (event : Event) → new.log.items ≡ old.log.items ++ event ∷ [] → new.pool.options ≡ old.pool.options
     → state_of (book_shown new) ≡ after (state_of (book_shown old)) (event_tree event)
 state_more old new event log options =
@@ -39,7 +39,7 @@ state_more old new event log options =
     ∙ ap (run_of old.pool.options) (map-append event_tree old.log.items (event ∷ []))
     ∙ run_more old.pool.options (log_tree old.log.items) (event_tree event)
 
--- what a session has opened behind one event more
+-- what a session has opened after one more event
 pub open_more : (old new : Inside) (event : Event) (session : ℕ) → new.log.items ≡ old.log.items ++ event ∷ []
     → is_open session (book_shown new) ≡ and_opened session (is_open session (book_shown old)) (event_tree event)
 open_more old new event session log =
@@ -51,7 +51,7 @@ open_more old new event session log =
     fold_more b [] = refl
     fold_more b (e ∷ es) = fold_more (and_opened session b e) es
 
--- the parts of the state behind an event are those of the new book, and it counts little
+-- the parts of the state after an event are those of the new book, and it counts little
 pub record IsNext (old new : Inside) (event : Event) (count : Totals → Totals) : Type 0 where
   pub log : new.log.items ≡ old.log.items ++ event ∷ []
   pub options : new.pool.options ≡ old.pool.options
@@ -141,7 +141,7 @@ log_long old new event log = let long = length-append old.log.items (event ∷ [
 pub at_of : (b : Inside) → (state_of (book_shown b)).at ≡ length b.log.items
 at_of b = logs_tell_holds.at b.pool.options (log_tree b.log.items) ∙ length-map b.log.items event_tree
 
--- there is room for it and the Ends behind it
+-- there is room for it and the Ends after it
 pub still_book : (old new : Inside) (event : Event) → IsBook old → new.log.items ≡ old.log.items ++ event ∷ [] → new.begun ≡ old.begun → length old.log.items + 18 ≤ vec_capacity new.log → length old.log.items < 2 ^ 29
     → ((up : Bool) → opened_by (act_tree event.act) up ≡ up) → IsStateOf (state_of (book_shown new)) new → IsBook new
 still_book old new event known log begun room few same state =
@@ -160,7 +160,7 @@ quiet_book old new event known quiet same state = still_book old new event known
 
 -- ## A look
 
-pub look_book : (old new : Inside) (who : Who) (instr : ℕ) (key : Key) (found : Looked) → IsBook old → IsQuiet old new (event_of who (act.Look instr key found))
+pub look_book : (old new : Inside) (who : Who) (instr : ℕ) (key : Key) (found : FoundLog) → IsBook old → IsQuiet old new (event_of who (act.Look instr key found))
     → new.pool ≡ after_look who (length old.log.items + 1) key old.pool → new.totals ≡ with_pool new.pool (with_look found old.totals) → IsBook new
 look_book old new who instr key found known quiet pool totals =
     let event : Event = event_of who (act.Look instr key found) in
@@ -210,7 +210,7 @@ later_of b known =
     let early : b.pool.moment ≤ (state_of (book_shown b)).at = subst (λ (p : PoolState). p.moment ≤ (state_of (book_shown b)).at) known.state.pool known.state.sound.moment in
     omega (arith, at, early)
 
-pub small_look : (b : Inside) (found : Looked) → IsBook b → AreSmall (with_look found b.totals)
+pub small_look : (b : Inside) (found : FoundLog) → IsBook b → AreSmall (with_look found b.totals)
 small_look b found known =
     let at = at_of b in
     let few = known.few in

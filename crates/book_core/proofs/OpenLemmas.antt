@@ -20,7 +20,7 @@ one_down (flag ∷ flags) (suc place) low up =
 pub few_up : (flags : List Bool) → length flags ≡ 17 → count_by (λ b. b) flags ≤ 17
 few_up flags long = let few = count_by-le-length (λ (b : Bool). b) flags in omega (arith, few, long)
 
--- each flag behind one that was set
+-- each flag after one was set
 pub flag_set : (flags : List Bool) (session other : ℕ) (up was : Bool) → session < length flags → was ≡ get_or flags other false → cond (session == other) up was ≡ get_or (slice_set flags session up) other false
 flag_set flags session other up was low known = go (session == other) refl
   where

@@ -6,14 +6,15 @@ use Rattle.std.specs.Vec.{vec_capacity}
 use Rattle.std.proofs.lemmas.Bool.{eq-eqb}
 use Rattle.std.proofs.lemmas.List.{length-map, map-append}
 use Rattle.cell_core.specs.declared.table.Db.{Db}
+use Rattle.cell_core.specs.Tables.{has_column}
 use Rattle.sql_tree.specs.declared.tree.Stmt.{Stmt}
 use Rattle.sql_tree.specs.Tree.{StmtTree, stmt_tree}
 use Rattle.sql_grammar.specs.Formed.{IsFormed}
-use Rattle.sql_semantics.specs.Effect.{effect}
-use Rattle.sql_semantics.specs.declared.refusal.Refusal.{Refusal}
-use Rattle.sql_semantics.specs.declared.refusal.Reply.{Reply}
-use Rattle.sql_semantics.specs.declared.refusal.Reply.TheVariants.{Refused}
-use Rattle.sql_semantics.specs.Refusals.{refusal_number}
+use Rattle.sql_definitions.specs.Effect.{effect}
+use Rattle.sql_definitions.specs.declared.refusal.Refusal.{Refusal}
+use Rattle.sql_definitions.specs.declared.refusal.Reply.{Reply}
+use Rattle.sql_definitions.specs.declared.refusal.Reply.TheVariants.{Refused}
+use Rattle.sql_definitions.specs.Refusals.{refusal_number}
 use Rattle.pool_policy.specs.declared.entry.PoolEntry.{PoolEntry}
 use Rattle.pool_policy.specs.declared.entry.Who.{Who}
 use Rattle.pool_policy.specs.declared.options.PoolOptions.{PoolOptions}
@@ -21,16 +22,16 @@ use Rattle.pool_policy.specs.declared.touched.Touched.{Touched}
 use Rattle.pool_policy.specs.Pool.{PoolState}
 use Rattle.pool_policy.specs.Versions.{is_of}
 use Rattle.pool_policy.specs.WriteLaws.{IsWrite}
-use Rattle.pool_policy.specs.Writes.{Return, Written, write_of}
+use Rattle.pool_policy.specs.Writes.{Return, Written, backs_of, write_of}
 use Rattle.recycle_pool.specs.declared.carried.Carried.{Carried}
 use Rattle.recycle_pool.specs.Carries.{IsCarried}
 use Rattle.table_store.specs.Changes.{IsPrepared}
-use Rattle.table_store.specs.Content.{Content, has_column, version_of}
+use Rattle.table_store.specs.Content.{Content, version_of}
 use Rattle.run_log.specs.declared.event.Event.{Event}
 use Rattle.run_log.specs.declared.event.Act.TheVariants as act
 use Rattle.run_log.specs.declared.event.Totals.{Totals}
 use Rattle.run_log.specs.Events.{event_tree, log_tree}
-use Rattle.run_log.specs.Fold.{LogState, after, after_commit, backs_of, moved, run_of, write_load}
+use Rattle.run_log.specs.Fold.{LogState, after, after_commit, moved, run_of, write_load}
 use Rattle.run_log.specs.Laws.{IsCommit}
 use Rattle.run_log.specs.Totals.{AreSmall, with_pool, with_work, with_write, with_written}
 use Rattle.run_log.specs.Touches.{touched_by}
@@ -41,11 +42,12 @@ use Rattle.store_changes.specs.declared.outcome.Ready.{Ready}
 use Rattle.book_core.specs.declared.book.Book.TheInside.{Inside}
 use Rattle.book_core.specs.BookView.{BookView, event_of, state_of}
 use Rattle.book_core.specs.Kept.{IsBook, book_shown}
-use Rattle.book_core.specs.Writes.{IsOutcome, IsUntouched, reply_code, reply_count, return_work, write_work, written_by}
+use Rattle.reply_layout.specs.Doings.{code_of, shown_reply}
+use Rattle.book_core.specs.Writes.{IsOutcome, IsUntouched, return_work, write_work, written_by}
 use Rattle.book_core.proofs.BookLemmas.{IsQuiet, at_of, later_of, next_state, plain_state, quiet_book, still_book}
 use Rattle.book_core.proofs.WriteLemmas.{absent_version, commit_fits, few_written, never_refused, refused_code, short_back}
 
--- what is prepared over a store comes to this over the state of its book
+-- the outcome that is prepared over a store is that over the state of its book
 pub outcome_of : (b : Inside) → IsBook b → {seen : BookView} → book_shown b ≡ seen → (stmt : StmtTree) (ready : Result Ready Refusal) (load : ℕ) → IsFormed stmt → effect stmt b.store.db ≡ outcome_over ready b.store.db
     → IfOk ready (λ (r : Ready). IsPrepared r.change b.store) → IfOk ready (λ (r : Ready). r.change.touched ≡ touched_by stmt b.store.db) → load ≡ write_load stmt b.store.db → IsOutcome stmt ready load (state_of seen)
 outcome_of b known is stmt ready load formed done prepared touched counted =
@@ -68,7 +70,7 @@ outcome_of b known is stmt ready load formed done prepared touched counted =
     others_of (Ok r) prepared = λ table column out. prepared.others table column out ∙ known.state.versions table column
     others_of (Err refusal) prepared = tt
 
--- what a statement comes to over a book as it is seen, it comes to over the book
+-- the outcome of a statement over the view of a book is that over the book
 pub outcome_inside : (b : Inside) {seen : BookView} (stmt : StmtTree) (ready : Result Ready Refusal) (load : ℕ) → book_shown b ≡ seen → IsOutcome stmt ready load (state_of seen) → IsOutcome stmt ready load (state_of (book_shown b))
 outcome_inside b stmt ready load is outcome = subst (λ (v : BookView). IsOutcome stmt ready load (state_of v)) (sym is) outcome
 
@@ -144,7 +146,7 @@ module _ (b : Inside) (known : IsBook b) (stmt : Stmt) (ready : Ready) (load : �
   pub written_is : write_of ready.change.touched now b.pool ≡ write_of touched (s.at + 1) s.pool
   written_is = to_state (λ t n pool. write_of ready.change.touched now b.pool ≡ write_of t n pool) refl
 
-  -- the tables behind it
+  -- the tables after it
   pub change_db : (effect tree s.db).0 ≡ ready.change.content.db
   change_db = ap (λ (o : Db × Reply). o.0) is.effect
 
@@ -162,7 +164,7 @@ module _ (b : Inside) (known : IsBook b) (stmt : Stmt) (ready : Ready) (load : �
     pub change_fits : IsWrite ready.change.touched now b.pool
     change_fits = from_state IsWrite (commit_fits s tree known.state.sound commits)
 
-    -- ## The versions behind it
+    -- ## The versions after it
 
     module _ (new : Content) (db : new.db ≡ ready.change.content.db)
         (stamped : (table column : List ℕ) → is_of ready.change.touched table column ≡ true → has_column table column new.db ≡ true → version_of table column new ≡ now)
@@ -190,7 +192,7 @@ module _ (b : Inside) (known : IsBook b) (stmt : Stmt) (ready : Ready) (load : �
       version_is : version_of table column new ≡ moved touched (effect tree s.db).0 (s.at + 1) s.versions table column
       version_is = by_touch (is_of touched table column) refl
 
-    -- ## The book behind it
+    -- ## The book after it
 
     -- what it counts
     abbrev count : Totals → Totals
@@ -231,7 +233,7 @@ module _ (b : Inside) (known : IsBook b) (stmt : Stmt) (ready : Ready) (load : �
           few = omega (arith, moved_few);
         }))
 
-    -- the counter goes on with the work of what comes back
+    -- the counter goes on with the work of the entries that come back
     pub carried_work : {seen : BookView} → book_shown b ≡ seen → (before after : ℕ) → after ≡ before + carried.work
         → after ≡ before + (write_of (touched_by tree (state_of seen).db) ((state_of seen).at + 1) (state_of seen).pool).work
     carried_work shown before after counted =
@@ -247,9 +249,9 @@ module _ (b : Inside) (known : IsBook b) (stmt : Stmt) (ready : Ready) (load : �
         let moved_few = few_change entries in
         omega (arith, at, few, within, moved_few, dropped_is, back_is, evicted_is)
 
--- ## What the counter tells
+-- ## What the counter shows
 
--- the counter goes on from the load of the plan with the work of what comes back
+-- the counter goes on from the load of the plan with the work of the entries that come back
 pub write_counted : (b : Inside) → IsBook b → {seen : BookView} → book_shown b ≡ seen → (stmt : StmtTree) (load before between end_ : ℕ) → load ≡ write_load stmt b.store.db → Counts before between load (write_lost stmt b.store.db)
     → end_ ≡ between + return_work stmt (state_of seen) → Counts before end_ (write_work stmt (state_of seen)) (write_lost stmt (state_of seen).db)
 write_counted b known is stmt load before between end_ load_is counts =
@@ -283,17 +285,17 @@ module _ (s : LogState) (stmt : StmtTree) where
   work_by true = omega arith
   work_by false = omega arith
 
-  work_after : (reply : Reply) → reply ≡ (effect stmt s.db).1 → (cond (reply_code reply == 0) committed loaded).totals.work ≡ s.totals.work + write_work stmt s
+  work_after : (reply : Reply) → reply ≡ (effect stmt s.db).1 → (cond (code_of (shown_reply reply) == 0) committed loaded).totals.work ≡ s.totals.work + write_work stmt s
   work_after reply is =
-      work_by (reply_code reply == 0)
-      ∙ ap (λ (r : Reply). s.totals.work + (write_load stmt s.db + cond (reply_code r == 0) (write_of (touched_by stmt s.db) (s.at + 1) s.pool).work 0)) is
+      work_by (code_of (shown_reply reply) == 0)
+      ∙ ap (λ (r : Reply). s.totals.work + (write_load stmt s.db + cond (code_of (shown_reply r) == 0) (write_of (touched_by stmt s.db) (s.at + 1) s.pool).work 0)) is
 
--- the state behind one event more
+-- the state after one more event
 state_behind : (old new : BookView) (event : Event) → new.options ≡ old.options → new.log ≡ old.log ++ event ∷ [] → state_of new ≡ after (state_of old) (event_tree event)
 state_behind old new event options log =
     ap (λ (o : PoolOptions). run_of o (log_tree new.log)) options ∙ ap (run_of old.options) (logged_tree old.log new.log event log) ∙ run_more old.options (log_tree old.log) (event_tree event)
 
--- the state behind a text that is refused
+-- the state after a refused text
 pub text_keeps : (old new : BookView) (who : Who) (code : ℕ) → new.options ≡ old.options → new.log ≡ old.log ++ event_of who (act.Write None code 0) ∷ [] → IsUntouched (state_of old) (state_of new)
 text_keeps old new who code options log =
     subst (λ (s : LogState). IsUntouched (state_of old) s) (sym (state_behind old new (event_of who (act.Write None code 0)) options log)) (record { db = refl; versions = refl; pool = refl })

@@ -8,29 +8,29 @@ use Rattle.std.proofs.lemmas.List.Sums.{count_by-le-length, length-filter}
 use Rattle.cell_core.specs.declared.table.Column.{Column}
 use Rattle.cell_core.specs.declared.table.Table.{Table}
 use Rattle.cell_core.specs.Pairs.{Pairs}
-use Rattle.cell_core.specs.Tables.{first_named}
+use Rattle.cell_core.specs.Tables.{first_named, has_column}
 use Rattle.lineage_key.specs.Parents.{parents_of}
 use Rattle.subsume.proofs.Members.{In, in_from_contains}
 use Rattle.evict_admit.specs.Runs.{is_one_of}
 use Rattle.sql_tree.specs.Tree.{StmtTree}
-use Rattle.sql_semantics.specs.Refusals.{refusal_number}
-use Rattle.sql_semantics.specs.declared.refusal.Refusal.{Refusal}
-use Rattle.sql_semantics.specs.declared.refusal.Refusal.TheVariants.{Syntax, Unsupported, NoTable, TableExists, NoColumn, Ambiguous, KindsDiffer, WrongCount, TextTooLong, Overflow, Limit, NameTwice, NullStored, NotGrouped}
-use Rattle.sql_semantics.specs.declared.refusal.Reply.TheVariants.{Refused}
+use Rattle.sql_definitions.specs.Refusals.{refusal_number}
+use Rattle.sql_definitions.specs.declared.refusal.Refusal.{Refusal}
+use Rattle.sql_definitions.specs.declared.refusal.Refusal.TheVariants.{Syntax, Unsupported, NoTable, TableExists, NoColumn, Ambiguous, KindsDiffer, WrongCount, TextTooLong, Overflow, Limit, NameTwice, NullStored, NotGrouped}
+use Rattle.sql_definitions.specs.declared.refusal.Reply.TheVariants.{Refused}
 use Rattle.pool_policy.specs.declared.entry.PoolEntry.{PoolEntry}
 use Rattle.pool_policy.specs.declared.touched.Touched.{Touched}
 use Rattle.pool_policy.specs.Pool.{PoolState, pool_bytes, score_at}
 use Rattle.pool_policy.specs.Admits.{left_without, row_of, rows_of}
 use Rattle.pool_policy.specs.WriteLaws.{IsWrite}
-use Rattle.pool_policy.specs.Writes.{Return, after_returns, and_returned, and_touched, binds_one, come_back, delta_of, delta_work, evictions_after, growth_of, returned, touched_ids, write_of}
+use Rattle.pool_policy.specs.Writes.{Return, after_returns, and_returned, and_touched, backs_of, binds_one, come_back, delta_of, delta_work, evictions_after, growth_of, returned, touched_ids, write_of}
 use Rattle.pool_policy.proofs.VersionLaws.{versions_hold_all}
-use Rattle.run_log.specs.Fold.{LogState, backs_of}
+use Rattle.run_log.specs.Fold.{LogState}
 use Rattle.run_log.specs.Laws.{IsCommit, IsSound}
 use Rattle.run_log.specs.Touches.{touched_by}
 use Rattle.run_log.proofs.TouchLemmas.{touched_adds}
 use Rattle.store_changes.specs.Outcomes.{reply_with}
-use Rattle.table_store.specs.Content.{Content, column_version, has_column, version_in, version_of}
-use Rattle.book_core.specs.Writes.{reply_code}
+use Rattle.table_store.specs.Content.{Content, column_version, version_in, version_of}
+use Rattle.reply_layout.specs.Doings.{code_of, shown_reply}
 use Rattle.book_core.proofs.GoneLemmas.{run_few}
 
 -- ## Codes
@@ -52,7 +52,7 @@ refused_code (NameTwice name) = refl
 refused_code NullStored = refl
 refused_code (NotGrouped name) = refl
 
-pub done_code : (rows : Option ℕ) → reply_code (reply_with rows) ≡ 0
+pub done_code : (rows : Option ℕ) → code_of (shown_reply (reply_with rows)) ≡ 0
 done_code None = refl
 done_code (Some rows) = refl
 

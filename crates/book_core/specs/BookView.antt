@@ -11,7 +11,7 @@ pub record BookView : Type 0 where
   pub options : PoolOptions
   pub log : List Event
 
--- what its log leads to
+-- the state to which its log leads
 abbrev pub state_of : BookView → LogState
 state_of book = run_of book.options (log_tree book.log)
 

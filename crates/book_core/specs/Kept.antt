@@ -1,4 +1,4 @@
--- What a book keeps: all that it has is what the fold of its log says.
+-- The invariant of a book: all that it has is the fold of its log.
 use Rattle.std.specs.Prelude.{◌≡◌, ℕ, ◌+◌, ◌^◌, ◌<◌, ◌≤◌, List, Bool, false, count_by, get_or, length}
 use Rattle.std.specs.Vec.{vec_capacity}
 use Rattle.run_log.specs.Events.{log_tree}
@@ -16,7 +16,7 @@ book_shown b = record { options = b.pool.options; log = b.log.items }
 abbrev pub open_count : List Bool → ℕ
 open_count up = count_by (λ b. b) up
 
--- the parts of a state, which a lawful log leads to
+-- the log is lawful, and the book's parts are those of the state that it leads to
 pub record IsStateOf (s : LogState) (b : Inside) : Type 0 where
   pub lawful : IsLawful b.pool.options (log_tree b.log.items)
   pub sound : IsSound s

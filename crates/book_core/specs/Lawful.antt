@@ -5,7 +5,7 @@ use Rattle.run_log.specs.Events.{EventTree}
 use Rattle.run_log.specs.Fold.{LogState, after, log_start}
 use Rattle.run_log.specs.Laws.{MayFollow}
 
--- each of these events may follow a state and the events before it
+-- each event may follow the state after those before it
 abbrev pub FollowAll : LogState → List EventTree → Type 0
 FollowAll s [] = Unit {0}
 FollowAll s (event ∷ log) = MayFollow s event.act × FollowAll (after s event) log

@@ -15,7 +15,7 @@ use Rattle.run_log.specs.Fold.{LogState, key_present, key_value, key_work}
 abbrev pub NamesColumn : Key → Type 0
 NamesColumn key = (table column kind : List ℕ) × (key.args ≡ Const (Text table) ∷ Const (Text column) ∷ Const (Text kind) ∷ [])
 
--- a key has at most two parents, and a bind names a column; and where each parent has an id, or the bind's version is the present one, the value and the work are those of the key
+-- a key has at most two parents, and a bind names a column; where each parent has an id, or the bind's version is the present one, the value and the work are those of the key
 pub record CanOffer (key : Key) (value : Pairs) (work : ℕ) (s : LogState) : Type 0 where
   pub few : length (parents_of key) ≤ 2
   pub named : is_bind key ≡ true → NamesColumn key

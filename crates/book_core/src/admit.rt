@@ -38,8 +38,8 @@ fn present_of(store: &Store, key: &Key) -> u64
 }
 
 impl Book {
-    /// Offers a result to the pool, which takes it in by the policy. What goes to make room is scored by
-    /// the scorer that is lent, which is of the kind of the options.
+    /// Offers a result to the pool, which admits it by the policy. `scorer` scores what is evicted
+    /// to make room; it has the policy and the weights of the options.
     pub fn admit(
         &mut self,
         alloc: Global,
@@ -69,7 +69,7 @@ impl Book {
             work,
             present,
         };
-        // Fewer than 1,025 entries can go.
+        // Fewer than 1,025 entries can be evicted.
         let _ = self.pool.entries();
         let result = self.pool.admit(scorer, who, now, offered)?;
         self.totals.note_admission(result);

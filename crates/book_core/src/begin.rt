@@ -5,7 +5,7 @@ ghost use Rattle.mal_meaning.specs.Meaning.{plan_rows};
 ghost use Rattle.mal_meaning.specs.Runs.{Runs};
 ghost use Rattle.plan_queries.specs.Plans.{plan_over, refusal_over};
 ghost use Rattle.sql_grammar.specs.Formed.{IsFormed};
-ghost use Rattle.sql_semantics.specs.Answer.{answer_of_stmt, query_of};
+ghost use Rattle.sql_definitions.specs.Answer.{answer_of_stmt, query_of};
 ghost use Rattle.sql_tree.specs.Tree.{query_tree, stmt_tree};
 ghost use Rattle.book_core.specs.Begins.{begin_act, marks_in, unless_refused};
 ghost use Rattle.book_core.specs.BookView.{event_of, now_of, state_of};
@@ -18,7 +18,7 @@ use cell_core::Memory;
 use mal_meaning::Plan;
 use pool_policy::Who;
 use run_log::Act;
-use sql_semantics::Refusal;
+use sql_definitions::Refusal;
 use sql_tree::{Query, Stmt};
 use std::alloc::Global;
 use table_store::Snap;
@@ -29,13 +29,13 @@ pub struct Begun {
     pub at: u64,
     /// The tables that it sees.
     pub snap: Snap,
-    /// The plan by which it is run, or its refusal by the tables.
+    /// Its plan, or its refusal by the tables.
     pub plan: Result<Plan, Refusal>,
     /// Whether each instruction of the plan is marked; none where it is refused.
     pub marks: Vec<bool>,
 }
 
-// By a call of its own, so that proofs needn't go through its forms where one is let go.
+// By a call of its own, so that proofs needn't go through its forms where one is dropped.
 impl Drop for Begun {
     fn drop(self) {
         let Begun {
@@ -48,7 +48,7 @@ impl Drop for Begun {
 }
 
 impl Begun {
-    /// Its plan or refusal, for which it is given up.
+    /// Its plan or refusal. The rest is dropped.
     pub fn into_plan(self) -> Result<Plan, Refusal>
         ensures { result ≡ self.plan }
     {
@@ -76,9 +76,9 @@ impl Begun {
 }
 
 impl Book {
-    /// A query begins: it is checked, translated and optimised over the present tables, of which it gets a
-    /// snapshot. The plan fits these tables, and its meaning over them is the query's answer. There is room for
-    /// its End from then on. `stmt` is its statement.
+    /// Begins a query: it is checked, translated and optimised over the present tables, and gets a
+    /// snapshot of them. The plan fits these tables, and its meaning over them is the query's
+    /// answer. From then on there is room for its End. `stmt` is its statement.
     pub fn begin(
         &mut self,
         alloc: Global,

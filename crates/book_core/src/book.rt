@@ -1,7 +1,7 @@
 ghost use Rattle.std.specs.Prelude.{◌≡◌, ◌<◌, ◌≤◌, ◌^◌, [], ◌∷◌, ◌++◌, length, true, None, Some, IfOk, OnOk, OnErr};
 ghost use Rattle.pool_policy.specs.Looks.{look_of};
 ghost use Rattle.recycle_pool.specs.Answers.{HandsOut, told};
-ghost use Rattle.sql_semantics.specs.Refusals.{refusal_number};
+ghost use Rattle.sql_definitions.specs.Refusals.{refusal_number};
 ghost use Rattle.run_log.specs.declared.event.Act.TheVariants as act;
 ghost use Rattle.run_log.specs.Events.{log_tree, looked_of};
 ghost use Rattle.book_core.specs.BookView.{event_of, is_open, state_of};
@@ -12,9 +12,9 @@ use crate::events::{SESSIONS, count_event, event, looked, make_room, push_event}
 use cell_core::Memory;
 use lineage_key::Key;
 use pool_policy::{PoolOptions, Who};
-use recycle_pool::{Found, Part, Pool};
+use recycle_pool::{CoverPiece, Found, Pool};
 use run_log::{Act, Event, Totals};
-use sql_semantics::Refusal;
+use sql_definitions::Refusal;
 use std::alloc::Global;
 use std::marker::Model;
 use table_store::Store;
@@ -28,7 +28,7 @@ pub struct Book {
     pub(crate) begun: [bool; 17],
 }
 
-// By a call of its own, so that proofs needn't go through its forms where one is let go.
+// By a call of its own, so that proofs needn't go through its forms where one is dropped.
 impl Drop for Book {
     fn drop(self) {
         let Book {
@@ -76,13 +76,13 @@ impl Book {
         })
     }
 
-    /// What is pooled for a key, by the policy. `parts` gets the pieces of a cover.
+    /// Looks a key up in the pool, by the policy. `parts` gets the pieces of a cover.
     pub fn look(
         &mut self,
         who: Who,
         instr: u32,
         key: Key,
-        parts: &mut Vec<Part>,
+        parts: &mut Vec<CoverPiece>,
     ) -> Result<Found, Memory>
         requires session { who.session < 17 }
         requires empty { parts.old.items ≡ [] }
@@ -108,7 +108,7 @@ impl Book {
         Ok(found)
     }
 
-    /// The end of a query that has begun: what its session holds is held no more. Takes no memory.
+    /// Ends a query that has begun, and releases what its session holds. Takes no memory.
     pub fn end(&mut self, who: Who, code: u8)
         requires session { who.session < 17 }
         requires open { is_open who.session self.old ≡ true }
@@ -121,7 +121,7 @@ impl Book {
         let _ = push_event(&mut self.log, event(who, Act::End { code }));
     }
 
-    /// A text that is refused. Tables, versions and pool stay as they were.
+    /// Logs a refused text. Tables, versions and pool stay as they were.
     pub fn refuse(&mut self, who: Who, refusal: &Refusal) -> Result<(), Memory>
         requires { who.session < 17 }
         ensures options { self.new.options ≡ self.old.options }
@@ -140,7 +140,7 @@ impl Book {
         Ok(())
     }
 
-    /// The totals, of whose work the part of writes alone is told. Takes no memory.
+    /// The totals. Their work is that of writes alone. Takes no memory.
     pub fn totals(&self) -> Totals
         ensures { result ≡ (state_of self.now).totals }
     {
@@ -155,7 +155,14 @@ impl Book {
         self.log.as_slice()
     }
 
-    /// The log and the totals, handed out. Takes no memory.
+    /// The law that the log is lawful: each event may follow those before it. Runs nothing.
+    pub fn log_is_lawful(&self)
+        ensures lawful { IsLawful self.now.options (log_tree self.now.log) }
+    {
+        let _ = &self.log;
+    }
+
+    /// The log and the totals. Takes no memory.
     pub fn finish(self) -> (Vec<Event>, Totals)
         ensures log { result.0.items ≡ self.log }
         ensures totals { result.1 ≡ (state_of self).totals }

@@ -1,4 +1,4 @@
-//! One event more.
+//! Adding one event to the log.
 ghost use Rattle.std.specs.Prelude.{◌≡◌, ◌+◌, ◌<◌, ◌≤◌, ◌^◌, [], ◌∷◌, ◌++◌, OnOk, OnErr, vec_len};
 ghost use Rattle.std.specs.Vec.{vec_capacity};
 ghost use Rattle.pool_policy.specs.Pool.{pool_bytes};
@@ -9,15 +9,15 @@ ghost use Rattle.book_core.specs.BookView.{event_of};
 use cell_core::Memory;
 use pool_policy::Who;
 use recycle_pool::{Found, Pool};
-use run_log::{Act, Event, Looked, Totals};
+use run_log::{Act, Event, FoundLog, Totals};
 
 /// The most events that a log has before an End.
 pub(crate) const MOST: usize = 1 << 29;
 
-/// The number of sessions, and one more.
+/// One more than the number of sessions.
 pub(crate) const SESSIONS: usize = 17;
 
-/// Makes room for one event, and behind it for the End of each session.
+/// Makes room for one event, and for the End of each session after it.
 pub(crate) fn make_room(log: &mut Vec<Event>) -> Result<(), Memory>
     ensures items { log.new.items ≡ log.old.items }
     ensures room { OnOk result (vec_len log.new + 18 ≤ vec_capacity log.new) }
@@ -31,7 +31,7 @@ pub(crate) fn make_room(log: &mut Vec<Event>) -> Result<(), Memory>
     Ok(())
 }
 
-/// Adds an event where there is room for it, which can't fail.
+/// Adds an event. It can't fail where there is room.
 pub(crate) fn push_event(log: &mut Vec<Event>, event: Event) -> Result<(), Memory>
     requires { vec_len log.old < vec_capacity log.old }
     ensures items { log.new.items ≡ log.old.items ++ event ∷ [] }
@@ -52,7 +52,7 @@ pub(crate) fn event(who: Who, act: Act) -> Event
     }
 }
 
-/// Counts an event, behind which the pool is this.
+/// Counts an event, after which the pool is `pool`.
 pub(crate) fn count_event(totals: &mut Totals, pool: &Pool)
     requires { AreSmall totals.old }
     ensures { totals.new ≡ with_pool pool.now totals.old }
@@ -61,14 +61,14 @@ pub(crate) fn count_event(totals: &mut Totals, pool: &Pool)
     totals.note_event(entries, bytes);
 }
 
-/// What a look finds, as it is logged.
-pub(crate) fn looked(found: &Found) -> Looked
+/// The result of a look, as it is logged.
+pub(crate) fn looked(found: &Found) -> FoundLog
     ensures { result ≡ looked_in found.now }
 {
     match found {
-        Found::Exact(id, _) => Looked::Exact(*id),
-        Found::Within(id, _) => Looked::Within(*id),
-        Found::Across(pieces) => Looked::Across(*pieces),
-        Found::Miss => Looked::Miss,
+        Found::Exact(id, _) => FoundLog::Exact(*id),
+        Found::Within(id, _) => FoundLog::Within(*id),
+        Found::Across(pieces) => FoundLog::Across(*pieces),
+        Found::Miss => FoundLog::Miss,
     }
 }

@@ -6,8 +6,8 @@ ghost use Rattle.mal_meaning.specs.Meaning.{plan_rows};
 ghost use Rattle.mal_meaning.specs.Runs.{Runs};
 ghost use Rattle.plan_queries.specs.Plans.{plan_over, refusal_over};
 ghost use Rattle.sql_grammar.specs.Formed.{IsFormed};
-ghost use Rattle.sql_semantics.specs.Answer.{answer_of_stmt, query_of};
-ghost use Rattle.sql_semantics.specs.Valid.{IsValid};
+ghost use Rattle.sql_definitions.specs.Answer.{answer_of_stmt, query_of};
+ghost use Rattle.sql_definitions.specs.Valid.{IsValid};
 ghost use Rattle.sql_tree.specs.Tree.{query_tree, stmt_tree};
 ghost use Rattle.book_core.specs.Begins.{code_in, logged_plan as logged_plan_of, marks_in, unless_refused};
 
@@ -17,14 +17,13 @@ use plan_queries::plan_query;
 use recycle_mark::marks;
 use run_log::ACCEPTED;
 use sql_check::{CheckError, check};
-use sql_semantics::Refusal;
+use sql_definitions::Refusal;
 use sql_tree::{Query, Stmt};
 use std::alloc::Global;
 use store_changes::schema_of;
 use table_store::Store;
 
-/// The plan by which a query is run over the tables of a store, or its refusal by them. `stmt` is its
-/// statement.
+/// The plan of a query over the tables of a store, or its refusal by them. `stmt` is its statement.
 pub(crate) fn plan_or_refusal(
     alloc: Global,
     store: &Store,
@@ -48,7 +47,7 @@ pub(crate) fn plan_or_refusal(
     }
 }
 
-/// The marks of a plan.
+/// The marks of a plan; none for a refusal.
 pub(crate) fn marks_of_outcome(
     alloc: Global,
     outcome: &Result<Plan, Refusal>,
@@ -61,7 +60,7 @@ pub(crate) fn marks_of_outcome(
     }
 }
 
-/// The plan that is logged.
+/// The plan that is logged: that of a SELECT, not of an EXPLAIN.
 pub(crate) fn plan_to_log(
     alloc: Global,
     stmt: &Stmt,

@@ -2,18 +2,19 @@
 ghost use Rattle.std.specs.Prelude.{◌≡◌, ◌+◌, ◌<◌, ◌≤◌, ◌^◌, [], ◌∷◌, ◌++◌, length, true, Some, None, Ok, Err, IfOk, OnOk, OnErr};
 ghost use Rattle.std.specs.List.{AllByRecursion};
 ghost use Rattle.pool_policy.specs.Writes.{write_of};
+ghost use Rattle.reply_layout.specs.Doings.{code_of as code_shown, count_of as count_shown, shown_reply};
 ghost use Rattle.run_log.specs.declared.event.Act.TheVariants as act;
 ghost use Rattle.run_log.specs.Totals.{AreSmall, with_work, with_written};
 ghost use Rattle.run_log.specs.Touches.{touched_by};
 ghost use Rattle.sql_grammar.specs.Formed.{IsFormed};
-ghost use Rattle.sql_semantics.specs.Effect.{effect};
-ghost use Rattle.sql_semantics.specs.declared.refusal.Refusal.{Refusal as RefusalSeen};
-ghost use Rattle.sql_semantics.specs.declared.refusal.Reply.TheVariants as answer;
+ghost use Rattle.sql_definitions.specs.Effect.{effect};
+ghost use Rattle.sql_definitions.specs.declared.refusal.Refusal.{Refusal as RefusalSeen};
+ghost use Rattle.sql_definitions.specs.declared.refusal.Reply.TheVariants as answer;
 ghost use Rattle.sql_tree.specs.Tree.{stmt_tree};
 ghost use Rattle.store_changes.specs.Outcomes.{is_change, reply_with};
 ghost use Rattle.store_changes.specs.Work.{Counts, write_lost};
 ghost use Rattle.book_core.specs.BookView.{state_of};
-ghost use Rattle.book_core.specs.Writes.{IsOutcome, IsUntouched, reply_code, reply_count, return_work, write_work, written_by};
+ghost use Rattle.book_core.specs.Writes.{IsOutcome, IsUntouched, return_work, write_work, written_by};
 
 use crate::book::Book;
 use crate::events::{count_event, event, make_room, push_event};
@@ -22,7 +23,7 @@ use cell_core::{Memory, Steps};
 use pool_policy::{PoolEntry, Who};
 use run_log::{ACCEPTED, Act, StmtText, Totals};
 use score_hook::Scorer;
-use sql_semantics::{Refusal, Reply};
+use sql_definitions::{Refusal, Reply};
 use sql_tree::Stmt;
 use std::alloc::Global;
 use std::sync::ledger::Ledger;
@@ -31,7 +32,7 @@ use update_propagate::carry;
 
 /// 0, or the number of the refusal.
 fn code_of(reply: &Reply) -> u8
-    ensures { result ≡ reply_code reply.now }
+    ensures { result ≡ code_shown (shown_reply reply.now) }
 {
     match reply {
         Reply::Refused(refusal) => refusal.number(),
@@ -39,9 +40,9 @@ fn code_of(reply: &Reply) -> u8
     }
 }
 
-/// How many rows were inserted, deleted or updated.
+/// The number of rows inserted, deleted or updated.
 fn count_of(reply: &Reply) -> u64
-    ensures { result ≡ reply_count reply.now }
+    ensures { result ≡ count_shown (shown_reply reply.now) }
 {
     match reply {
         Reply::Rows(count) => *count,
@@ -49,7 +50,7 @@ fn count_of(reply: &Reply) -> u64
     }
 }
 
-/// The reply to an accepted change of so many rows.
+/// The reply to an accepted change, with its number of rows, if any.
 fn reply_to(rows: Option<u64>) -> Reply
     ensures { result ≡ reply_with rows }
 {
@@ -61,7 +62,7 @@ fn reply_to(rows: Option<u64>) -> Reply
 
 /// A change and its reply, as they are logged.
 fn written(stmt: StmtText, reply: &Reply) -> Act
-    ensures { result ≡ act.Write (Some stmt) (reply_code reply.now) (reply_count reply.now) }
+    ensures { result ≡ act.Write (Some stmt) (code_shown (shown_reply reply.now)) (count_shown (shown_reply reply.now)) }
 {
     Act::Write {
         stmt: Some(stmt),
@@ -70,7 +71,7 @@ fn written(stmt: StmtText, reply: &Reply) -> Act
     }
 }
 
-/// Answers `Memory` where the totals can't hold the load of a plan and the work of what comes back.
+/// Returns `Memory` where the totals can't hold the load of a plan and the work of what comes back.
 fn make_room_for_work(totals: &Totals, load: u128, work: u128) -> Result<(), Memory>
     ensures { OnOk result ((totals.now.work + load) + work < 2 ^ 128) }
 {
@@ -79,7 +80,7 @@ fn make_room_for_work(totals: &Totals, load: u128, work: u128) -> Result<(), Mem
     Ok(())
 }
 
-/// No BAT is long. It reads their lengths, as only a BAT itself tells that.
+/// Reads the length of each BAT. Proofs get a BAT's bound from its length alone.
 fn read_lengths(entries: &[PoolEntry])
     ensures { AllByRecursion (λ e. length e.value < 2 ^ 62) entries.now }
 {
@@ -90,7 +91,8 @@ fn read_lengths(entries: &[PoolEntry])
     }
 }
 
-/// Counts an accepted write: the load of its plan, what it did to the pool, and the work of what came back.
+/// Counts an accepted write: the load of its plan, its changes of the pool, and the work of what came
+/// back.
 fn count_write(
     totals: &mut Totals,
     load: u128,
@@ -110,13 +112,14 @@ fn count_write(
 }
 
 impl Book {
-    /// A statement that is neither a query nor an EXPLAIN, whole: it is checked and done, or refused, and
-    /// its reply is that of SQL over the present tables. The pool loses what it touched, or takes in what
-    /// comes back with the new rows; what goes to make room is scored by the scorer that is lent, which
-    /// is of the kind of the options. One event. The counter rises by the work that the write adds to the
-    /// totals, in pairs of cells; where the plan of a DELETE or an UPDATE overflows, by at most its load
-    /// more. The log keeps the statement's text. A refused statement leaves tables, versions and pool as
-    /// they were. Where memory runs out, nothing is done.
+    /// Does a statement that is neither a query nor an EXPLAIN, or refuses it. The reply is that of
+    /// SQL over the present tables. The pool drops the entries that the write touches, or takes in
+    /// those that come back with the new rows. `scorer` scores what is evicted to make room; it has
+    /// the policy and the weights of the options. One event is added, which has the statement's
+    /// text. The counter rises by the work that the write adds to the totals, in pairs of cells;
+    /// where the plan of a DELETE or an UPDATE overflows, by at most its load more. A refused
+    /// statement leaves tables, versions and pool as they were. Where memory runs out, nothing is
+    /// done.
     pub fn write<E: Operate, L: Ledger>(
         &mut self,
         alloc: Global,
@@ -144,7 +147,7 @@ impl Book {
         self.settle(alloc, scorer, who, text, outcome, steps)
     }
 
-    /// What a statement comes to is done, or its refusal is logged.
+    /// Does the prepared change, or logs its refusal.
     fn settle<L: Ledger>(
         &mut self,
         alloc: Global,
@@ -170,7 +173,7 @@ impl Book {
         }
     }
 
-    /// A change that is refused: the load of its plan counts, and nothing else changes.
+    /// Logs a refused change. The load of its plan counts, and nothing else changes.
     fn refuse_change(
         &mut self,
         who: Who,
@@ -193,8 +196,7 @@ impl Book {
         Ok(reply)
     }
 
-    /// A change that is prepared: it is done, and what comes back in the pool goes on with it. All that
-    /// can fail is done first.
+    /// Does a prepared change in the store and in the pool. All that can fail is done first.
     fn commit<L: Ledger>(
         &mut self,
         alloc: Global,
@@ -221,7 +223,7 @@ impl Book {
         let carried = carry(alloc, &self.pool, touched, now, steps)?;
         make_room_for_work(&self.totals, load, carried.work)?;
         read_lengths(carried.entries.as_slice());
-        // Fewer than 1,025 entries can be dropped, come back or go.
+        // Fewer than 1,025 entries can be dropped, come back or be evicted.
         let _ = self.pool.entries();
         let back = carried.ids.len() as u64;
         let work = carried.work;

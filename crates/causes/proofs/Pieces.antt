@@ -5,7 +5,7 @@ use Rattle.std.specs.Io.KnownBytes.{Consumes}
 use Rattle.std.proofs.lemmas.List.{take_rest, drop-drop, length-take-le}
 use Rattle.std.proofs.Math.Seq.{take-append_seam}
 
--- what stands at the front of the buffer is what was taken
+-- what is at the front of the buffer is what was taken
 pub front-consumed : (old : Option (List ℕ)) (bytes seen got back : List ℕ) (done n : ℕ)
     → old ≡ Some (drop done bytes) → seen ≡ bytes → got ≡ take n (take (length seen - done) (drop done seen)) → n ≤ length (take (length seen - done) (drop done seen))
     → Consumes old (Some (drop (done + n) bytes)) (take n (got ++ back))

@@ -1,4 +1,4 @@
--- Where the file with a name stands.
+-- The place of the file with a name.
 use Rattle.std.proofs.Common.{◌≡◌, ℕ, zero, suc, ◌+◌, ◌<◌, Bool, true, false, cond, not, List, [], ◌∷◌, length, map, None, Some, refl, sym, ap, ◌∙◌, arith}
 use Rattle.std.specs.Prelude.{Option, option_map, find, slice_get, position, nat_lt, bytes_eq, Vec}
 use Rattle.std.specs.List.{position_or_len}
@@ -24,7 +24,7 @@ bytes-some [] i h = absurd (omega (arith, h))
 bytes-some (x ∷ xs) zero h = refl
 bytes-some (x ∷ xs) (suc i) h = bytes-some xs i (omega (arith, h))
 
--- the first that passes stands at its position
+-- the first that passes is at its position
 find-at : (q : List ℕ × List ℕ → Bool) (files : List (List ℕ × List ℕ)) (i : ℕ) → position q files ≡ Some i → option_map (λ file. file.1) (find q files) ≡ Some (bytes_at files i)
 find-at q files i e =
     let here = position-Some q files i ([], []) e in

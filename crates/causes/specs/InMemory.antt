@@ -10,11 +10,11 @@ files_of files = map (λ file. (file.0, file.1.items)) files
 abbrev pub bytes_of_name : List (List ℕ × List ℕ) → List ℕ → Option (List ℕ)
 bytes_of_name files name = option_map (λ file. file.1) (find (λ file. bytes_eq file.0 name) files)
 
--- where the first file with this name stands, if there is one
+-- the place of the first file with this name, if there is one
 abbrev pub place_in : List (List ℕ × List ℕ) → List ℕ → Option ℕ
 place_in files name = position (λ file. bytes_eq file.0 name) files
 
--- the bytes of the file at a place, and none where no file stands
+-- the bytes of the file at a place, and none where there is no file
 abbrev pub bytes_at : List (List ℕ × List ℕ) → ℕ → List ℕ
 bytes_at files place = option_map_or (λ file. file.1) (slice_get files place) []
 

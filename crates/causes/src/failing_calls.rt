@@ -13,7 +13,7 @@ pub struct FailingCalls {
 }
 
 impl FailingCalls {
-    /// No call yet.
+    /// The calls with these numbers are to fail; none was made yet.
     pub fn new(listed: Vec<u64>) -> FailingCalls
         ensures listed { result.listed ≡ listed }
         ensures calls { result.calls ≡ 0 }
@@ -26,7 +26,7 @@ impl FailingCalls {
         }
     }
 
-    /// Numbers one more call, and says whether it is to fail.
+    /// Numbers one more call, and returns whether it is to fail.
     pub fn begins_failing(&mut self) -> bool
         ensures listed { IsTrue result ↔ Contains self.new.listed.items self.new.calls }
         ensures counted { self.new ≡ record self.old { calls = next_count self.old.calls } }

@@ -1,10 +1,11 @@
 //! Reading scripts and writing replies, where each failure has a cause that the caller can see.
 //!
-//! It stands on `cell_core` for words. A source (`Scripts`) and a sink (`Sink`) count their faults,
-//! and a call fails only where that count rose in it, or for want of memory. `read_all` gives the
-//! whole text of a script or says why not; `write_all` adds exactly a text, or a prefix of it.
-//! `MemScripts`, `SureScripts` and `MemSink` are in memory and tell their bytes; `FileScripts` reads
-//! the system's files, `OutSink` writes to standard output, and neither tells any.
+//! It builds on `cell_core` for words. A source (`Scripts`) and a sink (`Sink`) count their faults,
+//! and a call fails only where that count rose in it, or where memory runs out. `read_all` returns
+//! the whole text of a script or says why not; `write_all` adds exactly a text, or a prefix of it.
+//! `MemScripts`, `SureScripts` and `MemSink` are in memory, and contracts know their bytes.
+//! `FileScripts` reads the system's files, `OutSink` writes to standard output, and contracts know
+//! no bytes of either.
 #![tactic(auto)]
 
 mod error;

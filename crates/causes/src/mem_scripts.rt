@@ -19,7 +19,8 @@ use std::marker::Model;
 pub struct MemScripts {
     files: OpenFiles,
     calls: FailingCalls,
-    /// Where the file of the last fault stands; none where no file has the name, or no fault came yet.
+    /// The place of the file of the last fault; none where no file has the name, or no fault came
+    /// yet.
     failed: Option<usize>,
 }
 
@@ -57,8 +58,8 @@ impl MemScripts {
         }
     }
 
-    /// How many calls of `start` and `read` there were, which is the number of the last one, as the failing
-    /// calls are numbered; 2^64 - 1 stands for that many or more.
+    /// How many calls of `start` and `read` there were, which is the number of the last one, as the
+    /// failing calls are numbered; 2^64 - 1 stands for that many or more.
     pub fn calls(&self) -> u64
         ensures { result ≡ self.now.calls }
     {
@@ -71,14 +72,14 @@ impl Scripts for MemScripts {
 
     ghost is_started = { λ s. IsSome s.remaining };
 
-    // Names of no file aren't told apart.
+    // Names without a file aren't distinguished.
     ghost is_reading = { λ s name. s.started ≡ place_in s.files name };
 
     ghost remaining = { λ s. s.remaining };
 
     ghost faults = { λ s. s.faults };
 
-    // Names of no file aren't told apart.
+    // Names without a file aren't distinguished.
     ghost failed_at = { λ s name. s.failed ≡ place_in s.files name };
 
     fn start(&mut self, name: &str) -> Result<(), Failed>

@@ -66,8 +66,8 @@ impl MemSink {
         })
     }
 
-    /// How many calls of `write` there were, which is the number of the last one, as the failing calls are
-    /// numbered; 2^64 - 1 stands for that many or more.
+    /// How many calls of `write` there were, which is the number of the last one, as the failing
+    /// calls are numbered; 2^64 - 1 stands for that many or more.
     pub fn calls(&self) -> u64
         ensures { result ≡ self.now.calls }
     {

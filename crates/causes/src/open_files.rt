@@ -10,12 +10,12 @@ use std::marker::Model;
 #[derive(Drop)]
 pub struct OpenFiles {
     files: Vec<(Word, Vec<u8>)>,
-    place: Option<Place>,
+    place: Option<ReadPlace>,
 }
 
 /// How much of which file was read. A file that isn't there has no bytes.
 #[derive(Clone, Copy)]
-struct Place {
+struct ReadPlace {
     file: usize,
     done: usize,
 }
@@ -46,7 +46,7 @@ impl OpenFiles {
         OpenFiles { files, place: None }
     }
 
-    /// Starts the first file with that name, and says whether there is one.
+    /// Starts the first file with that name, and returns whether there is one.
     pub fn open(&mut self, name: &str) -> bool
         ensures found { IsTrue result ↔ IsSome (bytes_of_name self.old.files name.now) }
         ensures started { OnTrue result (self.new.started ≡ place_in self.old.files name.now) }
@@ -58,21 +58,21 @@ impl OpenFiles {
     {
         match place_of(&self.files, name) {
             Some(file) => {
-                self.place = Some(Place { file, done: 0 });
+                self.place = Some(ReadPlace { file, done: 0 });
                 true
             }
             None => false,
         }
     }
 
-    /// Where the first file with that name stands.
+    /// The place of the first file with that name.
     pub fn place_of(&self, name: &str) -> Option<usize>
         ensures { result ≡ place_in self.now.files name.now }
     {
         place_of(&self.files, name)
     }
 
-    /// Where the file that was started stands.
+    /// The place of the file that was started.
     pub fn started(&self) -> Option<usize>
         ensures { result ≡ self.now.started }
     {
@@ -88,10 +88,10 @@ impl OpenFiles {
         ensures files { self.new.files ≡ self.old.files }
     {
         let file = self.files.len();
-        self.place = Some(Place { file, done: 0 });
+        self.place = Some(ReadPlace { file, done: 0 });
     }
 
-    /// Moves the next bytes to the front of `buf`, and says how many.
+    /// Moves the next bytes to the front of `buf`, and returns how many.
     pub fn read(&mut self, buf: &mut [u8]) -> usize
         requires { IsSome self.old.remaining }
         ensures bound { result ≤ length buf.new }
@@ -106,19 +106,19 @@ impl OpenFiles {
         let count = rest.len().min(buf.len());
         buf[..count].copy_from_slice(&rest[..count]);
         let done = place.done + count;
-        self.place = Some(Place { done, ..place });
+        self.place = Some(ReadPlace { done, ..place });
         count
     }
 }
 
-/// Where the first file with that name stands.
+/// The place of the first file with that name.
 fn place_of(files: &[(Word, Vec<u8>)], name: &str) -> Option<usize>
     ensures { result ≡ position (λ file. bytes_eq file.0 name.now) files.now }
 {
     files.iter().position(|file| file.0.text() == name)
 }
 
-/// The bytes of the file at a place, and none where no file stands.
+/// The bytes of the file at a place, and none where there is no file.
 fn bytes_of(files: &[(Word, Vec<u8>)], place: usize) -> &[u8]
     ensures { result.now ≡ bytes_at (files_of files.now) place }
 {

@@ -39,9 +39,9 @@ impl Script {
 
 /// The whole text of the script with that name.
 ///
-/// `ReadFault` where the source failed at this name, `TooLong` where more than `MOST_BYTES` bytes come (the rest
-/// isn't read), `NotText` where the whole isn't UTF-8, `Memory` where memory ran out. All memory is
-/// taken before the first byte is read, so `Memory` leaves the source as it was.
+/// `ReadFault` where the source failed at this name, `TooLong` where more than `MOST_BYTES` bytes
+/// come (the rest isn't read), `NotText` where the whole isn't UTF-8, `Memory` where memory ran
+/// out. All memory is taken before the first byte is read, so `Memory` leaves the source as it was.
 pub fn read_all<S: Scripts>(alloc: Global, scripts: &mut S, name: &str) -> Result<Script, ReadError>
     ensures told { IfOk result (λ text.
         IfSome (S.bytes_of scripts.old name.now) (λ bytes. text ≡ bytes)) }

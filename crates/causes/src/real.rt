@@ -8,7 +8,8 @@ use std::fs;
 use std::io::{Read, Write};
 use std::rt::Files;
 
-/// The files of the system: a script's name is its path. It tells no bytes, and no names apart.
+/// The files of the system: a script's name is its path. Contracts know no bytes of it, and don't
+/// distinguish names.
 ///
 /// Each error counts as a fault, also that of an interrupted call.
 #[derive(Drop)]
@@ -76,7 +77,8 @@ impl<R: Files> Scripts for FileScripts<R> {
     }
 }
 
-/// A writer of the system, as standard output. It flushes with each write, and tells no bytes.
+/// A writer of the system, as standard output. It flushes with each write, and contracts know no
+/// bytes of it.
 ///
 /// Each error counts as a fault, and so does a write that takes no byte.
 #[derive(Drop)]

@@ -6,10 +6,10 @@ use crate::error::Failed;
 
 /// Where written bytes go.
 ///
-/// `Failed` says that the count of faults rose in that call. The count never falls, and at 2^64 - 1,
-/// where it stays, it is held to have risen.
+/// `Failed` says that the count of faults rose in that call. The count never falls, and at 2^64 -
+/// 1, where it stays, it is held to have risen.
 pub trait Sink {
-    // The bytes that the sink holds, where they are told.
+    // The bytes that the sink holds, where they are known.
     ghost contents: { Self → Option (List ℕ) };
 
     // How many faults were counted.

@@ -7,26 +7,26 @@ use crate::error::Failed;
 
 /// Where the bytes of named scripts come from, one script at a time.
 ///
-/// `Failed` says that the count of faults rose in that call, and it rises in no other. It never falls, and
-/// at 2^64 - 1, where it stays, it is held to have risen. A fault comes at the name that is to be started, or
-/// at the one that is read, and the source keeps at which name the last one came.
+/// `Failed` says that the count of faults rose in that call, and it rises in no other. It never
+/// falls, and at 2^64 - 1, where it stays, it is held to have risen. A fault comes at the name that
+/// is to be started, or at the one that is read, and the source keeps the name of the last one.
 pub trait Scripts {
-    // The bytes of each name, where they are told.
+    // The bytes of each name, where they are known.
     ghost bytes_of: { Self → List ℕ → Option (List ℕ) };
 
     // Whether a name is started.
     ghost is_started: { Self → Type 0 };
 
-    // Whether a name is the started one, as far as the source tells names apart.
+    // Whether a name is the started one, as far as the source distinguishes names.
     ghost is_reading: { Self → List ℕ → Type 0 };
 
-    // What is left of the started name, where it is told.
+    // What is left of the started name, where it is known.
     ghost remaining: { Self → Option (List ℕ) };
 
     // How many faults were counted.
     ghost faults: { Self → ℕ };
 
-    // Whether the last fault came at a name, as far as the source tells names apart.
+    // Whether the last fault came at a name, as far as the source distinguishes names.
     ghost failed_at: { Self → List ℕ → Type 0 };
 
     /// Begins with the script of that name. `Failed` leaves the reading where it was.
@@ -46,7 +46,7 @@ pub trait Scripts {
         ensures unfailed { OnOk result ((other : List ℕ) →
             failed_at self.old other ↔ failed_at self.new other) };
 
-    /// Gives the next bytes of the started name at the front of `buf`, at least one of them unless
+    /// Puts the next bytes of the started name at the front of `buf`, at least one of them unless
     /// none is left. `Failed` takes none.
     fn read(&mut self, buf: &mut [u8]) -> Result<usize, Failed>
         requires started { is_started self.old }

@@ -40,7 +40,7 @@ impl Scripts for SureScripts {
 
     ghost is_started = { λ s. IsSome s.remaining };
 
-    // No name needs to be told apart, since none ever fails.
+    // No name needs to be distinguished, since none ever fails.
     ghost is_reading = { λ _ _. Unit {0} };
 
     ghost remaining = { λ s. s.remaining };

@@ -19,7 +19,6 @@ pub fn kind_of(cell: &Cell) -> Option<Kind>
     }
 }
 
-/// The two are equal.
 fn is_same(a: Kind, b: Kind) -> bool
     ensures { result ≡ kinds.same_kind a b }
 {
@@ -50,7 +49,8 @@ pub fn is_numeric(kind: Option<Kind>) -> bool
     agrees(kind, Some(Kind::Int)) || agrees(kind, Some(Kind::Huge))
 }
 
-/// Whether cells of these kinds compare: numbers with numbers, other cells with those of their kind.
+/// Whether cells of these kinds compare: numbers with numbers, other cells with those of their
+/// kind.
 pub fn are_comparable(a: Option<Kind>, b: Option<Kind>) -> bool
     ensures comparable { result ≡ kinds.are_comparable a b }
 {

@@ -22,7 +22,7 @@ int n = Int (pos n)
 abbrev tails : List Cell → Value
 tails cells = Bat (numbered cells)
 
--- the table 3, 1, 2, and the same with a Nil behind
+-- the table 3, 1, 2, and the same with a Nil at the end
 abbrev three : Value
 three = tails (int 3 ∷ int 1 ∷ int 2 ∷ [])
 

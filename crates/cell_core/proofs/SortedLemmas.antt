@@ -1,4 +1,4 @@
--- A list that is sorted, and in which ties stand as they stood, is the one that `sorted_by` gives.
+-- A sorted list in which ties keep their order is the one that `sorted_by` makes.
 use Rattle.std.proofs.Common.{◌≡◌, suc, List, [], ◌∷◌, Bool, true, false, not, ◌&&◌, cond, refl, ap, sym, ◌∙◌, arith, add-one}
 use Rattle.std.specs.Prelude.{filter}
 use Rattle.std.specs.List.{AllByRecursion}
@@ -130,6 +130,6 @@ module _ {X : Type 0} (below : X → X → Bool) (order : IsStrictWeakOrder belo
       let here : below z y ≡ false = up 0 y (omega arith) (omega arith) in
       ((here, all_further z y zs here later.0), later)
 
-  -- a stable sort gives `sorted_by`
+  -- a stable sort yields `sorted_by`
   pub sorted_is : (xs ys : List X) → IsSortedBy below ys → IsStableBy below xs ys → ys ≡ sorted_by below xs
   sorted_is xs ys up stable = one_order ys (sorted_by below xs) (ascends ys up) (sort_ascends xs) (λ w. stable w ∙ sym (sort_ties w xs))

@@ -1,4 +1,4 @@
--- Values of stated types: what stands in front.
+-- Values of stated types: the first ones.
 use Rattle.std.specs.Prelude.{◌≡◌, List, [], ◌∷◌, true, Option, refl}
 use Rattle.std.specs.Cmp.{first_so, second_so}
 use Rattle.std.proofs.Common.{ap, ◌∙◌}

@@ -1,9 +1,12 @@
--- What the functions of cells give, and the same functions over BATs. None is an overflow.
-use Rattle.std.specs.Prelude.{ℕ, ◌-◌, ◌^◌, List, [], ◌∷◌, map, zip, Bool, true, false, not, ◌&&◌, ◌||◌, if◌then◌else◌, ℤ, pos, negsuc, int_le, Option, Some, None}
+-- What the functions of cells return, and the same functions over BATs. None is an overflow.
+use Rattle.std.specs.Prelude.{ℕ, ◌-◌, ◌^◌, List, [], ◌∷◌, map, zip, Bool, true, false, not, ◌&&◌, ◌||◌, if◌then◌else◌, ℤ, ◌+ℤ◌, ◌-ℤ◌, ◌*ℤ◌, pos, negsuc, int_le, Option, Some, None}
 use Rattle.std.specs.Option.{option_map, option_and_then}
 use Rattle.std.specs.declared.cmp.Ordering.{Ordering}
+use Rattle.std.specs.Ordering.{is_eq, is_ne, is_lt, is_le, is_gt, is_ge}
 use Rattle.cell_core.specs.declared.cell.Cell.{Cell}
 use Rattle.cell_core.specs.declared.cell.Cell.TheVariants.{Nil, Int, Bit}
+use Rattle.cell_core.specs.declared.operator.Op.{Op}
+use Rattle.cell_core.specs.declared.operator.Op.TheVariants as op
 use Rattle.cell_core.specs.declared.operator.Value.{Value}
 use Rattle.cell_core.specs.declared.operator.Value.TheVariants.{Bat, One}
 use Rattle.cell_core.specs.Order.{number, cell_cmp}
@@ -55,6 +58,23 @@ over_two f _ = None
 abbrev pub over_one : (Cell → Option Cell) → List Cell → Option Cell
 over_one f (x ∷ []) = f x
 over_one f _ = None
+
+-- the function of cells that an operator names, over a row of arguments; other operators name none
+abbrev pub row_function : Op → List Cell → Option Cell
+row_function op.Plus = over_two (arithmetic (λ x y. x +ℤ y))
+row_function op.Minus = over_two (arithmetic (λ x y. x -ℤ y))
+row_function op.Times = over_two (arithmetic (λ x y. x *ℤ y))
+row_function op.Eq = over_two (λ x y. Some (comparison is_eq x y))
+row_function op.Ne = over_two (λ x y. Some (comparison is_ne x y))
+row_function op.Lt = over_two (λ x y. Some (comparison is_lt x y))
+row_function op.Le = over_two (λ x y. Some (comparison is_le x y))
+row_function op.Gt = over_two (λ x y. Some (comparison is_gt x y))
+row_function op.Ge = over_two (λ x y. Some (comparison is_ge x y))
+row_function op.And = over_two (λ x y. Some (conjunction x y))
+row_function op.Or = over_two (λ x y. Some (disjunction x y))
+row_function op.Not = over_one (λ x. Some (negation x))
+row_function op.IsNil = over_one (λ x. Some (nil_test x))
+row_function _ = λ row. None
 
 -- all of them, or an overflow where one is
 abbrev pub all_or_none : {X : Type 0} → List (Option X) → Option (List X)

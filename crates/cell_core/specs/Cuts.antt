@@ -19,7 +19,7 @@ cut_rank (Before c) = 1
 cut_rank (After c) = 1
 cut_rank High = 2
 
--- the cell at which a cut stands, where Low and High have Nil
+-- the cell at which a cut is, where Low and High have Nil
 abbrev pub cut_cell : Cut → Cell
 cut_cell Low = Nil
 cut_cell (Before c) = c
@@ -39,15 +39,15 @@ cut_cmp a b = ordering_then (nat_cmp (cut_rank a) (cut_rank b)) (ordering_then (
 pub cut_cmp_total : IsTotalOrder cut_cmp
 cut_cmp_total = then_total (on_total cut_rank nat_cmp_total) (then_total (on_total cut_cell cell_cmp_total) (on_total cut_side nat_cmp_total))
 
--- a cut stands strictly before another
+-- a cut is strictly before another
 abbrev pub is_cut_below : Cut → Cut → Bool
 is_cut_below a b = is_lt (cut_cmp a b)
 
--- a cut stands before another or compares equal to it
+-- a cut is before another or compares equal to it
 abbrev pub is_cut_up_to : Cut → Cut → Bool
 is_cut_up_to a b = is_le (cut_cmp a b)
 
--- a span holds its low end and what follows it, up to but not with its high end
+-- a span holds its low end and what follows it, up to its high end, which it excludes
 abbrev pub lies_in : Span → Cut → Bool
 lies_in span cut = is_cut_up_to span.low cut && is_cut_below cut span.high
 
@@ -55,7 +55,7 @@ lies_in span cut = is_cut_up_to span.low cut && is_cut_below cut span.high
 abbrev pub stops : Span → List Span → List Cut
 stops target spans = target.low ∷ filter (lies_in target) (map (λ s. s.high) spans)
 
--- a target that isn't empty is covered if at every such stop some span goes on
+-- a target that isn't empty is covered if at every such stop some span continues
 abbrev pub covers : Span → List Span → Bool
 covers target spans =
     is_cut_below target.low target.high && list_all (λ stop. list_any (λ s. lies_in s stop) spans) (stops target spans)

@@ -7,7 +7,7 @@ use Rattle.jiff_core.specs.Calendar.{days_in_year, days_in_month, days_from_civi
 
 -- ## Reading
 
--- two digits stand at a place of the text
+-- the text has two digits at a place
 abbrev pub HasTwoDigits : List ℕ → ℕ → Type 0
 HasTwoDigits text place =
     IsAsciiDigit (slice_index text place) × IsAsciiDigit (slice_index text (place + 1))

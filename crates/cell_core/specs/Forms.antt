@@ -1,5 +1,9 @@
--- What each operator takes and gives.
-use Rattle.std.specs.Prelude.{ℕ}
+-- What each operator takes and returns.
+use Rattle.std.specs.Prelude.{ℕ, List, Bool, true, false, get_or}
+use Rattle.std.specs.List.{list_any}
+use Rattle.cell_core.specs.declared.operator.Arg.{Arg}
+use Rattle.cell_core.specs.declared.operator.Arg.TheVariants.{Const, Var}
+use Rattle.cell_core.specs.declared.operator.Instr.{Instr}
 use Rattle.cell_core.specs.declared.operator.Op.{Op}
 use Rattle.cell_core.specs.declared.operator.Op.TheVariants as op
 use Rattle.cell_core.specs.declared.form.Form.{Form}
@@ -55,3 +59,38 @@ count_taken form.OneCell = 1
 
 abbrev pub argument_count : Op → ℕ
 argument_count operator = count_taken (form_of operator)
+
+-- a function of cells, which takes scalars as well as BATs
+abbrev pub is_calc_form : Form → Bool
+is_calc_form form.TwoCells = true
+is_calc_form form.OneCell = true
+is_calc_form _ = false
+
+abbrev pub is_calc : Op → Bool
+is_calc operator = is_calc_form (form_of operator)
+
+-- the operators that may overflow
+abbrev pub may_overflow : Op → Bool
+may_overflow op.Plus = true
+may_overflow op.Minus = true
+may_overflow op.Times = true
+may_overflow _ = false
+
+-- ## Which results are BATs
+
+-- the argument is the result of an instruction whose result is a BAT
+abbrev pub is_bat : List Bool → Arg → Bool
+is_bat bats (Const cell) = false
+is_bat bats (Var n) = get_or bats n false
+
+-- an operator of this form gives a BAT: aggregates of all tails give scalars, and functions of cells
+-- give a BAT where an argument is one
+abbrev pub gives_bat : Form → Bool → Bool
+gives_bat form.Total taken = false
+gives_bat form.TwoCells taken = taken
+gives_bat form.OneCell taken = taken
+gives_bat _ taken = true
+
+-- the result of the instruction is a BAT, where this is known of the results before it
+abbrev pub is_bat_result : List Bool → Instr → Bool
+is_bat_result bats instr = gives_bat (form_of instr.op) (list_any (is_bat bats) instr.args)

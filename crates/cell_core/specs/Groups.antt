@@ -1,4 +1,4 @@
--- What the grouping operators and the aggregates give. A group has a number, by its first occurrence; here Nil is the same as Nil.
+-- What the grouping operators and the aggregates return. A group has a number, by its first occurrence; here Nil is the same as Nil.
 use Rattle.std.specs.Prelude.{ℕ, List, [], ◌∷◌, length, map, filter, fold, Bool, not, ◌&&◌, zip, find, unwrap_or, pos, ◌+ℤ◌}
 use Rattle.std.specs.List.{list_all, position_or_len}
 use Rattle.std.specs.Ordering.{is_le, is_ge}

@@ -16,12 +16,12 @@ place_in place row = slice_index_or row place Nil
 abbrev pub key_cmp : ℕ × Bool → List Cell → List Cell → Ordering
 key_cmp key a b = if key.1 then cell_cmp (place_in key.0 a) (place_in key.0 b) else cell_cmp (place_in key.0 b) (place_in key.0 a)
 
--- rows compare by the first key that tells them apart, else by their cells
+-- rows compare by the first key that distinguishes them, else by their cells
 abbrev pub keyed_cmp : List (ℕ × Bool) → List Cell → List Cell → Ordering
 keyed_cmp [] a b = cells_cmp a b
 keyed_cmp (key ∷ keys) a b = ordering_then (key_cmp key a b) (keyed_cmp keys a b)
 
--- a row stands before another
+-- a row comes before another
 abbrev pub is_keyed_below : List (ℕ × Bool) → List Cell → List Cell → Bool
 is_keyed_below keys a b = is_lt (keyed_cmp keys a b)
 

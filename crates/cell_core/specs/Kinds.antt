@@ -94,7 +94,7 @@ abbrev pub cells_kind : ValueType → Option Kind
 cells_kind (OneOf k) = k
 cells_kind (BatOf head tail) = tail
 
--- what a function of cells gives: a scalar, or a BAT with the head kind of the first BAT
+-- the type of what a function of cells returns: a scalar, or a BAT with the head kind of the first BAT
 abbrev pub calculated_type : Kind → List ValueType → ValueType
 calculated_type k [] = OneOf (Some k)
 calculated_type k (BatOf head tail ∷ types) = BatOf head (Some k)

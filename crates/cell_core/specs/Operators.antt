@@ -1,7 +1,6 @@
 -- The table of operators: the value, the overflow and the work of each.
-use Rattle.std.specs.Prelude.{ℕ, ◌+◌, List, [], ◌∷◌, sum_by, ◌+ℤ◌, ◌-ℤ◌, ◌*ℤ◌, Option, Some, None, unwrap_or}
+use Rattle.std.specs.Prelude.{ℕ, ◌+◌, List, [], ◌∷◌, sum_by, Option, Some, None, unwrap_or}
 use Rattle.std.specs.Option.{option_map_or}
-use Rattle.std.specs.Ordering.{is_eq, is_ne, is_lt, is_le, is_gt, is_ge}
 use Rattle.cell_core.specs.declared.cell.Cell.{Cell}
 use Rattle.cell_core.specs.declared.operator.Op.{Op}
 use Rattle.cell_core.specs.declared.operator.Op.TheVariants as op
@@ -10,7 +9,7 @@ use Rattle.cell_core.specs.declared.operator.Value.TheVariants.{Bat, One}
 use Rattle.cell_core.specs.Pairs.{Pairs, tails_of, is_true, pair_count, shortest}
 use Rattle.cell_core.specs.Relations.{selected, semijoined, kdifference_of, kunion_of, reversed, mirrored, marked, projected, crossed, joined}
 use Rattle.cell_core.specs.Groups.{grouped, derived, group_heads_of, counted, summed, least, greatest, by_group}
-use Rattle.cell_core.specs.Calc.{arithmetic, comparison, conjunction, disjunction, negation, nil_test, over_two, over_one, calculated}
+use Rattle.cell_core.specs.Calc.{row_function, calculated}
 
 -- ## Arguments
 
@@ -60,19 +59,19 @@ operate op.Subcount = of_bats (λ b g. Bat (by_group counted b g))
 operate op.Subsum = of_bats (λ b g. Bat (by_group summed b g))
 operate op.Submin = of_bats (λ b g. Bat (by_group least b g))
 operate op.Submax = of_bats (λ b g. Bat (by_group greatest b g))
-operate op.Plus = calculated (over_two (arithmetic (λ x y. x +ℤ y)))
-operate op.Minus = calculated (over_two (arithmetic (λ x y. x -ℤ y)))
-operate op.Times = calculated (over_two (arithmetic (λ x y. x *ℤ y)))
-operate op.Eq = calculated (over_two (λ x y. Some (comparison is_eq x y)))
-operate op.Ne = calculated (over_two (λ x y. Some (comparison is_ne x y)))
-operate op.Lt = calculated (over_two (λ x y. Some (comparison is_lt x y)))
-operate op.Le = calculated (over_two (λ x y. Some (comparison is_le x y)))
-operate op.Gt = calculated (over_two (λ x y. Some (comparison is_gt x y)))
-operate op.Ge = calculated (over_two (λ x y. Some (comparison is_ge x y)))
-operate op.And = calculated (over_two (λ x y. Some (conjunction x y)))
-operate op.Or = calculated (over_two (λ x y. Some (disjunction x y)))
-operate op.Not = calculated (over_one (λ x. Some (negation x)))
-operate op.IsNil = calculated (over_one (λ x. Some (nil_test x)))
+operate op.Plus = calculated (row_function op.Plus)
+operate op.Minus = calculated (row_function op.Minus)
+operate op.Times = calculated (row_function op.Times)
+operate op.Eq = calculated (row_function op.Eq)
+operate op.Ne = calculated (row_function op.Ne)
+operate op.Lt = calculated (row_function op.Lt)
+operate op.Le = calculated (row_function op.Le)
+operate op.Gt = calculated (row_function op.Gt)
+operate op.Ge = calculated (row_function op.Ge)
+operate op.And = calculated (row_function op.And)
+operate op.Or = calculated (row_function op.Or)
+operate op.Not = calculated (row_function op.Not)
+operate op.IsNil = calculated (row_function op.IsNil)
 
 -- ## Work
 

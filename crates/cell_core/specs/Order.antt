@@ -58,6 +58,6 @@ cell_cmp_total = then_total (on_total rank nat_cmp_total) (then_total (on_total 
 pub cells_cmp_total : IsTotalOrder cells_cmp
 cells_cmp_total = lists_total cell_cmp_total
 
--- a row stands before another
+-- a row comes before another
 abbrev pub is_row_below : List Cell → List Cell → Bool
 is_row_below a b = is_lt (cells_cmp a b)

@@ -1,5 +1,5 @@
 ghost use Rattle.std.specs.Prelude.{◌≡◌, IfOk};
-ghost use Rattle.cell_core.specs.Pairs.{is_nil};
+ghost use Rattle.cell_core.specs.Pairs.{is_nil, is_true};
 
 use crate::memory::Memory;
 use crate::word::Word;
@@ -40,7 +40,7 @@ pub enum Cell {
     Oid(u64),
 }
 
-// By a call of its own, so that proofs needn't go through its forms where one is let go.
+// By a call of its own, so that proofs needn't go through its forms where one is dropped.
 impl Drop for Cell {
     fn drop(self) {
         match self {
@@ -61,6 +61,13 @@ impl Cell {
         ensures { result ≡ is_nil self.now }
     {
         matches!(self, Cell::Nil)
+    }
+
+    /// Whether it is true, and neither false nor Nil.
+    pub fn is_true(&self) -> bool
+        ensures { result ≡ is_true self.now }
+    {
+        matches!(self, Cell::Bit(true))
     }
 
     /// An equal cell, which shares the text.

@@ -18,7 +18,7 @@ pub enum Cut {
     High,
 }
 
-// By a call of its own, so that proofs needn't go through its forms where one is let go.
+// By a call of its own, so that proofs needn't go through its forms where one is dropped.
 impl Drop for Cut {
     fn drop(self) {
         match self {
@@ -35,7 +35,7 @@ pub struct Span {
     pub high: Cut,
 }
 
-// By a call of its own, so that proofs needn't go through its forms where one is let go.
+// By a call of its own, so that proofs needn't go through its forms where one is dropped.
 impl Drop for Span {
     fn drop(self) {
         let Span { low: _, high: _ } = self;

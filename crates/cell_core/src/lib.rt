@@ -1,14 +1,13 @@
-//! Cells, texts, tables and databases: what every other crate of the project speaks of.
+//! Cells, texts, tables and databases: the values that every other crate of the project uses.
 //!
-//! It stands on no other crate. It promises the one order of cells (`compare`), their stated size
-//! (`stated_bytes`), and values that are shared and not copied (`Word::share`, `Cell::share`). `Steps`
-//! counts stated work.
+//! It uses no other crate. It promises the one order of cells (`compare`), their stated size
+//! (`stated_bytes`), and values that are shared and not copied (`Word::share`, `Cell::share`).
+//! `Steps` counts stated work.
 //!
-//! Its definitions say what each operator of a plan (`Op`) gives, when it overflows, how much work it
-//! is, and which arguments fit it; a BAT is a list of pairs of cells there. A span of cells lies
-//! between two cuts of their order (`Cut`, `Span`), and spans may cover another.
-//! What text a cell and a day have is defined here, too (`CellText`, `Day`); `cell_text` reads and
-//! writes it.
+//! Its definitions say what each operator of a plan (`Op`) returns, when it overflows, how much
+//! work it is, and which arguments fit it; a BAT is a list of pairs of cells there. A span of cells
+//! lies between two cuts of their order (`Cut`, `Span`), and spans may cover another. The texts of
+//! cells and days are defined here, too (`CellText`, `Day`); `cell_text` reads and writes them.
 #![tactic(auto)]
 
 mod cell;
@@ -25,7 +24,7 @@ mod word;
 
 pub use cell::{Cell, Kind};
 pub use cut::{Cut, Span, compare_cuts};
-pub use form::Form;
+pub use form::{Form, takes_bat};
 pub use memory::{Memory, RunError};
 pub use operator::{Arg, Instr, Op, Value, class_of, copy_args, equal_instrs_are_the_same};
 pub use order::{compare, stated_bytes};

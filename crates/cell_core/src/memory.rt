@@ -3,7 +3,7 @@ ghost use Rattle.std.specs.Prelude.{◌≡◌};
 
 use std::alloc::{AllocError, AllocFailed};
 
-/// Memory ran out. It is the one answer that may come at any time.
+/// Memory ran out. It is the only error that may come at any time.
 #[derive(Clone, Copy, Debug, PartialEq, Eq)]
 pub struct Memory;
 

@@ -20,7 +20,7 @@ pub enum Op {
     Kdifference,
     /// All pairs, and those of the other BAT that have a new head.
     Kunion,
-    /// The pairs turned round.
+    /// The pairs with head and tail exchanged.
     Reverse,
     /// Each head beside itself.
     Mirror,
@@ -97,7 +97,7 @@ pub enum Arg {
     Var(u32),
 }
 
-// By a call of its own, so that proofs needn't go through its forms where one is let go.
+// By a call of its own, so that proofs needn't go through its forms where one is dropped.
 impl Drop for Arg {
     fn drop(self) {
         match self {
@@ -114,7 +114,7 @@ pub struct Instr {
     pub args: Sequence<Arg>,
 }
 
-// By a call of its own, so that proofs needn't go through its forms where one is let go.
+// By a call of its own, so that proofs needn't go through its forms where one is dropped.
 impl Drop for Instr {
     fn drop(self) {
         let Instr { op: _, args: _ } = self;
@@ -185,8 +185,8 @@ impl Eq for Instr {
     ghost laws = { same_instr_equivalence };
 }
 
-/// Instructions are equal exactly where they are the same: operator and arguments (an Int and a Huge
-/// of one number differ).
+/// Instructions are equal exactly where they are the same: operator and arguments (an Int and a
+/// Huge of one number differ).
 pub fn equal_instrs_are_the_same(a: &Instr, b: &Instr)
     ensures { (same_instr a.now b.now ≡ true) ↔ (a.now ≡ b.now) }
 {
@@ -213,7 +213,7 @@ pub enum Value {
     One(Cell),
 }
 
-// By a call of its own, so that proofs needn't go through its forms where one is let go.
+// By a call of its own, so that proofs needn't go through its forms where one is dropped.
 impl Drop for Value {
     fn drop(self) {
         match self {

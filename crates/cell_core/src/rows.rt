@@ -33,7 +33,8 @@ pub fn compare_rows(a: &[Cell], b: &[Cell]) -> Ordering
     }
 }
 
-/// Puts rows into ascending order; rows that tie keep their order. Memory leaves them as they were.
+/// Sorts rows in ascending order; rows that tie keep their order. Where memory runs out, they stay
+/// as they were.
 pub fn sort_rows(rows: &mut Vec<Sequence<Cell>>) -> Result<(), Memory>
     ensures ok { OnOk result (rows.new.items ≡ sorted_by is_row_below rows.old.items) }
     ensures err { OnErr result (rows.new.items ≡ rows.old.items) }
@@ -43,7 +44,7 @@ pub fn sort_rows(rows: &mut Vec<Sequence<Cell>>) -> Result<(), Memory>
 }
 
 /// Rows compare by the cells at some places, each ascending (true) or descending, and then by all
-/// cells. A place behind a row's end counts as Nil.
+/// cells. A place after a row's end counts as Nil.
 pub fn compare_rows_by(keys: &[(u32, bool)], a: &[Cell], b: &[Cell]) -> Ordering
     ensures { result ≡ keyed_cmp keys.now a.now b.now }
 {
@@ -83,7 +84,7 @@ fn compare_at(key: (u32, bool), a: &[Cell], b: &[Cell]) -> Ordering
     }
 }
 
-/// Puts rows into their order by keys; rows that tie keep their order. Memory leaves them as they
+/// Sorts rows by keys; rows that tie keep their order. Where memory runs out, they stay as they
 /// were.
 pub fn sort_rows_by(rows: &mut Vec<Sequence<Cell>>, keys: &[(u32, bool)]) -> Result<(), Memory>
     ensures ok { OnOk result (rows.new.items ≡ sorted_by (is_keyed_below keys.now) rows.old.items) }

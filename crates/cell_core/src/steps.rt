@@ -32,7 +32,7 @@ impl<L: Ledger> Steps<L> {
         Steps { book, share }
     }
 
-    /// The counter rises by `count`.
+    /// Adds `count` to the counter.
     pub fn add(&mut self, count: u64)
         ensures { self.new ≡ self.old + count }
     {

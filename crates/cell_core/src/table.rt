@@ -22,7 +22,7 @@ pub struct Column {
     pub default: Cell,
 }
 
-// By a call of its own, so that proofs needn't go through its forms where one is let go.
+// By a call of its own, so that proofs needn't go through its forms where one is dropped.
 impl Drop for Column {
     fn drop(self) {
         let Column {
@@ -45,7 +45,7 @@ pub struct Table {
     pub rows: Sequence<Sequence<Cell>>,
 }
 
-// By a call of its own, so that proofs needn't go through its forms where one is let go.
+// By a call of its own, so that proofs needn't go through its forms where one is dropped.
 impl Drop for Table {
     fn drop(self) {
         let Table {

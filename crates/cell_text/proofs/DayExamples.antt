@@ -1,4 +1,4 @@
--- Texts of days, as calendars give them.
+-- Texts of days, as calendars show them.
 use Rattle.std.proofs.Common.{◌≡◌, refl, pos, negsuc}
 use Rattle.std.specs.Prelude.{codes}
 use Rattle.std.specs.Fmt.{digits}

@@ -180,7 +180,7 @@ is_printed_day-true n h = search rules
 is_printed_day-false : (n : ℤ) → ¬ IsPrintedDay n → is_printed_day n ≡ false
 is_printed_day-false n h = search rules
 
--- what tells whether it is one is the test
+-- a bit that says whether it is one is the test
 pub is_printed_day-told : (b : Bool) (n : ℤ) → (IsTrue b ↔ IsPrintedDay n) → b ≡ is_printed_day n
 is_printed_day-told true n h = sym (is_printed_day-true n (h.0 refl))
 is_printed_day-told false n h = sym (is_printed_day-false n (λ printed. let yes = h.1 printed in cc))
@@ -190,7 +190,7 @@ day_text-found : (n : ℤ) → IsPrintedDay n → day_text n ≡ date_text (plac
 unfolding day_text
 day_text-found n h = rw (is_printed_day-true n h) refl
 
--- any other day stands as its number
+-- any other day is written as its number
 pub day_text-number : (n : ℤ) → ¬ IsPrintedDay n → day_text n ≡ signed_decimal n
 unfolding day_text
 day_text-number n h = rw (is_printed_day-false n h) refl
@@ -255,7 +255,7 @@ printed_year date h =
     (λ less. absurd (omega (arith, signed_arith, days_from_civil-day_count, day_count-first, day_count-lt_year date.year date.month date.day (pos 1) 1 1 (civil date) (omega arith) less)))
     (λ more. more)
 
--- what jiff gives for a day of these years
+-- the date that jiff returns for a day of these years
 pub record IsJiffDate (n : ℤ) (date : Date) : Type 0 where
   pub year : pos 1 ≤ℤ date.year
   pub text : day_text n ≡ date_text (unsigned_abs date.year) date.month date.day
@@ -279,7 +279,7 @@ month_in-date_text year month day h = omega arith
 day_of_month_in-date_text : (year month day : ℕ) → day < 100 → day_of_month_in (date_text year month day) ≡ day
 day_of_month_in-date_text year month day h = omega arith
 
--- the parts of a date have as many digits as its text gives them
+-- the parts of a date have no more digits than its text has room for
 record HasRoom (year month day : ℕ) : Type 0 where
   year_digits : year < 10000
   month_digits : month < 100

@@ -15,7 +15,7 @@ length-escaped_byte byte = grind (arith, nat_tests)
 escaped_cons : (byte : ℕ) (rest : List ℕ) → is_backslash byte ≡ false → escaped_text rest ≡ rest → escaped_text (byte ∷ rest) ≡ byte ∷ rest
 escaped_cons byte rest here after = rw (here, after) refl
 
--- a text with no backslash stands as it is
+-- a text with no backslash is written as it is
 pub escaped_text-plain : (text : List ℕ) → count_by is_backslash text ≡ 0 → escaped_text text ≡ text
 escaped_text-plain [] h = refl
 escaped_text-plain (byte ∷ rest) h =

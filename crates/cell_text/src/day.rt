@@ -29,7 +29,7 @@ pub fn read_day(text: &str) -> Option<i32>
     civil_day(year, month, day)
 }
 
-/// The number that the two digits at a place write, if digits stand there.
+/// The number that the two digits at a place write, if there are digits.
 fn number_at(text: &[u8], place: usize) -> Option<u8>
     requires { place + 1 < length text.now }
     ensures digits { OnSome result (HasTwoDigits text.now place) }
@@ -80,8 +80,8 @@ const FIRST_PRINTED_DAY: i32 = -719_162;
 /// The last one, 9999-12-31.
 const LAST_PRINTED_DAY: i32 = 2_932_896;
 
-/// Whether a day prints as its date, which lies in the years 0001 to 9999. Any other day prints as its
-/// number, and no text of a date names it.
+/// Whether a day prints as its date, which lies in the years 0001 to 9999. Any other day prints as
+/// its number, and no text of a date names it.
 pub fn is_printed_day(day: i32) -> bool
     ensures test { result ≡ is_printed_day day }
     ensures day { IsTrue result ↔ IsPrintedDay day }
@@ -97,7 +97,6 @@ pub(crate) fn day_bytes(day: i32) -> [u8; 10]
     date_bytes(date_of(day))
 }
 
-/// The date of a day.
 fn date_of(day: i32) -> Date
     requires { IsPrintedDay day }
     ensures { epoch_day result ≡ day }

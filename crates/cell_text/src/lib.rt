@@ -1,8 +1,8 @@
-//! The texts of cells and days: written (`write_cell`) and, for days, read (`read_day`). `is_printed_day`
-//! tells which days have a date to write.
+//! The texts of cells and days: written (`write_cell`) and, for days, read (`read_day`).
+//! `is_printed_day` says which days have a date to write.
 //!
-//! What they are is defined in `cell_core/specs`: `CellText` and `Day`. Days stand on the calendar of
-//! `jiff`. They are a crate of their own, so that what only computes with cells is proved without a
+//! They are defined in `cell_core/specs`: `CellText` and `Day`. Days use the calendar of `jiff`.
+//! This is a crate of its own, so that crates which only compute with cells are proved without a
 //! calendar.
 #![tactic(auto)]
 

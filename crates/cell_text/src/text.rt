@@ -8,9 +8,9 @@ use itoa::{Buffer, Integer};
 
 /// Appends the text of a cell.
 ///
-/// Numbers stand in decimal. A day stands as its date, `YYYY-MM-DD`, and where that is of no year
-/// from 0001 to 9999, as its number. No value stands as `\N`, and a text as itself with two
-/// backslashes for one. Truth values stand as `true` and `false`, and the identifier `n` as `n@0`.
+/// Numbers are written in decimal. A day is written as its date, `YYYY-MM-DD`, and where its year
+/// isn't from 0001 to 9999, as its number. No value is `\N`, and a text is itself with two
+/// backslashes for one. Truth values are `true` and `false`, and the identifier `n` is `n@0`.
 /// Where memory runs out, `out` stays as it was.
 pub fn write_cell(cell: &Cell, out: &mut Vec<u8>) -> Result<(), Memory>
     ensures ok { OnOk result (out.new.items ≡ out.old.items ++ cell_text cell.now) }

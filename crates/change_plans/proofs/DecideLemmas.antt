@@ -13,11 +13,11 @@ use Rattle.cell_core.specs.declared.table.Table.{Table}
 use Rattle.pick_laws.proofs.ListLemmas.{map_after, map_agree, any_map, any_same}
 use Rattle.sql_tree.specs.Tree.{ExprTree, CondTree, StmtTree}
 use Rattle.sql_tree.specs.Tree.StmtTree.{CreateTable, DropTable, AlterTable, InsertInto, DeleteFrom, UpdateTable, Select, ExplainSelect}
-use Rattle.sql_semantics.specs.declared.refusal.Refusal.TheVariants.{TextTooLong, NullStored, Overflow}
-use Rattle.sql_semantics.specs.Check.{refused_if}
-use Rattle.sql_semantics.specs.Values.{value, cell_over, constant_overflows}
-use Rattle.sql_semantics.specs.Kept.{cond_overflows}
-use Rattle.sql_semantics.specs.Effect.{Change, own_table, is_hit, unless_refused, deleted, updated, updated_row, set_cell, is_too_long, is_null_refused, is_too_long_set, is_null_set, overflows_in, is_any_set}
+use Rattle.sql_definitions.specs.declared.refusal.Refusal.TheVariants.{TextTooLong, NullStored, Overflow}
+use Rattle.sql_definitions.specs.Check.{refused_if}
+use Rattle.sql_definitions.specs.Values.{value, cell_over, constant_overflows}
+use Rattle.sql_definitions.specs.Kept.{cond_overflows}
+use Rattle.sql_definitions.specs.Effect.{Change, own_table, is_hit, unless_refused, deleted, updated, updated_row, set_cell, is_too_long, is_null_refused, is_too_long_set, is_null_set, overflows_in, is_any_set}
 use Rattle.rows_to_mal.specs.Rows.{condition_of}
 use Rattle.rows_to_mal.specs.Writes.{is_write}
 use Rattle.change_plans.specs.declared.decided.Decided.{Decided}

@@ -1,4 +1,4 @@
--- What plans over a table of three rows give, and what is decided from it.
+-- What plans over a table of three rows return, and what is decided from it.
 use Rattle.std.proofs.Common.{◌≡◌, ℕ, List, [], ◌∷◌, true, false, Some, None, codes, refl}
 use Rattle.std.specs.Prelude.{Ok}
 use Rattle.std.specs.Str.{chars}
@@ -12,8 +12,8 @@ use Rattle.sql_tree.specs.Tree.CondTree.{Compare}
 use Rattle.sql_tree.specs.Tree.StmtTree.{DeleteFrom, UpdateTable}
 use Rattle.sql_tree.specs.declared.tree.ArithOp.TheVariants as op
 use Rattle.sql_tree.specs.declared.tree.CmpOp.TheVariants as cmp
-use Rattle.sql_semantics.specs.declared.refusal.Refusal.TheVariants.{TextTooLong, NullStored}
-use Rattle.sql_semantics.proofs.ExampleTrees.{int, number, col}
+use Rattle.sql_definitions.specs.declared.refusal.Refusal.TheVariants.{TextTooLong, NullStored}
+use Rattle.sql_definitions.proofs.ExampleTrees.{int, number, col}
 use Rattle.change_plans.specs.declared.decided.Decided.TheVariants.{Refused, Gone, Set}
 use Rattle.change_plans.specs.Hits.{rows_written}
 use Rattle.change_plans.specs.Decisions.{left_by, is_in_place, decided_by}

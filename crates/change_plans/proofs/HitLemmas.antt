@@ -11,9 +11,9 @@ use Rattle.cell_core.specs.Sorted.{sorted_by}
 use Rattle.pick_laws.specs.Picks.{row_numbers}
 use Rattle.pick_laws.proofs.ListLemmas.{map_after, map_agree, filter_map_swaps}
 use Rattle.sql_tree.specs.Tree.{ExprTree, CondTree}
-use Rattle.sql_semantics.specs.Values.{cell_over}
-use Rattle.sql_semantics.specs.Kept.{cond_overflows, is_kept}
-use Rattle.sql_semantics.specs.Effect.{own_table}
+use Rattle.sql_definitions.specs.Values.{cell_over}
+use Rattle.sql_definitions.specs.Kept.{cond_overflows, is_kept}
+use Rattle.sql_definitions.specs.Effect.{own_table}
 use Rattle.rows_to_mal.specs.Choices.{all_choices, choice_at, number_choices}
 use Rattle.rows_to_mal.specs.Laws.{UpdatesOverflow}
 use Rattle.rows_to_mal.specs.Writes.{overflows_for, written_row, written_rows}
@@ -32,7 +32,7 @@ at_end : {R : Type 0} (before : List R) (row : R) (rows : List R) (d : R) → ge
 at_end [] row rows d = refl
 at_end (x ∷ before) row rows d = at_end before row rows d
 
--- the elements behind others, each beside its number
+-- the elements after others, each beside its number
 numbers_behind : {R : Type 0} (before rows : List R) (d : R) (k : ℕ) → k ≡ length before → map (numbered_in (before ++ rows) d) (range_with_len k (length rows)) ≡ enumerate_from k rows
 numbers_behind before [] d k e = refl
 numbers_behind {R} before (row ∷ rows) d k e =

@@ -21,7 +21,7 @@ from_on j k [] few = tt
 from_on j k (row ∷ rows) few = (few, from_on j (k + 1) rows (omega arith))
 
 module _ {R : Type 0} (hit : R → Bool) where
-  -- the elements that pass, each behind its place
+  -- the elements that pass, each after its place
   abbrev pub listed : ℕ → List R → List (ℕ × R)
   listed k rows = filter (λ (at : ℕ × R). hit at.1) (enumerate_from k rows)
 

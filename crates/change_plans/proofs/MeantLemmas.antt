@@ -16,16 +16,16 @@ use Rattle.sql_tree.specs.declared.tree.Expr.{Expr}
 use Rattle.sql_tree.specs.Tree.{CondTree, StmtTree, set_tree, stmt_tree}
 use Rattle.sql_tree.specs.Tree.StmtTree.{CreateTable, DropTable, AlterTable, InsertInto, DeleteFrom, UpdateTable, Select, ExplainSelect}
 use Rattle.sql_grammar.specs.Formed.{IsFormed}
-use Rattle.sql_semantics.specs.declared.refusal.Refusal.{Refusal}
-use Rattle.sql_semantics.specs.declared.refusal.Refusal.TheVariants.{TextTooLong, NullStored, Overflow}
-use Rattle.sql_semantics.specs.declared.refusal.Reply.{Reply}
-use Rattle.sql_semantics.specs.declared.refusal.Reply.TheVariants as reply
-use Rattle.sql_semantics.specs.declared.source.Source.{Source}
-use Rattle.sql_semantics.specs.declared.source.Schema.{Schema}
-use Rattle.sql_semantics.specs.Sources.{schema_of, source_named}
-use Rattle.sql_semantics.specs.Check.{refused_if, check_refusal, sources_named, tables_of, over_table, delete_refusals, update_refusals}
-use Rattle.sql_semantics.specs.Kept.{cond_overflows}
-use Rattle.sql_semantics.specs.Effect.{Change, accepted, changed, changed_by, effect, effect_unless, is_any_set, is_too_long_set, is_null_set, overflows_in, is_hit, unless_refused}
+use Rattle.sql_definitions.specs.declared.refusal.Refusal.{Refusal}
+use Rattle.sql_definitions.specs.declared.refusal.Refusal.TheVariants.{TextTooLong, NullStored, Overflow}
+use Rattle.sql_definitions.specs.declared.refusal.Reply.{Reply}
+use Rattle.sql_definitions.specs.declared.refusal.Reply.TheVariants as reply
+use Rattle.sql_definitions.specs.declared.source.Source.{Source}
+use Rattle.sql_definitions.specs.declared.source.Schema.{Schema}
+use Rattle.sql_definitions.specs.Sources.{schema_of, source_named}
+use Rattle.sql_definitions.specs.Check.{refused_if, check_refusal, sources_named, tables_of, over_table, delete_refusals, update_refusals}
+use Rattle.sql_definitions.specs.Kept.{cond_overflows}
+use Rattle.sql_definitions.specs.Effect.{Change, accepted, changed, changed_by, effect, effect_unless, is_any_set, is_too_long_set, is_null_set, overflows_in, is_hit, unless_refused}
 use Rattle.sql_kinds.proofs.NameLemmas.{own_name}
 use Rattle.sql_kinds.proofs.TableLemmas.{as_source, source_is}
 use Rattle.rows_to_mal.specs.Rows.{condition_of}
@@ -75,7 +75,7 @@ module _ (s : StmtTree) (sources : List Source) (db : Db) (w : is_write s ≡ tr
     outside : source_named (changed_table s) (schema_of db) ≡ Some (as_source table)
     outside = source_is (changed_table s) db.tables ∙ ap (option_map as_source) found
 
--- the refusals of a change stand over its table alone
+-- the refusals of a change depend on its table alone
 same_check : (s : StmtTree) (a b : Schema) → is_write s ≡ true → source_named (changed_table s) a ≡ source_named (changed_table s) b → check_refusal s a ≡ check_refusal s b
 same_check (DeleteFrom name condition) a b w e = ap (λ o. slice_get (over_table name o (delete_refusals condition)) 0) e
 same_check (UpdateTable name sets condition) a b w e = ap (λ o. slice_get (over_table name o (update_refusals sets condition)) 0) e
@@ -184,7 +184,7 @@ any_none : {X : Type 0} (xs : List X) → list_any (λ (x : X). false) xs ≡ fa
 any_none [] = refl
 any_none (x ∷ xs) = any_none xs
 
--- where the last cause is there, there is some refusal
+-- where the last cause holds, there is some refusal
 last_refused : {X : Type 0} (before : List Refusal) (left outcome : X) (b : Bool) → b ≡ true → unless_refused (before ++ refused_if b Overflow) left ≡ Ok outcome → ⊥
 last_refused [] left outcome true e f = cc
 last_refused [] left outcome false e f = cc
@@ -226,7 +226,7 @@ replied_alone s table db after replied w name only e =
     by_change (Ok outcome) = refl
     by_change (Err refusal) = refl
 
--- where the change overflows, the reply tells its refusal
+-- where the change overflows, the reply has its refusal
 module _ (give : WritesGiveHits) (s : StmtTree) (sources : List Source) (w : is_write s ≡ true) (formed : ∥ IsFormed s ∥₁) (accepts : check_refusal s (record { tables = sources }) ≡ None)
     (table : Table) (over : OverflowsOver s sources table) where
   pub over_name : table.name ≡ changed_table s

@@ -1,4 +1,4 @@
--- The places that are decided on are there, in order.
+-- The places that are decided on exist, in order.
 use Rattle.std.proofs.Common.{◌≡◌, ℕ, suc, ◌+◌, ◌<◌, ◌≤◌, ◌==◌, List, [], ◌∷◌, length, map, filter, drop, Bool, true, false, not, ◌&&◌, cond, nat_lt, Option, refl, ap, sym, ◌∙◌, arith}
 use Rattle.std.specs.List.{list_all, enumerate_from}
 use Rattle.std.proofs.lemmas.Bool.{and_from}
@@ -7,8 +7,8 @@ use Rattle.cell_core.specs.declared.cell.Cell.{Cell}
 use Rattle.cell_core.specs.declared.table.Table.{Table}
 use Rattle.sql_tree.specs.Tree.{ExprTree, CondTree}
 use Rattle.sql_tree.specs.Tree.StmtTree.{CreateTable, DropTable, AlterTable, InsertInto, DeleteFrom, UpdateTable, Select, ExplainSelect}
-use Rattle.sql_semantics.specs.declared.refusal.Refusal.TheVariants.{TextTooLong, NullStored}
-use Rattle.sql_semantics.specs.Effect.{is_hit, is_too_long, is_null_refused}
+use Rattle.sql_definitions.specs.declared.refusal.Refusal.TheVariants.{TextTooLong, NullStored}
+use Rattle.sql_definitions.specs.Effect.{is_hit, is_too_long, is_null_refused}
 use Rattle.change_plans.specs.declared.decided.Decided.TheVariants.{Refused, Set}
 use Rattle.change_plans.specs.Hits.{hit_rows, new_cells}
 use Rattle.change_plans.specs.Decisions.{rises, is_in_place, is_any_refused, place_of, decided_update, decided_by}

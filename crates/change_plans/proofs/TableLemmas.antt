@@ -9,10 +9,10 @@ use Rattle.cell_core.specs.declared.table.Db.{Db}
 use Rattle.cell_core.specs.Tables.{first_named, named_table}
 use Rattle.sql_tree.specs.Tree.{ExprTree, CondTree}
 use Rattle.sql_tree.specs.Tree.StmtTree.{CreateTable, DropTable, AlterTable, InsertInto, DeleteFrom, UpdateTable, Select, ExplainSelect}
-use Rattle.sql_semantics.specs.declared.source.Source.{Source}
-use Rattle.sql_semantics.specs.Sources.{schema_of, called_sources}
-use Rattle.sql_semantics.specs.Check.{sources_named}
-use Rattle.sql_semantics.specs.Effect.{own_table}
+use Rattle.sql_definitions.specs.declared.source.Source.{Source}
+use Rattle.sql_definitions.specs.Sources.{schema_of, called_sources}
+use Rattle.sql_definitions.specs.Check.{sources_named}
+use Rattle.sql_definitions.specs.Effect.{own_table}
 use Rattle.sql_kinds.proofs.NameLemmas.{same_name}
 use Rattle.sql_kinds.proofs.TableLemmas.{as_source, source_is}
 use Rattle.rows_to_mal.specs.Laws.{WritesAreMeant, rows_in}

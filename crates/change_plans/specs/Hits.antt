@@ -1,4 +1,4 @@
--- The rows that a DELETE or an UPDATE is about, and what its plan gives of them.
+-- The rows that a DELETE or an UPDATE touches, and what its plan returns for them.
 use Rattle.std.specs.Prelude.{ℕ, List, [], ◌∷◌, map, filter, Bool, ◌||◌, if◌then◌else◌, Option, Some, None, Ok}
 use Rattle.std.specs.List.{list_any, enumerate_from}
 use Rattle.cell_core.specs.declared.cell.Cell.{Cell}
@@ -6,9 +6,9 @@ use Rattle.cell_core.specs.declared.cell.Cell.TheVariants.{Oid}
 use Rattle.cell_core.specs.declared.table.Table.{Table}
 use Rattle.sql_tree.specs.Tree.{ExprTree, CondTree, StmtTree}
 use Rattle.sql_tree.specs.Tree.StmtTree.{DeleteFrom, UpdateTable}
-use Rattle.sql_semantics.specs.Values.{cell_over, constant_overflows}
-use Rattle.sql_semantics.specs.Kept.{cond_overflows}
-use Rattle.sql_semantics.specs.Effect.{Change, own_table, is_hit, deleted, updated, overflows_in, is_any_set}
+use Rattle.sql_definitions.specs.Values.{cell_over, constant_overflows}
+use Rattle.sql_definitions.specs.Kept.{cond_overflows}
+use Rattle.sql_definitions.specs.Effect.{Change, own_table, is_hit, deleted, updated, overflows_in, is_any_set}
 
 -- ## Statements
 
@@ -31,7 +31,7 @@ change_of _ = λ table. Ok (table.rows, 0)
 
 -- ## Rows
 
--- the rows of which a condition is true, each behind its place, in order
+-- the rows of which a condition is true, each after its place, in order
 abbrev pub hit_rows : Option CondTree → Table → List (ℕ × List Cell)
 hit_rows condition table = filter (λ (at : ℕ × List Cell). is_hit condition table at.1) (enumerate_from 0 table.rows)
 
@@ -39,7 +39,7 @@ hit_rows condition table = filter (λ (at : ℕ × List Cell). is_hit condition 
 abbrev pub new_cells : List (List ℕ × ExprTree) → Table → List Cell → List Cell
 new_cells sets table row = map (λ (set : List ℕ × ExprTree). cell_over (own_table table) (row ∷ []) set.1) sets
 
--- what a plan gives of a row: its oid and its new cells
+-- what a plan returns for a row: its oid and its new cells
 abbrev pub written : List (List ℕ × ExprTree) → Table → ℕ × List Cell → List Cell
 written sets table at = Oid at.0 ∷ new_cells sets table at.1
 
@@ -49,6 +49,6 @@ overflows_on sets condition table =
     list_any constant_overflows (map (λ (set : List ℕ × ExprTree). set.1) sets) || cond_overflows condition
     || is_any_set (overflows_in table) sets (filter (is_hit condition table) table.rows)
 
--- what a plan gives of a table, or None, which is an overflow
+-- what a plan returns over a table, or None for an overflow
 abbrev pub rows_written : List (List ℕ × ExprTree) → Option CondTree → Table → Option (List (List Cell))
 rows_written sets condition table = if overflows_on sets condition table then None else Some (map (written sets table) (hit_rows condition table))

@@ -7,7 +7,7 @@ use row_values::{is_null_refused, is_too_long};
 
 /// What a column may refuse.
 #[derive(Clone, Copy)]
-pub(crate) enum Fault {
+pub(crate) enum ColumnFault {
     /// A text with more characters than it allows.
     TooLong,
     /// Nil.
@@ -15,17 +15,17 @@ pub(crate) enum Fault {
 }
 
 /// Whether a column refuses a cell for this fault.
-fn refuses(fault: Fault, column: &Column, cell: &Cell) -> bool
+fn refuses(fault: ColumnFault, column: &Column, cell: &Cell) -> bool
     ensures { result ≡ refuses_of fault column.now cell.now }
 {
     match fault {
-        Fault::TooLong => is_too_long(column, cell),
-        Fault::Null => is_null_refused(column, cell),
+        ColumnFault::TooLong => is_too_long(column, cell),
+        ColumnFault::Null => is_null_refused(column, cell),
     }
 }
 
 /// Whether the column with this name refuses a cell.
-fn is_refused_there(fault: Fault, columns: &[Column], name: &Word, cell: &Cell) -> bool
+fn is_refused_there(fault: ColumnFault, columns: &[Column], name: &Word, cell: &Cell) -> bool
     ensures { result ≡ is_refused_there_of (refuses_of fault) columns.now (name.now, cell.now) }
 {
     let mut rest = columns;
@@ -39,7 +39,7 @@ fn is_refused_there(fault: Fault, columns: &[Column], name: &Word, cell: &Cell) 
 }
 
 /// Whether one of the cells is refused, each by the column with the name at its place.
-fn is_row_refused(fault: Fault, columns: &[Column], names: &[Word], cells: &[Cell]) -> bool
+fn is_row_refused(fault: ColumnFault, columns: &[Column], names: &[Word], cells: &[Cell]) -> bool
     ensures { result ≡ is_row_refused_of (refuses_of fault) columns.now names.now cells.now }
 {
     let (mut named, mut rest) = (names, cells);
@@ -56,9 +56,9 @@ fn is_row_refused(fault: Fault, columns: &[Column], names: &[Word], cells: &[Cel
     false
 }
 
-/// Whether one of these rows of cells is.
+/// Whether one of the cells of these rows is refused.
 pub(crate) fn is_any_refused(
-    fault: Fault,
+    fault: ColumnFault,
     columns: &[Column],
     names: &[Word],
     rows: &[Sequence<Cell>],

@@ -1,12 +1,12 @@
 use cell_core::{Cell, Sequence, Word};
-use sql_semantics::Refusal;
+use sql_definitions::Refusal;
 
 /// What is decided of a DELETE or an UPDATE.
 #[derive(Drop)]
 pub enum Decided {
     /// It is refused.
     Refused(Refusal),
-    /// Rows go.
+    /// Rows are deleted.
     Gone {
         /// Their places in the table, counted from 0, in order.
         places: Sequence<u64>,

@@ -3,16 +3,17 @@ ghost use Rattle.change_plans.specs.Laws.{DecisionsAreInPlace, DecisionsAreMeant
 
 use rows_to_mal::{updates_overflow, writes_are_meant};
 
-/// Over a table, the plan of a DELETE or an UPDATE gives the rows of which the condition is true, each
-/// by its oid and its new cells, in the order of the table; it overflows where the condition does, or an
-/// expression for such a row.
+/// Over a table, the plan of a DELETE or an UPDATE returns the rows of which the condition is true,
+/// each by its oid and its new cells, in the order of the table. It overflows where the condition
+/// does, or an expression for such a row.
 pub fn plans_give_hits()
     ensures { PlansGiveHits }
 {
     updates_overflow();
 }
 
-/// So it is of the plan of each checked DELETE and UPDATE over every valid database that has its table.
+/// The same holds for the plan of each checked DELETE and UPDATE over every valid database that has
+/// its table.
 pub fn writes_give_hits()
     ensures { WritesGiveHits }
 {
@@ -20,13 +21,13 @@ pub fn writes_give_hits()
     plans_give_hits();
 }
 
-/// From the rows of its plan over a table alone, a DELETE or an UPDATE is decided as SQL says: these rows
-/// go, or get these cells, or the change is refused.
+/// The rows of its plan over a table alone decide a DELETE or an UPDATE as SQL says: these rows are
+/// deleted, or get these cells, or the change is refused.
 pub fn decisions_are_meant()
     ensures { DecisionsAreMeant }
 {}
 
-/// What is so decided touches rows that are there, in the order of the table, and has one cell for each
+/// This decision touches rows that exist, in the order of the table, and has one cell for each
 /// column that is set.
 pub fn decisions_are_in_place()
     ensures { DecisionsAreInPlace }

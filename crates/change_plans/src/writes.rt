@@ -5,24 +5,24 @@ ghost use Rattle.cell_core.specs.declared.table.Table.{Table as TableSeen};
 ghost use Rattle.cell_core.specs.Tables.{named_table};
 ghost use Rattle.mal_meaning.specs.Meaning.{plan_rows};
 ghost use Rattle.sql_tree.specs.Tree.{set_tree, stmt_tree};
-ghost use Rattle.sql_semantics.specs.declared.refusal.Reply.TheVariants.{Refused};
-ghost use Rattle.sql_semantics.specs.Effect.{changed, effect};
+ghost use Rattle.sql_definitions.specs.declared.refusal.Reply.TheVariants.{Refused};
+ghost use Rattle.sql_definitions.specs.Effect.{changed, effect};
 ghost use Rattle.rows_to_mal.specs.Laws.{HoldsTables};
 ghost use Rattle.rows_to_mal.specs.Writes.{is_write, write_plan};
 ghost use Rattle.change_plans.specs.Hits.{change_of, changed_table};
 ghost use Rattle.change_plans.specs.Decisions.{decided_by, decided_update, is_in_place, left_by, own_columns as own_columns_of, place_of as place_of_row, reply_of};
 ghost use Rattle.change_plans.specs.Laws.{OverflowsOver};
 
-use crate::cells::{Fault, is_any_refused};
+use crate::cells::{ColumnFault, is_any_refused};
 use crate::decided::Decided;
 use crate::laws::{decisions_are_in_place, decisions_are_meant, writes_give_hits};
 use cell_core::{Cell, Column, Db, Memory, Sequence, Table, Word, copy_cells};
 use sql_changes::change;
-use sql_semantics::{Refusal, Reply, Source, Typed};
+use sql_definitions::{Refusal, Reply, Source, Typed};
 use sql_tree::{Expr, Stmt};
 use std::alloc::Global;
 
-/// The place that a row of a plan is of.
+/// The place of the table's row for which a row of a plan is.
 fn place_of(row: &[Cell]) -> u64
     ensures { result ≡ place_of_row row.now }
 {
@@ -102,10 +102,20 @@ fn decide_update(
 {
     let names = names_of(alloc, sets)?;
     let cells = new_cells(alloc, rows)?;
-    if is_any_refused(Fault::TooLong, columns, names.as_slice(), cells.as_slice()) {
+    if is_any_refused(
+        ColumnFault::TooLong,
+        columns,
+        names.as_slice(),
+        cells.as_slice(),
+    ) {
         return Ok(Decided::Refused(Refusal::TextTooLong));
     }
-    if is_any_refused(Fault::Null, columns, names.as_slice(), cells.as_slice()) {
+    if is_any_refused(
+        ColumnFault::Null,
+        columns,
+        names.as_slice(),
+        cells.as_slice(),
+    ) {
         return Ok(Decided::Refused(Refusal::NullStored));
     }
     let set = places_of(alloc, rows)?;
@@ -138,12 +148,12 @@ fn decide_from(alloc: Global, typed: &Typed, rows: &[Sequence<Cell>]) -> Result<
     }
 }
 
-/// Decides a checked DELETE or UPDATE from the rows of its plan alone: a DELETE takes rows away, and an
-/// UPDATE sets the columns that it names, or is refused.
+/// Decides a checked DELETE or UPDATE from the rows of its plan alone: a DELETE removes rows, and
+/// an UPDATE sets the columns that it names, or is refused.
 ///
-/// Where these are the plan's rows over a valid database that has the statement's table, what is decided
-/// leaves of the table what SQL says, the rows that it touches are there, and the statement's effect on the
-/// database is that change of the table.
+/// Where these are the plan's rows over a valid database that has the statement's table, the
+/// decision changes the table as SQL says, the rows that it touches exist, and the statement's
+/// effect on the database is that change of the table.
 pub fn decide(alloc: Global, typed: &Typed, rows: &[Sequence<Cell>]) -> Result<Decided, Memory>
     requires { is_write (stmt_tree typed.now.stmt) ≡ true }
     ensures decided { IfOk result (λ decided. decided ≡ decided_by (stmt_tree typed.now.stmt) (own_columns_of typed.now.sources) rows.now) }
@@ -161,7 +171,7 @@ pub fn decide(alloc: Global, typed: &Typed, rows: &[Sequence<Cell>]) -> Result<D
     decide_from(alloc, typed, rows)
 }
 
-/// What a DELETE or an UPDATE of this table replies, done row by row.
+/// What a DELETE or an UPDATE of this table replies, computed row by row.
 fn reply_over(alloc: Global, stmt: &Stmt, table: Table) -> Result<Reply, Memory>
     requires write { is_write (stmt_tree stmt.now) ≡ true }
     requires name { table.name ≡ changed_table (stmt_tree stmt.now) }
@@ -173,8 +183,8 @@ fn reply_over(alloc: Global, stmt: &Stmt, table: Table) -> Result<Reply, Memory>
     change(alloc, stmt, &mut db)
 }
 
-/// Why a checked DELETE or UPDATE is refused whose plan overflows over this table: a text that is too
-/// long or Nil in some row comes before the overflow, so the rows are looked at one by one.
+/// Why a checked DELETE or UPDATE is refused whose plan overflows over this table. A text that is
+/// too long or Nil in some row comes before the overflow, so the rows are looked at one by one.
 pub fn refusal_over(alloc: Global, typed: &Typed, table: Table) -> Result<Refusal, Memory>
     requires write { is_write (stmt_tree typed.now.stmt) ≡ true }
     requires overflows { OverflowsOver (stmt_tree typed.now.stmt) typed.now.sources table }

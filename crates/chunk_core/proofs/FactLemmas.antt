@@ -28,7 +28,7 @@ pub dense_push : (cells : List Cell) (c : Cell) → is_dense (cells ++ c ∷ [])
 dense_push [] c = and-true (is_oid c)
 dense_push (x ∷ xs) c = ap (λ b. is_oid x && b) (neighbours_push is_next_oid x xs c) ∙ and_assoc (is_oid x) (neighbours_from is_next_oid x xs) (is_next_oid (last_from x xs) c)
 
--- the last cell stands at the last place
+-- the last cell is at the last place
 last_at : (x : Cell) (xs : List Cell) (d : Cell) → get_or (x ∷ xs) (length xs) d ≡ last_from x xs
 last_at x [] d = refl
 last_at x (y ∷ ys) d = last_at y ys d

@@ -7,7 +7,7 @@ use Rattle.cell_core.specs.declared.cell.Cell.TheVariants.{Oid}
 use Rattle.cell_core.specs.Order.{cell_cmp, cell_bytes}
 use Rattle.chunk_core.specs.declared.facts.Facts.{Facts}
 
--- a cell stands strictly before another in the order of cells
+-- a cell is strictly before another in the order of cells
 abbrev pub is_below : Cell → Cell → Bool
 is_below a b = is_lt (cell_cmp a b)
 
@@ -26,7 +26,7 @@ abbrev pub neighbours_from : (Cell → Cell → Bool) → Cell → List Cell →
 neighbours_from p x [] = true
 neighbours_from p x (y ∷ ys) = p x y && neighbours_from p y ys
 
--- each cell stands strictly before the next
+-- each cell is strictly before the next
 abbrev pub rises : List Cell → Bool
 rises [] = true
 rises (x ∷ xs) = neighbours_from is_below x xs
@@ -70,7 +70,7 @@ abbrev pub dense_with_all : Bool → Option Cell → List Cell → Bool
 dense_with_all so_far None more = is_dense more
 dense_with_all so_far (Some last) more = so_far && neighbours_from is_next_oid last more
 
--- these facts are told of these cells, whose bytes stay below a limit
+-- these facts hold of these cells, whose bytes stay below a limit
 pub record AreToldOf (facts : Facts) (cells : List Cell) : Type 0 where
   pub bytes : facts.bytes ≡ cells_bytes cells
   pub few : cells_bytes cells < 2 ^ 60

@@ -6,7 +6,7 @@ ghost use Rattle.chunk_core.specs.Picked.{picked, AreWithin};
 ghost use Rattle.chunk_core.specs.Chunks.{chunk_cells};
 
 use crate::count::Count;
-use crate::kept::{Kept, kept_at};
+use crate::kept::{Packed, kept_at};
 use crate::part::Part;
 use cell_core::{Cell, Memory};
 use std::alloc::Global;
@@ -27,7 +27,7 @@ pub enum Chunk {
     Cells(Vec<Cell>),
 }
 
-// By a call of its own, so that proofs needn't go through its forms where one is let go.
+// By a call of its own, so that proofs needn't go through its forms where one is dropped.
 impl Drop for Chunk {
     fn drop(self) {
         match self {
@@ -98,7 +98,8 @@ impl Chunk {
         }
     }
 
-    /// Adds the cells of a part at these places, in the order of the places.
+    /// Adds the cells of a part at these places, in the order of the places. On `Memory` the chunk keeps
+    /// the cells that it had, and the first of these may follow.
     pub fn push_places(
         &mut self,
         alloc: Global,
@@ -155,7 +156,7 @@ fn make_room(chunk: &mut Chunk, more: usize) -> Result<(), Memory>
 
 /// Adds one at the end.
 #[inline(always)]
-fn push_kept<K: Kept>(kept: &mut Vec<K>, one: K) -> Result<(), Memory>
+fn push_kept<K: Packed>(kept: &mut Vec<K>, one: K) -> Result<(), Memory>
     ensures ok { OnOk result (map K.cell_of kept.new.items ≡ map K.cell_of kept.old.items ++ K.cell_of one ∷ []) }
     ensures err { OnErr result (map K.cell_of kept.new.items ≡ map K.cell_of kept.old.items) }
 {
@@ -163,8 +164,8 @@ fn push_kept<K: Kept>(kept: &mut Vec<K>, one: K) -> Result<(), Memory>
     Ok(())
 }
 
-/// Adds what is kept at these places.
-fn pick_kept<K: Kept>(numbers: &mut Vec<K>, from: &[K], places: &[u32]) -> Result<(), Memory>
+/// Adds the values kept at these places.
+fn pick_kept<K: Packed>(numbers: &mut Vec<K>, from: &[K], places: &[u32]) -> Result<(), Memory>
     requires { AreWithin places.now (length from.now) }
     ensures { OnOk result (map K.cell_of numbers.new.items ≡ map K.cell_of numbers.old.items ++ picked Nil (map K.cell_of from.now) places.now) }
 {
@@ -238,7 +239,7 @@ fn chunk_of(alloc: Global, cell: Cell) -> Result<Chunk, Memory>
 }
 
 /// A chunk of one cell of a kind that is kept as numbers or bits.
-fn chunk_of_kept<K: Kept>(alloc: Global, one: K) -> Result<Chunk, Memory>
+fn chunk_of_kept<K: Packed>(alloc: Global, one: K) -> Result<Chunk, Memory>
     ensures { IfOk result (λ chunk. chunk_cells chunk ≡ K.cell_of one ∷ []) }
 {
     Ok(K::chunk(alone(alloc, one)?))

@@ -1,4 +1,4 @@
-//! What is kept of the cells of a column, so that no pass over them is needed.
+//! Facts kept about the cells of a column, so that no pass over them is needed.
 ghost use Rattle.std.specs.Prelude.{◌≡◌, ◌+◌, ◌*◌, ◌∷◌, ◌++◌, ◌^◌, ◌<◌, ◌&&◌, List, [], IfSome, length, map};
 ghost use Rattle.std.specs.Option.{option_copied};
 ghost use Rattle.cell_core.specs.Order.{cell_bytes};
@@ -8,7 +8,7 @@ ghost use Rattle.chunk_core.specs.Parts.{part_cells};
 ghost use Rattle.chunk_core.specs.Facts.{AreToldOf, is_dense, is_below, is_next_oid, neighbours_from, last_cell, rises_with, rises_with_all, dense_with, dense_with_all, cells_bytes};
 
 use crate::count::Count;
-use crate::kept::Kept;
+use crate::kept::Packed;
 use crate::part::Part;
 use cell_core::{Cell, compare, stated_bytes};
 use std::cmp::Ordering;
@@ -18,7 +18,7 @@ use std::cmp::Ordering;
 pub struct Facts {
     /// The sum of their stated bytes.
     pub bytes: u64,
-    /// Whether each stands strictly before the next.
+    /// Whether each is strictly before the next.
     pub rises: bool,
     /// Whether they are dense: oids that rise by one each.
     pub dense: bool,
@@ -122,7 +122,7 @@ fn dense_after(so_far: bool, last: Option<&Cell>, more: Part<'_>) -> bool
 }
 
 /// Whether cells rise once those of one kind follow the last.
-fn kept_rise<K: Kept>(so_far: bool, last: Option<&Cell>, kept: &[K]) -> bool
+fn kept_rise<K: Packed>(so_far: bool, last: Option<&Cell>, kept: &[K]) -> bool
     ensures { result ≡ rises_with_all so_far (option_copied last.entry) (map K.cell_of kept.now) }
 {
     match kept {
@@ -131,7 +131,7 @@ fn kept_rise<K: Kept>(so_far: bool, last: Option<&Cell>, kept: &[K]) -> bool
     }
 }
 
-/// What held of cells still holds where none follows; of no cells it holds.
+/// A fact about cells still holds where none follows; it holds of no cells.
 fn none_follows(so_far: bool, last: Option<&Cell>) -> bool
     ensures rises { result ≡ rises_with_all so_far (option_copied last.entry) [] }
     ensures dense { result ≡ dense_with_all so_far (option_copied last.entry) [] }
@@ -143,7 +143,7 @@ fn none_follows(so_far: bool, last: Option<&Cell>) -> bool
 }
 
 /// Whether cells rise once one and then others of its kind follow the last.
-fn rises_from<K: Kept>(so_far: bool, last: Option<&Cell>, first: K, others: &[K]) -> bool
+fn rises_from<K: Packed>(so_far: bool, last: Option<&Cell>, first: K, others: &[K]) -> bool
     ensures { result ≡ (rises_with so_far (option_copied last.entry) (K.cell_of first) && neighbours_from is_below (K.cell_of first) (map K.cell_of others.now)) }
 {
     rises_on(so_far, last, &first.cell()) && kept_rise_from(first, others)
@@ -159,8 +159,8 @@ fn rises_on(so_far: bool, last: Option<&Cell>, cell: &Cell) -> bool
     }
 }
 
-/// Whether a cell stands before the first of others of its kind, and each of these before the next.
-fn kept_rise_from<K: Kept>(first: K, others: &[K]) -> bool
+/// Whether a cell is before the first of others of its kind, and each of these before the next.
+fn kept_rise_from<K: Packed>(first: K, others: &[K]) -> bool
     ensures { result ≡ neighbours_from is_below (K.cell_of first) (map K.cell_of others.now) }
 {
     let mut before = first;
@@ -176,7 +176,7 @@ fn kept_rise_from<K: Kept>(first: K, others: &[K]) -> bool
 }
 
 /// Whether cells are dense once those of one kind follow the last.
-fn kept_dense<K: Kept>(so_far: bool, last: Option<&Cell>, kept: &[K]) -> bool
+fn kept_dense<K: Packed>(so_far: bool, last: Option<&Cell>, kept: &[K]) -> bool
     ensures { result ≡ dense_with_all so_far (option_copied last.entry) (map K.cell_of kept.now) }
 {
     match kept {
@@ -186,7 +186,7 @@ fn kept_dense<K: Kept>(so_far: bool, last: Option<&Cell>, kept: &[K]) -> bool
 }
 
 /// Whether cells are dense once one and then others of its kind follow the last.
-fn counts_from<K: Kept>(so_far: bool, last: Option<&Cell>, first: K, others: &[K]) -> bool
+fn counts_from<K: Packed>(so_far: bool, last: Option<&Cell>, first: K, others: &[K]) -> bool
     ensures { result ≡ (dense_with so_far (option_copied last.entry) (K.cell_of first) && neighbours_from is_next_oid (K.cell_of first) (map K.cell_of others.now)) }
 {
     counts_on(so_far, last, &first.cell()) && kept_count_from(first, others)
@@ -203,7 +203,7 @@ fn counts_on(so_far: bool, last: Option<&Cell>, cell: &Cell) -> bool
 }
 
 /// Whether a cell and the others are oids that rise by one each, where there are others.
-fn kept_count_from<K: Kept>(first: K, others: &[K]) -> bool
+fn kept_count_from<K: Packed>(first: K, others: &[K]) -> bool
     ensures { result ≡ neighbours_from is_next_oid (K.cell_of first) (map K.cell_of others.now) }
 {
     let mut before = first;
@@ -287,7 +287,7 @@ fn rises_after_all(so_far: bool, last: Option<&Cell>, more: &[Cell]) -> bool
     }
 }
 
-/// Whether a cell stands before the first of the others, and each of these before the next.
+/// Whether a cell is before the first of the others, and each of these before the next.
 fn rise_from(first: &Cell, others: &[Cell]) -> bool
     ensures { result ≡ neighbours_from is_below first.now others.now }
 {
@@ -303,7 +303,7 @@ fn rise_from(first: &Cell, others: &[Cell]) -> bool
     true
 }
 
-/// Whether a cell stands strictly before another.
+/// Whether a cell is strictly before another.
 #[inline]
 fn stands_before(a: &Cell, b: &Cell) -> bool
     ensures { result ≡ is_below a.now b.now }

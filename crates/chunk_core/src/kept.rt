@@ -1,4 +1,4 @@
-//! Numbers and bits as which cells of one kind are kept.
+//! Numbers and bits that represent cells of one kind.
 ghost use Rattle.std.specs.Prelude.{◌≡◌, ◌<◌, length, map, slice_index_or};
 ghost use Rattle.cell_core.specs.declared.cell.Cell.{Cell as CellSeen};
 ghost use Rattle.cell_core.specs.declared.cell.Cell.TheVariants.{Int, Oid, Bit, Day, Nil};
@@ -8,29 +8,29 @@ ghost use Rattle.chunk_core.specs.Chunks.{chunk_cells};
 use crate::chunk::Chunk;
 use cell_core::Cell;
 
-/// What cells of one kind are kept as.
-pub(crate) trait Kept: Copy {
-    /// The cell that is kept so.
+/// A value that represents a cell of one kind.
+pub(crate) trait Packed: Copy {
+    /// The cell that it represents.
     ghost cell_of: { Self → CellSeen };
 
-    /// The cell that is kept so.
+    /// The cell that it represents.
     fn cell(self) -> Cell
         ensures { result ≡ cell_of self };
 
-    /// The chunk of cells that are kept so.
+    /// The chunk of the cells that these represent.
     fn chunk(kept: Vec<Self>) -> Chunk
         ensures { chunk_cells result ≡ map cell_of kept.items };
 
-    /// Whether its cell stands before that of another.
+    /// Whether its cell is before that of another.
     fn is_before(self, other: Self) -> bool
         ensures { result ≡ is_below (cell_of self) (cell_of other) };
 
-    /// Whether both cells are oids, that of the other one more.
+    /// Whether both cells are oids, and the other's is one more.
     fn is_followed_by(self, other: Self) -> bool
         ensures { result ≡ is_next_oid (cell_of self) (cell_of other) };
 }
 
-impl Kept for i64 {
+impl Packed for i64 {
     ghost cell_of = { Int };
 
     #[inline]
@@ -56,7 +56,7 @@ impl Kept for i64 {
     }
 }
 
-impl Kept for u64 {
+impl Packed for u64 {
     ghost cell_of = { Oid };
 
     #[inline]
@@ -82,7 +82,7 @@ impl Kept for u64 {
     }
 }
 
-impl Kept for bool {
+impl Packed for bool {
     ghost cell_of = { Bit };
 
     #[inline]
@@ -108,7 +108,7 @@ impl Kept for bool {
     }
 }
 
-impl Kept for i32 {
+impl Packed for i32 {
     ghost cell_of = { Day };
 
     #[inline]
@@ -134,9 +134,8 @@ impl Kept for i32 {
     }
 }
 
-/// What is kept at a place.
 #[inline]
-pub(crate) fn kept_at<K: Kept>(kept: &[K], at: usize) -> K
+pub(crate) fn kept_at<K: Packed>(kept: &[K], at: usize) -> K
     requires { at < length kept.now }
     ensures { K.cell_of result ≡ slice_index_or (map K.cell_of kept.now) at Nil }
 {

@@ -1,9 +1,9 @@
 //! Cells that lie together, each chunk of them in the smallest form that holds it.
 //!
-//! It stands on `cell_core` for cells, their order and their stated size. A `Chunk` keeps numbers,
-//! days, oids or bits alone as such, oids that rise by one each as the first and their number, and any
+//! It uses `cell_core` for cells, their order and their stated size. A `Chunk` keeps numbers, days,
+//! oids or bits alone as such, oids that rise by one each as the first and their number, and any
 //! others cell by cell; it finds its form by itself. A `Part` lends cells of a chunk in that form.
-//! Contracts see the lists of cells alone. `Facts` are what is kept of them, so that no pass over
+//! Contracts see the lists of cells alone. `Facts` are kept about the cells, so that no pass over
 //! them is needed.
 #![tactic(auto)]
 

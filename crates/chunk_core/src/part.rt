@@ -3,11 +3,11 @@ ghost use Rattle.std.specs.Prelude.{◌≡◌, ◌+◌, ◌^◌, ◌<◌, ◌≤
 ghost use Rattle.chunk_core.specs.Parts.{part_cells, lent_cell};
 
 use crate::count::Count;
-use crate::kept::Kept;
+use crate::kept::Packed;
 use cell_core::{Cell, Memory};
 
-/// Cells that lie together: numbers alone, days alone, oids alone, oids that rise by one each, bits alone,
-/// or any cells.
+/// Cells that lie together: numbers alone, days alone, oids alone, oids that rise by one each, bits
+/// alone, or any cells.
 #[derive(Clone, Copy)]
 pub enum Part<'a> {
     /// The cells of kind Int with these numbers.
@@ -32,7 +32,7 @@ pub enum CellAt<'a> {
     Made(Cell),
 }
 
-// By a call of its own, so that proofs needn't go through its forms where one is let go.
+// By a call of its own, so that proofs needn't go through its forms where one is dropped.
 impl<'a> Drop for CellAt<'a> {
     fn drop(self) {
         match self {
@@ -116,16 +116,15 @@ impl<'a> Part<'a> {
     }
 }
 
-/// The cell of what is kept at a place.
+/// The cell that the value kept at a place represents.
 #[inline]
-fn made_at<K: Kept>(kept: &[K], at: usize) -> Cell
+fn made_at<K: Packed>(kept: &[K], at: usize) -> Cell
     requires { at < length kept.now }
     ensures { result ≡ slice_index_or (map K.cell_of kept.now) at result }
 {
     kept[at].cell()
 }
 
-/// The cell at a place.
 #[inline]
 fn lent_at(cells: &[Cell], at: usize) -> &Cell
     requires { at < length cells.now }

@@ -30,7 +30,7 @@ first_flag : (b : ℕ) (bytes : Text) → IsUtf8 (45 ∷ b ∷ bytes) → (first
 first_flag b bytes utf8 =
     begins (chars (b ∷ bytes)) bytes b (encodes-chars (b ∷ bytes) (IsUtf8-past_char (45 ∷ b ∷ bytes) (b ∷ bytes) 45 utf8 (hyphen_first (b ∷ bytes))))
 
--- `--` and what goes on
+-- `--` and further bytes
 two_hyphens : (word : Text) → Class (45 ∷ 45 ∷ word)
 two_hyphens [] = end refl refl
 two_hyphens (b ∷ bytes) = long (name_and_value (b ∷ bytes)) (refl, refl) refl refl

@@ -47,7 +47,7 @@ with_events :
     command_named (codes "run" ∷ codes "--events" ∷ codes "a.sql" ∷ codes "b.sql" ∷ []) ≡ Some (Run 4 (record default_options { events = true }) (codes "a.sql" ∷ codes "b.sql" ∷ []))
 with_events = refl
 
--- an option behind a file, and its value behind `=`
+-- an option after a file, and its value after `=`
 by_credits :
     command_named (codes "replay" ∷ codes "schedule" ∷ codes "--admit=credit" ∷ codes "a.sql" ∷ codes "--credits" ∷ codes "1" ∷ [])
     ≡ Some (Replay (record default_options { admit = Credit; credits = 1 }) (codes "schedule") (codes "a.sql" ∷ []))
@@ -75,7 +75,7 @@ evenly :
     command_named (codes "run" ∷ codes "--evict=weighted" ∷ codes "a.sql" ∷ []) ≡ Some (Run 4 (record default_options { evict = Weighted; weights = replicate 35 1 }) (codes "a.sql" ∷ []))
 evenly = refl
 
--- behind `--` all are files
+-- after `--` all are files
 behind_the_end :
     command_named (codes "run" ∷ codes "-" ∷ codes "--" ∷ codes "--events" ∷ []) ≡ Some (Run 4 default_options (codes "-" ∷ codes "--events" ∷ []))
 behind_the_end = refl
@@ -83,11 +83,11 @@ behind_the_end = refl
 generated : command_named (codes "generate" ∷ codes "0001" ∷ []) ≡ Some (Generate 1)
 generated = refl
 
--- an `--` with no file behind it
+-- an `--` with no file after it
 generated_to_the_end : command_named (codes "generate" ∷ codes "1000000" ∷ codes "--" ∷ []) ≡ Some (Generate 1000000)
 generated_to_the_end = refl
 
--- what stands behind `--` is a file, of which `generate` has none
+-- a word after `--` is a file, of which `generate` has none
 generated_of_a_file : command_named (codes "generate" ∷ codes "--" ∷ codes "1" ∷ []) ≡ None
 generated_of_a_file = refl
 

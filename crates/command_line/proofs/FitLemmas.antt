@@ -1,4 +1,4 @@
--- What the grammar lets through is fit: the workers, the budget, the weights and the number of files.
+-- What the grammar accepts is fit: the workers, the budget, the weights and the number of files.
 use Rattle.std.proofs.Common.{◌≡◌, ◌≢◌, ◌==◌, ℕ, ◌^◌, ◌≤◌, List, [], ◌∷◌, map, length, Bool, true, false, cond, ◌&&◌, nat_le, Option, Some, None, IfSome, Result, Ok, Err, IfOk, refl, sym, subst, arith}
 use Rattle.std.specs.Option.{option_map, option_and_then}
 use Rattle.std.specs.List.{AllByRecursion, list_all, slice_split}
@@ -199,7 +199,7 @@ replay_fit uses = by (length uses.workers == 0)
 default_fit : AreFit default_options
 default_fit = record { budget = omega arith; weighted = λ is. absurd (cc); plain = λ other. refl }
 
--- what words behind `generate` name is fit
+-- a command that words after `generate` name is fit
 pub generated_fit : (words : List Text) → IfSome (generate_in words) IsFit
 generated_fit [] = tt
 generated_fit (word ∷ words) = by (ends_here words)
@@ -214,10 +214,10 @@ pub fit_from : {E : Type 0} (result : Result (Option Command) E) (command : Opti
 fit_from (Ok got) command is fit = subst (λ (o : Option Command). IfSome o IsFit) (sym is) fit
 fit_from (Err e) command is fit = tt
 
--- what words behind `run` name is fit
+-- a command that words after `run` name is fit
 pub runs_fit : (words : List Text) → IfSome (option_and_then run_in (uses_named words)) IsFit
 runs_fit words = then_any IsFit run_in (uses_named words) run_fit
 
--- what words behind `replay` name is fit
+-- a command that words after `replay` name is fit
 pub replays_fit : (words : List Text) → IfSome (option_and_then replay_in (uses_named words)) IsFit
 replays_fit words = then_any IsFit replay_in (uses_named words) replay_fit

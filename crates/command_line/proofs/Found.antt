@@ -9,7 +9,7 @@ use Rattle.clap.specs.declared.parser.matches.ValueSource.TheVariants.{CommandLi
 use Rattle.command_line.specs.Words.{Item, Text, values_of}
 use Rattle.command_line.proofs.Walk.{add, files_built}
 
--- values behind those that there are
+-- values after those that there are
 abbrev pub joined : Option (List Text) → List Text → Option (List Text)
 joined old [] = old
 joined None (v ∷ vs) = Some (v ∷ vs)

@@ -13,7 +13,7 @@ use Rattle.clap.specs.declared.error.kind.ErrorKind.TheVariants.{OutOfMemory}
 use Rattle.clap.specs.Faults.{entered_fault, fault_of, is_simple_and_free, level_fault}
 use Rattle.clap.specs.Kinds.{IsAmong, Kinds}
 use Rattle.command_line.specs.Words.{Item, items_in, uses_named, uses_of, values_of}
-use Rattle.command_line.specs.Told.{AreUtf8, texts_in, told_app, uses_in, values_in}
+use Rattle.command_line.specs.Matches.{AreUtf8, texts_in, told_app, uses_in, values_in}
 use Rattle.command_line.proofs.Walk.{add, at, nothing, rules, shape}
 use Rattle.command_line.proofs.Each.{AreText, each}
 use Rattle.command_line.proofs.Steps.{level}

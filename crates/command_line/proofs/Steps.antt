@@ -66,7 +66,7 @@ finished_is rows pending =
 abbrev pub level : Walk → List Text → Kinds
 level w words = or_else (walk_fault shape [] w words) (ending (fold (walked rules []) w words).held)
 
--- what is said of the words from here on: `found` are their items, and `rows` those before them
+-- a fact of the words from here on: `found` are their items, and `rows` those before them
 pub record Reads (w : Walk) (words : List Text) (rows : List Row) (found : Option (List Item)) : Type 0 where
   pub faults : is_empty (level w words) ≡ is_some found
   pub holds : IfSome found (λ items. finished rules (fold (walked rules []) w words).held ≡ fold add rows items)

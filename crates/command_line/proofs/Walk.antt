@@ -1,4 +1,4 @@
--- What clap's walk makes of the words behind the command: one turn for each class of words.
+-- What clap's walk makes of the words after the command: one turn for each class of words.
 use Rattle.std.proofs.Common.{◌≡◌, ◌∙◌, ℕ, List, [], ◌∷◌, Bool, true, false, Option, Some, None, if◌then◌else◌, refl, ap, ap₂, codes, length, slice_get}
 use Rattle.std.specs.Str.{chars}
 use Rattle.std.specs.Option.{option_map_or}
@@ -11,7 +11,7 @@ use Rattle.clap.specs.Kinds.{Kinds, or_else}
 use Rattle.clap.specs.declared.builder.value_parser.ValueParser.TheVariants.{String}
 use Rattle.clap.specs.declared.parser.matches.ValueSource.TheVariants.{CommandLine}
 use Rattle.command_line.specs.Words.{Item, Text, events, is_end}
-use Rattle.command_line.specs.Told.{bare_app, files_rule, flag_rule, told_app, valued_rule}
+use Rattle.command_line.specs.Matches.{bare_app, files_rule, flag_rule, told_app, valued_rule}
 
 -- the arguments and the command as they are built
 abbrev pub valued_built : Text → Rule
@@ -162,7 +162,7 @@ file_walked rows (an_option credits last) word false = refl
 file_walked rows (an_option weights last) word true = refl
 file_walked rows (an_option weights last) word false = refl
 
--- behind `--`
+-- after `--`
 pub trailing_turn : (rows : List Row) (pending : Pending) (word : Text) → turn_fault shape [] (at rows pending true) word ≡ []
 trailing_turn rows pending word = file_turn rows pending word true
 
@@ -212,7 +212,7 @@ end_turn rows pending word e =
 pub end_walked : (rows : List Row) (pending : Pending) (word : Text) → is_end word ≡ true → walked rules [] (at rows pending false) word ≡ at rows pending true
 end_walked rows pending word e = walked_by rows pending word (held_at rows pending, trailing 1) (end_met (is_file pending) word (held_at rows pending) e)
 
--- what a word is that is no flag and not `--`
+-- the class of a word that is neither a flag nor `--`
 pub record IsPlain (word : Text) : Type 0 where
   pub no_end : is_end word ≡ false
   pub no_long : long_of word ≡ None
@@ -257,7 +257,7 @@ long_meets : (b : Bool) (word : Text) (p : Text × Option Text) (held : Held) �
     ≡ after_flag rules (waiting_by b) word (long_met rules (arg_by_long rules p.0) p.1 held).0 (long_met rules (arg_by_long rules p.0) p.1 held).1
 long_meets b word p held is = opened b word held is.0 ∙ ap (λ l. long_or_other rules (waiting_by b) word l held) is.1
 
--- an option with the value behind its `=`
+-- an option with the value after its `=`
 pub joined_fault : (name : Name) (v : Text) (held : Held) → long_fault rules false (arg_by_long rules (id_of name)) (Some v) held ≡ or_else (settle_fault rules false held) []
 joined_fault workers v held = refl
 joined_fault budget v held = refl

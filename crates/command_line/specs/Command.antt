@@ -25,19 +25,19 @@ admit_in text =
     if bytes_eq text (codes "all") then Some All
     else (if bytes_eq text (codes "credit") then Some Credit else None)
 
--- the one value, as it is read, or what stands for none
+-- the one value, as it is read, or the default where there is none
 abbrev pub one_or : {X : Type 0} → X → (Text → Option X) → List Text → Option X
 one_or default read [] = Some default
 one_or default read (value ∷ []) = read value
 one_or default read (value ∷ more ∷ values) = None
 
--- the option without a value is there, at most once
+-- whether the option without a value occurs, at most once
 abbrev pub flag_in : List Text → Option Bool
 flag_in [] = Some false
 flag_in (value ∷ []) = Some true
 flag_in (value ∷ more ∷ values) = None
 
--- the weights of the 35 operators, by at most one list, where the entries are weighed by them; else none
+-- the weights of the 35 operators, by at most one list, where the policy is `weighted`; else none, without a list
 abbrev pub weights_for : Evict → List Text → Option (List ℕ)
 weights_for Weighted values = one_or even_weights weights_in values
 weights_for _ [] = Some []
@@ -63,18 +63,18 @@ options_in uses =
 abbrev pub are_files : List Text → Bool
 are_files files = nat_le 1 (length files) && nat_le (length files) 16
 
--- how many workers a query has
+-- the number of workers of a query
 abbrev pub workers_in : Uses → Option ℕ
 workers_in uses = one_or 4 (number_in 1 16) uses.workers
 
--- `run` by so many workers: all words that are no options are files
+-- `run` with this many workers: all words that are no options are files
 abbrev pub run_by : Uses → ℕ → Option Command
 run_by uses workers = if are_files uses.files then option_map (λ options. Run workers options uses.files) (options_in uses) else None
 
 abbrev pub run_in : Uses → Option Command
 run_in uses = option_and_then (run_by uses) (workers_in uses)
 
--- `replay`: the first of them is the schedule
+-- `replay`: the first file is the schedule
 abbrev pub replay_of : Uses → List Text → Option Command
 replay_of uses [] = None
 replay_of uses (schedule ∷ files) = if are_files files then option_map (λ options. Replay options schedule files) (options_in uses) else None
@@ -83,7 +83,7 @@ replay_of uses (schedule ∷ files) = if are_files files then option_map (λ opt
 abbrev pub replay_in : Uses → Option Command
 replay_in uses = if length uses.workers == 0 then replay_of uses uses.files else None
 
--- no further word, but for an `--` that has no file behind it
+-- no further word, but for an `--` that no file follows
 abbrev pub ends_here : List Text → Bool
 ends_here [] = true
 ends_here (word ∷ []) = is_end word
@@ -118,13 +118,13 @@ files_of (Run workers options files) = files
 files_of (Replay options schedule files) = files
 files_of (Generate seed) = []
 
--- options that a pool and its scorer are made of
+-- options that are fit for a pool and its scorer
 pub record AreFit (options : RunOptions) : Type 0 where
   pub budget : options.budget ≤ 2 ^ 40
   pub weighted : options.evict ≡ Weighted → AreWeights options.weights
   pub plain : options.evict ≢ Weighted → options.weights ≡ []
 
--- a file, or a number from 1 to 1,000,000
+-- at least one file, or a number from 1 to 1,000,000
 abbrev pub IsGiven : Command → Type 0
 IsGiven (Run workers options files) = 1 ≤ length files
 IsGiven (Replay options schedule files) = 1 ≤ length files
@@ -136,7 +136,7 @@ HasWorkers (Run workers options files) = (1 ≤ workers) × (workers ≤ 16)
 HasWorkers (Replay options schedule files) = Unit {0}
 HasWorkers (Generate seed) = Unit {0}
 
--- a command with such options and workers, which is given something to work on, and at most 16 files
+-- a command with such options and workers, with something to work on, and with at most 16 files
 pub record IsFit (command : Command) : Type 0 where
   pub options : AreFit (options_of command)
   pub workers : HasWorkers command

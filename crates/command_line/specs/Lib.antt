@@ -1,5 +1,5 @@
 pub mod Command
 pub mod Numbers
-pub mod Told
+pub mod Matches
 pub mod Weights
 pub mod Words

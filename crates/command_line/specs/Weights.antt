@@ -1,4 +1,4 @@
--- The weights of operators, as a list names them: `name=n`, joined by commas.
+-- The weights of operators in a list: `name=n`, joined by commas.
 use Rattle.std.specs.Prelude.{ℕ, ◌==◌, List, [], ◌∷◌, map, replicate, Bool, true, not, ◌&&◌, if◌then◌else◌, bytes_eq, Option, Some, None}
 use Rattle.std.specs.List.{find, list_any, slice_split}
 use Rattle.std.specs.Option.{option_map, option_and_then}
@@ -16,7 +16,7 @@ even_weights = replicate 35 1
 
 -- ## Lists
 
--- the operator's function has this name, which stands without its module
+-- the operator's function has this name, without its module
 abbrev pub is_named : Text → Op → Bool
 is_named name operator = bytes_eq name (function_word operator)
 
@@ -25,7 +25,7 @@ is_named name operator = bytes_eq name (function_word operator)
 unfoldable pub operator_named : Text → Option Op
 operator_named name = find (is_named name) operators
 
--- the weight, from 1 to 1,000, that a value gives to the operator with a name
+-- the operator with a name, with the weight from 1 to 1,000 that a value is
 abbrev pub given_to : Text → Text → Option Given
 given_to name value =
     option_and_then (λ operator. option_map (λ weight. record { operator = operator; weight = weight }) (number_in 1 1000 value)) (operator_named name)
@@ -38,7 +38,7 @@ given_of (name, Some value) = given_to name value
 abbrev pub given_in : Text → Option Given
 given_in part = given_of (name_and_value part)
 
--- what the parts of a list give, if each of them gives a weight
+-- the given weights of the parts of a list, if each part has one
 abbrev pub all_given : List Text → Option (List Given)
 all_given [] = Some []
 all_given (part ∷ parts) = option_and_then (λ given. option_map (λ more. given ∷ more) (all_given parts)) (given_in part)
@@ -54,7 +54,7 @@ abbrev pub are_distinct : List Given → Bool
 are_distinct [] = true
 are_distinct (given ∷ more) = not (is_given given.operator more) && are_distinct more
 
--- the weight of an operator, which is 1 where it is given none
+-- the weight of an operator; 1 where none is given
 abbrev pub weight_for : List Given → Op → ℕ
 weight_for [] operator = 1
 weight_for (given ∷ more) operator = if same_op given.operator operator then given.weight else weight_for more operator

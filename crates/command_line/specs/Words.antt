@@ -1,4 +1,4 @@
--- The words of the command line, and the uses of options and the files in them.
+-- The options and files that the words of the command line name.
 use Rattle.std.specs.Prelude.{ℕ, ◌==◌, List, [], ◌∷◌, map, filter, Bool, false, not, ◌&&◌, if◌then◌else◌, bytes_eq, Option, Some, None, codes}
 use Rattle.std.specs.List.{list_any, before_first, after_first}
 use Rattle.std.specs.Option.{option_map, option_and_then}
@@ -11,7 +11,7 @@ abbrev pub is_dashed : Text → Bool
 is_dashed [] = false
 is_dashed (b ∷ bs) = b == 45
 
--- behind `--` all words are files
+-- after `--` all words are files
 abbrev pub is_end : Text → Bool
 is_end word = bytes_eq word (codes "--")
 
@@ -19,12 +19,12 @@ is_end word = bytes_eq word (codes "--")
 abbrev pub is_option : Text → Bool
 is_option word = is_dashed word && not (bytes_eq word (codes "-"))
 
--- what stands behind a first `-`
+-- the rest after a first `-`
 abbrev pub behind_hyphen : Text → Option Text
 behind_hyphen [] = None
 behind_hyphen (b ∷ bs) = if b == 45 then Some bs else None
 
--- an option's name, which ends at the first `=`, and the value behind that
+-- an option's name, which ends at the first `=`, and the value after that
 abbrev pub name_and_value : Text → Text × Option Text
 name_and_value text = (
   before_first (λ b. b == 61) text,
@@ -58,15 +58,15 @@ events = (codes "events", codes "on")
 abbrev pub and_more : Item → Option (List Item) → Option (List Item)
 and_more item more = option_map (λ items. item ∷ items) more
 
--- an option with the value behind its `=`, or the option that waits for the next word; `more` are the
--- items behind it, if an option waits
+-- an option with the value after its `=`, or an option that waits for the next word; `more` are the items
+-- after it, by the option that waits, if any
 abbrev pub use_of : (Option Text → Option (List Item)) → Text × Option Text → Option (List Item)
 use_of more (name, None) =
     if is_valued name then more (Some name)
     else (if bytes_eq (codes "events") name then and_more events (more None) else None)
 use_of more (name, Some value) = if is_valued name then and_more (name, value) (more None) else None
 
--- the items in words, where an option may wait for its value
+-- the items in words; an option may wait for its value
 abbrev pub items_in : Option Text → List Text → Option (List Item)
 items_in None [] = Some []
 items_in (Some name) [] = None

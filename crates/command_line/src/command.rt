@@ -2,12 +2,12 @@
 ghost use Rattle.std.specs.Prelude.{◌≡◌, IfOk, IfSome};
 ghost use Rattle.std.specs.Option.{option_and_then};
 ghost use Rattle.command_line.specs.Command.{IsFit, are_files, command_named, ends_here, generate_in, replay_in, run_in};
-ghost use Rattle.command_line.specs.Told.{AreUtf8, texts_in, uses_in};
+ghost use Rattle.command_line.specs.Matches.{AreUtf8, texts_in, uses_in};
 ghost use Rattle.command_line.specs.Words.{uses_named};
 
+use crate::matches::{found, values};
 use crate::numbers::number_between;
 use crate::options::{options_of, workers_of};
-use crate::told::{found, values};
 use cell_core::{Memory, Sequence, Word, word_of};
 use clap::ArgMatches;
 use pool_policy::Admit;
@@ -20,17 +20,17 @@ const MOST_FILES: usize = 16;
 /// The options of a run.
 #[derive(Drop)]
 pub struct RunOptions {
-    /// How many stated bytes the pool can have, at most 2^40.
+    /// The most stated bytes of the pool, at most 2^40.
     pub budget: u64,
-    /// Which entry goes first.
+    /// Which entry is evicted first.
     pub evict: Evict,
     /// Which results are admitted.
     pub admit: Admit,
     /// The credit that a shape starts with, 1 to 1,000,000.
     pub credits: u64,
-    /// The weights of the 35 operators, 1 to 1,000 each, where the entries are weighed by them; else none.
+    /// The weights of the 35 operators, 1 to 1,000 each, if `evict` uses them; else none.
     pub weights: Sequence<u64>,
-    /// Whether the events are written.
+    /// Whether the log of events is printed.
     pub events: bool,
 }
 
@@ -39,7 +39,7 @@ pub struct RunOptions {
 pub enum Command {
     /// Runs the scripts in these files.
     Run {
-        /// How many workers a query has, 1 to 16.
+        /// The number of workers of a query, 1 to 16.
         workers: u32,
         /// The options.
         options: RunOptions,
@@ -82,7 +82,7 @@ pub fn command_of(alloc: Global, words: &[Word]) -> Result<Option<Command>, Memo
     Ok(None)
 }
 
-/// `run`, of the words behind it.
+/// `run`, by the words after it.
 fn run_of(alloc: Global, words: &[Word]) -> Result<Option<Command>, Memory>
     ensures { IfOk result (λ command. command ≡ option_and_then run_in (uses_named words.now)) }
 {
@@ -96,7 +96,7 @@ fn run_of(alloc: Global, words: &[Word]) -> Result<Option<Command>, Memory>
     }
 }
 
-/// `replay`, of the words behind it.
+/// `replay`, by the words after it.
 fn replay_of(alloc: Global, words: &[Word]) -> Result<Option<Command>, Memory>
     ensures { IfOk result (λ command. command ≡ option_and_then replay_in (uses_named words.now)) }
 {
@@ -110,7 +110,7 @@ fn replay_of(alloc: Global, words: &[Word]) -> Result<Option<Command>, Memory>
     }
 }
 
-/// `generate`, of the words behind it.
+/// `generate`, by the words after it.
 fn generate_of(words: &[Word]) -> Option<Command>
     ensures { result ≡ generate_in words.now }
 {
@@ -126,7 +126,7 @@ fn generate_of(words: &[Word]) -> Option<Command>
     }
 }
 
-/// Whether there is no further word, but for an `--` that has no file behind it.
+/// Whether there is no further word, but for an `--` that no file follows.
 fn ends_here(words: &[Word]) -> bool
     ensures { result ≡ ends_here words.now }
 {
@@ -161,7 +161,7 @@ fn run_from(alloc: Global, matches: &ArgMatches) -> Result<Option<Command>, Memo
     }))
 }
 
-/// `replay` with these options, schedule and files. It has no workers, so no word may name them.
+/// `replay` with these options, schedule and files. It has no workers; no word may name them.
 fn replay_from(alloc: Global, matches: &ArgMatches) -> Result<Option<Command>, Memory>
     ensures { IfOk result (λ command. command ≡ replay_in (uses_in matches.now)) }
 {
@@ -188,7 +188,7 @@ fn replay_from(alloc: Global, matches: &ArgMatches) -> Result<Option<Command>, M
     }))
 }
 
-/// Whether a command may have so many files.
+/// Whether a command may have this many files.
 fn are_files(texts: &[&str]) -> bool
     ensures { result ≡ are_files (texts_in texts.now) }
 {

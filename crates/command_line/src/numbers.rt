@@ -10,7 +10,7 @@ use text_bytes::{is_digit, number_64};
 /// The most digits of a number.
 const MOST_DIGITS: usize = 20;
 
-/// The number that a text is, if it is one in this range.
+/// The number that a text is, if it is in this range, both ends included.
 pub(crate) fn number_between(text: &str, low: u64, high: u64) -> Option<u64>
     ensures number { result ≡ number_in low high text.now }
     ensures within { IfSome result (λ number. (low ≤ number) × (number ≤ high)) }

@@ -2,12 +2,12 @@
 ghost use Rattle.std.specs.Prelude.{◌≡◌, IfOk};
 ghost use Rattle.command_line.specs.Command as told;
 ghost use Rattle.command_line.specs.Numbers.{number_in};
-ghost use Rattle.command_line.specs.Told.{texts_in, uses_in};
+ghost use Rattle.command_line.specs.Matches.{texts_in, uses_in};
 ghost use Rattle.command_line.specs.Weights.{even_weights, weights_in};
 
 use crate::command::RunOptions;
+use crate::matches::values;
 use crate::numbers::number_between;
-use crate::told::values;
 use crate::weights::{even_weights, weights_in};
 use cell_core::{Memory, Sequence};
 use clap::ArgMatches;
@@ -15,7 +15,19 @@ use pool_policy::Admit;
 use score_hook::Evict;
 use std::alloc::Global;
 
-/// How many workers a query has where no word says it.
+/// The budget of the pool in bytes where no word says it: 16 MiB.
+const DEFAULT_BUDGET: u64 = 16_777_216;
+
+/// The largest budget: 1 TiB.
+const MOST_BUDGET: u64 = 1_099_511_627_776;
+
+/// The credit that a shape starts with where no word says it.
+const DEFAULT_CREDITS: u64 = 3;
+
+/// The largest credit that a shape can start with.
+const MOST_CREDITS: u64 = 1_000_000;
+
+/// The number of workers of a query where no word names it.
 const DEFAULT_WORKERS: u32 = 4;
 
 /// The most workers of a query.
@@ -26,24 +38,24 @@ pub fn default_options(alloc: Global) -> RunOptions
     ensures { result ≡ told.default_options }
 {
     RunOptions {
-        budget: 16_777_216,
+        budget: DEFAULT_BUDGET,
         evict: Evict::Lru,
         admit: Admit::All,
-        credits: 3,
+        credits: DEFAULT_CREDITS,
         weights: Sequence::new(alloc),
         events: false,
     }
 }
 
-/// The options, if each is there at most once and its value is one.
+/// The options, if each occurs at most once and has a value of its kind.
 pub(crate) fn options_of(alloc: Global, matches: &ArgMatches) -> Result<Option<RunOptions>, Memory>
     ensures { IfOk result (λ options. options ≡ told.options_in (uses_in matches.now)) }
 {
     let Some(budget) = one_number(
         values(alloc, matches, "budget")?.as_slice(),
-        16_777_216,
+        DEFAULT_BUDGET,
         0,
-        1_099_511_627_776,
+        MOST_BUDGET,
     ) else {
         return Ok(None);
     };
@@ -55,9 +67,9 @@ pub(crate) fn options_of(alloc: Global, matches: &ArgMatches) -> Result<Option<R
     };
     let Some(credits) = one_number(
         values(alloc, matches, "credits")?.as_slice(),
-        3,
+        DEFAULT_CREDITS,
         1,
-        1_000_000,
+        MOST_CREDITS,
     ) else {
         return Ok(None);
     };
@@ -78,7 +90,7 @@ pub(crate) fn options_of(alloc: Global, matches: &ArgMatches) -> Result<Option<R
     }))
 }
 
-/// How many workers a query has, if that is said at most once and its value is a number of them.
+/// The number of workers of a query, if the option occurs at most once, with a value from 1 to 16.
 pub(crate) fn workers_of(alloc: Global, matches: &ArgMatches) -> Result<Option<u32>, Memory>
     ensures { IfOk result (λ workers. workers ≡ told.workers_in (uses_in matches.now)) }
 {
@@ -86,7 +98,7 @@ pub(crate) fn workers_of(alloc: Global, matches: &ArgMatches) -> Result<Option<u
     Ok(one_count(texts.as_slice()))
 }
 
-/// The one number of workers, or what stands for none.
+/// The one number of workers, or the default where there is none.
 fn one_count(texts: &[&str]) -> Option<u32>
     ensures { result ≡ told.one_or 4 (number_in 1 16) (texts_in texts.now) }
 {
@@ -108,7 +120,7 @@ fn count_named(text: &str) -> Option<u32>
     }
 }
 
-/// The one number, or what stands for none.
+/// The one number, or the default where there is none.
 fn one_number(texts: &[&str], default: u64, low: u64, high: u64) -> Option<u64>
     ensures { result ≡ told.one_or default (number_in low high) (texts_in texts.now) }
 {
@@ -121,7 +133,7 @@ fn one_number(texts: &[&str], default: u64, low: u64, high: u64) -> Option<u64>
     }
 }
 
-/// The one rule of eviction, or the first.
+/// The one eviction policy, or `lru` where there is none.
 fn one_evict(texts: &[&str]) -> Option<Evict>
     ensures { result ≡ told.one_or Evict.Lru told.evict_in (texts_in texts.now) }
 {
@@ -152,7 +164,7 @@ fn evict_named(text: &str) -> Option<Evict>
     None
 }
 
-/// The one rule of admission, or the first.
+/// The one admission policy, or `all` where there is none.
 fn one_admit(texts: &[&str]) -> Option<Admit>
     ensures { result ≡ told.one_or Admit.All told.admit_in (texts_in texts.now) }
 {
@@ -177,7 +189,8 @@ fn admit_named(text: &str) -> Option<Admit>
     None
 }
 
-/// The weights, where entries are weighed by them; else none, and then there is no list of them.
+/// The weights by at most one list where the eviction policy is `weighted`; else none, without a
+/// list.
 fn weights_for(alloc: Global, evict: Evict, texts: &[&str]) -> Result<Option<Sequence<u64>>, Memory>
     ensures { IfOk result (λ weights. weights ≡ told.weights_for evict (texts_in texts.now)) }
 {
@@ -190,7 +203,7 @@ fn weights_for(alloc: Global, evict: Evict, texts: &[&str]) -> Result<Option<Seq
     }
 }
 
-/// The weights of the one list, or the same weight for each operator.
+/// The weights of the one list, or the same weight for each operator where there is none.
 fn one_list(alloc: Global, texts: &[&str]) -> Result<Option<Sequence<u64>>, Memory>
     ensures { IfOk result (λ weights. weights ≡ told.one_or even_weights weights_in (texts_in texts.now)) }
 {
@@ -203,7 +216,7 @@ fn one_list(alloc: Global, texts: &[&str]) -> Result<Option<Sequence<u64>>, Memo
     }
 }
 
-/// Whether the option without a value is there, if that is at most once.
+/// Whether the option without a value occurs, if at most once.
 fn flag(texts: &[&str]) -> Option<bool>
     ensures { result ≡ told.flag_in (texts_in texts.now) }
 {

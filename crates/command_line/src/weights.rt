@@ -1,7 +1,7 @@
 //! The weights of operators, read from the text of their list.
 ghost use Rattle.std.specs.Prelude.{◌≡◌, ◌==◌, IfOk, map};
 ghost use Rattle.std.specs.List.{find, slice_split};
-ghost use Rattle.command_line.specs.Told.{texts_in};
+ghost use Rattle.command_line.specs.Matches.{texts_in};
 ghost use Rattle.command_line.specs.Weights as told;
 
 use crate::numbers::number_between;
@@ -9,7 +9,7 @@ use cell_core::{Memory, Op, Sequence};
 use mal_tokens::{OPERATORS, function_word};
 use std::alloc::{AllocError, Global};
 
-/// An operator, and the weight that it is given.
+/// An operator with its given weight.
 #[derive(Clone, Copy)]
 struct Given {
     operator: Op,
@@ -45,7 +45,7 @@ fn parts_of<'a>(alloc: Global, text: &'a str) -> Result<Vec<&'a str>, AllocError
     text.split(',').collect(alloc)
 }
 
-/// What the parts of a list give, if each of them gives a weight.
+/// The given weights of the parts of a list, if each part has one.
 fn all_given(alloc: Global, parts: &[&str]) -> Result<Option<Sequence<Given>>, Memory>
     ensures { IfOk result (λ given. given ≡ told.all_given (texts_in parts.now)) }
 {
@@ -61,7 +61,7 @@ fn all_given(alloc: Global, parts: &[&str]) -> Result<Option<Sequence<Given>>, M
     Ok(Some(all))
 }
 
-/// What `name=n` gives.
+/// The given weight of `name=n`.
 fn given_in(part: &str) -> Option<Given>
     ensures { result ≡ told.given_in part.now }
 {
@@ -71,7 +71,7 @@ fn given_in(part: &str) -> Option<Given>
     }
 }
 
-/// The weight that a value gives to the operator with a name.
+/// The operator with this name, with the weight that `value` is.
 fn given_to(name: &str, value: &str) -> Option<Given>
     ensures { result ≡ told.given_to name.now value.now }
 {
@@ -153,7 +153,7 @@ fn weigh(alloc: Global, operators: &[Op], given: &[Given]) -> Result<Sequence<u6
     Ok(Sequence::from_vec(weights))
 }
 
-/// The weight of an operator, which is 1 where it is given none.
+/// The weight of an operator; 1 where none is given.
 fn weight_for(given: &[Given], operator: Op) -> u64
     ensures { result ≡ told.weight_for given.now operator }
 {

@@ -21,7 +21,7 @@ pub record IsPairOf (b : Basis) (pair : Pair) (out : List ℕ) : Type 0 where
   pub second : IsTask b pair.second
   pub are_out : out ≡ pair.first.instr ∷ pair.second.instr ∷ []
 
--- what a run of a plan leaves. What holds of the Jobs holds behind Ok and behind Overflow
+-- what a run of a plan leaves. What holds of the Jobs holds after Ok and after Overflow
 pub record IsRun {F : Type 0} (b b' : Basis) (fixed fixed' : F) (valued needed : ℕ → Bool) (handed finished : List ℕ) (holds : Type 0) (result : Result (Unit {0}) RunError) : Type 0 where
   pub basis : b' ≡ b
   pub kept : fixed' ≡ fixed

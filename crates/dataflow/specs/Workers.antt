@@ -1,4 +1,4 @@
--- Workers that give their passes back.
+-- Workers that return their passes.
 use Rattle.std.specs.Prelude.{◌≡◌, List}
 use Rattle.std.specs.List.{AllByRecursion}
 use Rattle.std.specs.declared.thread.PromisedHandle.{PromisedHandle}
@@ -6,6 +6,6 @@ use Rattle.dataflow.specs.declared.team.Team.{Team}
 use Rattle.dataflow.specs.declared.queues.Hands.{Hands}
 use Rattle.dataflow.specs.declared.run.GivesBack.{GivesBack}
 
--- each promised to give back passes of this team's queues
+-- each promised to return passes of this team's queues
 abbrev pub GiveBackTo : {K : Type 0} → Team K → List (PromisedHandle Hands (GivesBack K)) → Type 0
 GiveBackTo team started = AllByRecursion (λ w. w.promise.team.now ≡ team) started

@@ -4,7 +4,7 @@ ghost use Rattle.cell_core.specs.declared.memory.RunError.TheVariants as RunErro
 ghost use Rattle.dataflow.specs.Plans.{IsComplete, HasFault};
 ghost use Rattle.dataflow.specs.Leads.{KnowsOut, IsPairOf};
 
-use crate::basis::Named;
+use crate::basis::HasBasis;
 use crate::jobs::Jobs;
 use crate::pending::{run_here, take};
 use crate::task::Pair;
@@ -15,7 +15,7 @@ use std::sync::Wait;
 
 /// Runs tasks until all is done.
 #[tactic(auto, using(crate::proofs::LeadLemmas::without_one))]
-pub(crate) fn run_alone<K: Named, R: Wait, J: Jobs, E: Operate>(
+pub(crate) fn run_alone<K: HasBasis, R: Wait, J: Jobs, E: Operate>(
     rt: &R,
     alloc: Global,
     jobs: &mut J,
@@ -42,10 +42,10 @@ pub(crate) fn run_alone<K: Named, R: Wait, J: Jobs, E: Operate>(
     unreachable!()
 }
 
-/// Runs tasks for as long as one alone is ready. Gives the first two that are ready at once, and none
-/// where all is done.
+/// Runs tasks for as long as one alone is ready. Returns the first two that are ready at once, and
+/// none where all is done.
 #[tactic(auto, using(crate::proofs::LeadLemmas::without_one))]
-pub(crate) fn run_until_two<K: Named, R: Wait, J: Jobs, E: Operate>(
+pub(crate) fn run_until_two<K: HasBasis, R: Wait, J: Jobs, E: Operate>(
     rt: &R,
     alloc: Global,
     jobs: &mut J,
@@ -79,7 +79,7 @@ pub(crate) fn run_until_two<K: Named, R: Wait, J: Jobs, E: Operate>(
 
 /// Runs two tasks that are out, and then all others.
 #[tactic(auto, using(crate::proofs::LeadLemmas::without_two))]
-pub(crate) fn run_pair_alone<K: Named, R: Wait, J: Jobs, E: Operate>(
+pub(crate) fn run_pair_alone<K: HasBasis, R: Wait, J: Jobs, E: Operate>(
     rt: &R,
     alloc: Global,
     jobs: &mut J,

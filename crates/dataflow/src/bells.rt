@@ -10,7 +10,8 @@ use std::thread::Parker;
 #[derive(Drop)]
 pub(crate) struct Bell {
     parker: Parker,
-    // Set before the worker's last look, so who pushes a task after that look sees it.
+    // Set before the worker's last look, so that a thread which pushes a task after that look sees
+    // it.
     asleep: AtomicBool,
 }
 
@@ -22,7 +23,8 @@ impl Bell {
         }
     }
 
-    /// Says that the worker is about to sleep; whether it hadn't said so, and has to look once more.
+    /// Notes that the worker is about to sleep. Returns whether that is new, and it has to look
+    /// once more.
     pub fn lies_down(&self) -> bool {
         !self.asleep.swap(true, Ordering::SeqCst)
     }
@@ -33,12 +35,12 @@ impl Bell {
         self.gets_up();
     }
 
-    /// Says that the worker is awake.
+    /// Notes that the worker is awake.
     pub fn gets_up(&self) {
         self.asleep.store(false, Ordering::SeqCst);
     }
 
-    /// Wakes the worker if it sleeps or is about to; whether it did.
+    /// Wakes the worker if it sleeps or is about to. Returns whether it did.
     fn wakes(&self) -> bool {
         let asleep = self.asleep.swap(false, Ordering::SeqCst);
         if asleep {
@@ -68,7 +70,8 @@ impl Bells {
         })
     }
 
-    /// Wakes one worker that sleeps, for one task more. Where none does, each looks again by itself.
+    /// Wakes one worker that sleeps, for one task more. Where none sleeps, each looks again by
+    /// itself.
     pub fn ring(&self) {
         'workers: for bell in self.tasks.as_slice() {
             if bell.wakes() {

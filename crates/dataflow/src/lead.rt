@@ -1,4 +1,4 @@
-//! The caller beside workers: it hands out tasks, takes answers, and says what is done.
+//! The caller beside workers: it hands out tasks, takes answers, and reports what is done.
 ghost use Rattle.std.specs.Prelude.{◌≡◌, Err, OnOk, IfOk, IsTrue};
 ghost use Rattle.cell_core.specs.declared.memory.RunError.TheVariants as RunError;
 ghost use Rattle.dataflow.specs.Rules.{IsTask, IsAnswer};
@@ -6,7 +6,7 @@ ghost use Rattle.dataflow.specs.Plans.{IsComplete, HasFault};
 ghost use Rattle.dataflow.specs.Hands.{IsHandsOf};
 ghost use Rattle.dataflow.specs.Leads.{KnowsOut, IsPairOf};
 
-use crate::basis::Named;
+use crate::basis::HasBasis;
 use crate::jobs::Jobs;
 use crate::pending::{run_here, settle, take};
 use crate::queues::Hands;
@@ -19,7 +19,7 @@ use std::alloc::Global;
 use std::sync::Wait;
 
 /// Waits for an answer. It looks some times more before it sleeps, as a worker does.
-fn await_answer<K: Named, R: Wait>(rt: &R, team: &Team<K>, hands: &mut Hands) -> Answer
+fn await_answer<K: HasBasis, R: Wait>(rt: &R, team: &Team<K>, hands: &mut Hands) -> Answer
     requires { IsHandsOf K.basis team.now.queues hands.old }
     ensures ours { IsHandsOf K.basis team.now.queues hands.new }
     ensures answer { IsAnswer K.basis result }
@@ -39,7 +39,7 @@ fn await_answer<K: Named, R: Wait>(rt: &R, team: &Team<K>, hands: &mut Hands) ->
 }
 
 /// Pushes a task, or runs it where there is no room.
-fn dispatch<K: Named, R: Wait, J: Jobs, E: Operate>(
+fn dispatch<K: HasBasis, R: Wait, J: Jobs, E: Operate>(
     rt: &R,
     alloc: Global,
     jobs: &mut J,
@@ -71,8 +71,8 @@ fn dispatch<K: Named, R: Wait, J: Jobs, E: Operate>(
     }
 }
 
-/// Hands out the next task, or else takes up an answer; or says that all is done.
-fn step<K: Named, R: Wait, J: Jobs, E: Operate>(
+/// Hands out the next task, or else takes an answer. True where all is done.
+fn step<K: HasBasis, R: Wait, J: Jobs, E: Operate>(
     rt: &R,
     alloc: Global,
     jobs: &mut J,
@@ -107,7 +107,7 @@ fn step<K: Named, R: Wait, J: Jobs, E: Operate>(
 }
 
 /// Runs the plan to its end with the team, from two tasks that are out.
-pub(crate) fn lead<K: Named, R: Wait, J: Jobs, E: Operate>(
+pub(crate) fn lead<K: HasBasis, R: Wait, J: Jobs, E: Operate>(
     rt: &R,
     alloc: Global,
     jobs: &mut J,

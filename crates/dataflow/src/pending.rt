@@ -6,7 +6,7 @@ ghost use Rattle.dataflow.specs.Rules.{value_at, IsTask, IsAnswer};
 ghost use Rattle.dataflow.specs.Plans.{has, IsIdle, HasFault};
 ghost use Rattle.dataflow.specs.Leads.{without, KnowsOut};
 
-use crate::basis::Named;
+use crate::basis::HasBasis;
 use crate::jobs::Jobs;
 use crate::task::{Answer, Task};
 use crate::workers::answer_to;
@@ -22,7 +22,7 @@ fn remove(out: &mut Vec<u32>, instr: u32)
     out.retain(|i| *i != instr);
 }
 
-/// The next task that is ready, which is out from now on.
+/// The next task that is ready. It is out from then on.
 pub(crate) fn take<R: Wait, J: Jobs>(
     rt: &R,
     jobs: &mut J,
@@ -46,7 +46,7 @@ pub(crate) fn take<R: Wait, J: Jobs>(
     Ok(Some(task))
 }
 
-/// Says that an instruction which is out is done.
+/// Notes that an instruction which is out is done.
 #[tactic(auto, using(crate::proofs::LeadLemmas::out_is_handed, crate::proofs::LeadLemmas::out_is_due))]
 fn finish<R: Wait, J: Jobs>(
     rt: &R,
@@ -70,7 +70,7 @@ fn finish<R: Wait, J: Jobs>(
     Ok(())
 }
 
-/// Takes up an answer. One to what isn't out is let go.
+/// Takes an answer. One to an instruction that isn't out is dropped.
 pub(crate) fn settle<R: Wait, J: Jobs>(
     rt: &R,
     jobs: &mut J,
@@ -98,7 +98,7 @@ pub(crate) fn settle<R: Wait, J: Jobs>(
 }
 
 /// Runs a task on this thread.
-pub(crate) fn run_here<K: Named, R: Wait, J: Jobs, E: Operate>(
+pub(crate) fn run_here<K: HasBasis, R: Wait, J: Jobs, E: Operate>(
     rt: &R,
     alloc: Global,
     jobs: &mut J,

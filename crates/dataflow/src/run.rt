@@ -8,7 +8,7 @@ ghost use Rattle.dataflow.specs.Leads.{KnowsOut, IsPairOf, IsRun};
 ghost use Rattle.dataflow.specs.Workers.{GiveBackTo};
 
 use crate::alone::{run_alone, run_pair_alone, run_until_two};
-use crate::basis::Named;
+use crate::basis::HasBasis;
 use crate::bells::Bells;
 use crate::jobs::Jobs;
 use crate::lead::lead;
@@ -25,8 +25,8 @@ use std::thread;
 use std::thread::{Promise, PromisedHandle, Scope, Threads};
 
 /// What runs on the caller's thread while workers run beside it. A scope says nothing of what its
-/// closure writes through a `&mut`, so a part that holds one gives it back.
-trait Part {
+/// closure writes through a `&mut`, so a part that holds one returns it.
+trait CallerWork {
     type Output;
 
     ghost can_run: { Self → Type 0 };
@@ -40,7 +40,7 @@ trait Part {
 
 /// The caller's part: it leads, or does all by itself where no worker could be started.
 #[derive(Drop)]
-struct Caller<'a, K: Named, J, E> {
+struct Caller<'a, K: HasBasis, J, E> {
     alloc: Global,
     jobs: &'a mut J,
     kernel: &'a E,
@@ -50,7 +50,7 @@ struct Caller<'a, K: Named, J, E> {
     pair: Pair,
 }
 
-impl<'a, K: Named, J: Jobs, E: Operate> Part for Caller<'a, K, J, E> {
+impl<'a, K: HasBasis, J: Jobs, E: Operate> CallerWork for Caller<'a, K, J, E> {
     type Output = (&'a mut J, Result<(), RunError>);
 
     ghost can_run = { λ c. (J.basis c.jobs.now ≡ K.basis) × KnowsOut (J.handed c.jobs.now) (J.finished c.jobs.now) c.out.items × IsPairOf K.basis c.pair c.out.items × IsHandsOf K.basis c.team.now.queues c.hands × J.sound c.jobs.now };
@@ -76,20 +76,20 @@ impl<'a, K: Named, J: Jobs, E: Operate> Part for Caller<'a, K, J, E> {
     }
 }
 
-/// What a worker promises: it gives its passes back.
+/// The promise of a worker: it returns its passes.
 #[derive(Clone, Copy, Drop)]
-struct GivesBack<'s, K: Named> {
+struct GivesBack<'s, K: HasBasis> {
     team: &'s Team<K>,
 }
 
-impl<'s, K: Named> Promise<Hands> for GivesBack<'s, K> {
+impl<'s, K: HasBasis> Promise<Hands> for GivesBack<'s, K> {
     ghost kept_by = { λ promise hands. IsHandsOf K.basis promise.team.now.queues hands };
 }
 
 type Worker<'s, K> = PromisedHandle<Hands, GivesBack<'s, K>>;
 
 /// Keeps a worker, to be joined later. Where there is no memory for that, the scope joins it.
-fn keep<'s, K: Named>(team: &'s Team<K>, started: &mut Vec<Worker<'s, K>>, worker: Worker<'s, K>)
+fn keep<'s, K: HasBasis>(team: &'s Team<K>, started: &mut Vec<Worker<'s, K>>, worker: Worker<'s, K>)
     requires theirs { GiveBackTo team.now started.old.items }
     requires worker { worker.promise.team.now ≡ team.now }
     ensures { GiveBackTo team.now started.new.items }
@@ -98,7 +98,7 @@ fn keep<'s, K: Named>(team: &'s Team<K>, started: &mut Vec<Worker<'s, K>>, worke
 }
 
 /// Starts a worker for each bell. Those that can't be started are left out.
-fn start<'s, X: 's, K: Named + Send + Sync, R: Threads + Wait + Sync, E: Operate + Sync>(
+fn start<'s, X: 's, K: HasBasis + Send + Sync, R: Threads + Wait + Sync, E: Operate + Sync>(
     scope: &Scope<'s, X>,
     rt: &'s R,
     alloc: Global,
@@ -125,7 +125,7 @@ fn start<'s, X: 's, K: Named + Send + Sync, R: Threads + Wait + Sync, E: Operate
 }
 
 /// Joins workers, and their passes.
-fn join_all<'s, K: Named + Send + Sync, R: Threads>(
+fn join_all<'s, K: HasBasis + Send + Sync, R: Threads>(
     rt: &R,
     team: &'s Team<K>,
     hands: &mut Hands,
@@ -142,14 +142,12 @@ fn join_all<'s, K: Named + Send + Sync, R: Threads>(
 }
 
 /// Runs the caller's part with workers beside it, and joins them all.
-fn beside<K: Named + Send + Sync, R: Threads + Wait + Sync, E: Operate + Sync, P: Part + Drop>(
-    rt: &R,
-    alloc: Global,
-    kernel: &E,
-    team: &Team<K>,
-    hands: Hands,
-    part: P,
-) -> P::Output
+fn beside<
+    K: HasBasis + Send + Sync,
+    R: Threads + Wait + Sync,
+    E: Operate + Sync,
+    P: CallerWork + Drop,
+>(rt: &R, alloc: Global, kernel: &E, team: &Team<K>, hands: Hands, part: P) -> P::Output
     requires ours { IsHandsOf K.basis team.now.queues hands }
     requires can { P.can_run part }
     ensures { P.run_gives part result }
@@ -171,13 +169,13 @@ fn beside<K: Named + Send + Sync, R: Threads + Wait + Sync, E: Operate + Sync, P
     )
 }
 
-// Does nothing, but this use of a reference that came back ties it to what lent it.
+// It does nothing, but this use of a reference that came back ties it to what lent it.
 fn take_back<T>(x: &mut T)
     ensures { x.new ≡ x.old }
 {}
 
 /// Starts workers, and runs the plan with them from two tasks that are out.
-fn flow_beside<K: Named + Send + Sync, R: Threads + Wait + Sync, J: Jobs, E: Operate + Sync>(
+fn flow_beside<K: HasBasis + Send + Sync, R: Threads + Wait + Sync, J: Jobs, E: Operate + Sync>(
     rt: &R,
     alloc: Global,
     jobs: &mut J,
@@ -211,7 +209,7 @@ fn flow_beside<K: Named + Send + Sync, R: Threads + Wait + Sync, J: Jobs, E: Ope
 }
 
 /// Runs a plan whose basis has a name. Workers are started once two tasks are ready at once.
-fn flow_named<K: Named + Send + Sync, R: Threads + Wait + Sync, J: Jobs, E: Operate + Sync>(
+fn flow_named<K: HasBasis + Send + Sync, R: Threads + Wait + Sync, J: Jobs, E: Operate + Sync>(
     rt: &R,
     alloc: Global,
     jobs: &mut J,
@@ -233,12 +231,13 @@ fn flow_named<K: Named + Send + Sync, R: Threads + Wait + Sync, J: Jobs, E: Oper
     }
 }
 
-/// Runs a plan to its end: each task that `Jobs::next` gives is run once, by one of so many workers
-/// beside the caller, or by the caller. Where fewer than two workers are asked for, and as long as no two
-/// tasks are ready at once, the caller runs them and no thread is started; after that it runs a task only
-/// where the queue is full or no thread could be started. No more workers are started than the plan has
-/// instructions. `Overflow` comes exactly where a task that was handed out has no value. What the calls of
-/// `Jobs` keep holds after Ok and after `Overflow`. All workers have ended when it returns.
+/// Runs a plan to its end. Each task that `Jobs::next` returns is run once, by the caller or by one
+/// of so many workers beside it. The caller runs the tasks, and no thread is started, where fewer
+/// than two workers are asked for and as long as no two tasks are ready at once. After that it runs
+/// a task only where the queue is full or no thread could be started. No more workers are started
+/// than the plan has instructions. `Overflow` comes exactly where a task that was handed out has no
+/// value. What the calls of `Jobs` keep holds after Ok and after `Overflow`. All workers have ended
+/// when it returns.
 pub fn flow<R: Threads + Wait + Sync, J: Jobs, E: Operate + Sync>(
     rt: &R,
     alloc: Global,

@@ -1,4 +1,4 @@
-//! What goes through the queues.
+//! Tasks and answers, which go through the queues.
 
 use crate::ready::Job;
 use bat_core::Obj;
@@ -10,7 +10,7 @@ pub struct Task {
     pub job: Job,
 }
 
-// By a call of its own, so that proofs needn't go through its forms where one is let go.
+// By a call of its own, so that proofs needn't go through its forms where one is dropped.
 impl Drop for Task {
     fn drop(self) {
         let Task { instr: _, job: _ } = self;

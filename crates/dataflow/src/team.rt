@@ -1,20 +1,20 @@
 //! What the caller and its workers share.
 ghost use Rattle.std.specs.Prelude.{◌≡◌};
 
-use crate::basis::Named;
+use crate::basis::HasBasis;
 use crate::bells::Bells;
 use crate::queues::Queues;
 use std::sync::atomic::{AtomicBool, Ordering};
 
 /// The queues, the bells of those that wait, and whether the work is to end.
 #[derive(Drop)]
-pub(crate) struct Team<K: Named> {
+pub(crate) struct Team<K: HasBasis> {
     pub queues: Queues<K>,
     pub bells: Bells,
     ended: AtomicBool,
 }
 
-impl<K: Named> Team<K> {
+impl<K: HasBasis> Team<K> {
     /// A team whose work goes on.
     pub fn new(queues: Queues<K>, bells: Bells) -> Team<K>
         ensures { result.queues ≡ queues }
@@ -26,7 +26,7 @@ impl<K: Named> Team<K> {
         }
     }
 
-    /// Tells the workers to end.
+    /// Asks the workers to end.
     pub fn end(&self) {
         self.ended.store(true, Ordering::SeqCst);
         self.bells.ring_all();

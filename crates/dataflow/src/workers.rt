@@ -1,10 +1,10 @@
-//! Workers, which take tasks and push answers until they are told to end.
+//! Workers, which take tasks and push answers until the work is to end.
 ghost use Rattle.std.specs.Prelude.{◌≡◌};
 ghost use Rattle.dataflow.specs.Jobs.{Answers};
 ghost use Rattle.dataflow.specs.Rules.{value_at, IsTask, IsAnswer};
 ghost use Rattle.dataflow.specs.Hands.{IsHandsOf};
 
-use crate::basis::Named;
+use crate::basis::HasBasis;
 use crate::bells::Bell;
 use crate::queues::Hands;
 use crate::ready::run_job;
@@ -17,7 +17,11 @@ use std::alloc::Global;
 use std::sync::Wait;
 
 /// The value of a task's instruction.
-fn run_task<K: Named, E: Operate>(alloc: Global, task: &Task, kernel: &E) -> Result<Obj, RunError>
+fn run_task<K: HasBasis, E: Operate>(
+    alloc: Global,
+    task: &Task,
+    kernel: &E,
+) -> Result<Obj, RunError>
     requires { IsTask K.basis task.now }
     ensures { Answers (value_at K.basis task.now.instr) result }
 {
@@ -25,7 +29,7 @@ fn run_task<K: Named, E: Operate>(alloc: Global, task: &Task, kernel: &E) -> Res
 }
 
 /// The answer to a task.
-pub(crate) fn answer_to<K: Named, E: Operate>(alloc: Global, task: Task, kernel: &E) -> Answer
+pub(crate) fn answer_to<K: HasBasis, E: Operate>(alloc: Global, task: Task, kernel: &E) -> Answer
     requires { IsTask K.basis task }
     ensures answer { IsAnswer K.basis result }
     ensures instr { result.instr ≡ task.instr }
@@ -38,7 +42,7 @@ pub(crate) fn answer_to<K: Named, E: Operate>(alloc: Global, task: Task, kernel:
 }
 
 /// Pushes an answer, or gives up where the work is to end.
-fn deliver<K: Named, R: Wait>(rt: &R, team: &Team<K>, hands: &mut Hands, answer: Answer)
+fn deliver<K: HasBasis, R: Wait>(rt: &R, team: &Team<K>, hands: &mut Hands, answer: Answer)
     requires ours { IsHandsOf K.basis team.now.queues hands.old }
     requires answer { IsAnswer K.basis answer }
     ensures { IsHandsOf K.basis team.now.queues hands.new }
@@ -60,9 +64,9 @@ fn deliver<K: Named, R: Wait>(rt: &R, team: &Team<K>, hands: &mut Hands, answer:
     }
 }
 
-/// Runs tasks until the work is to end. It looks for a task some times more before it sleeps, since to
-/// wake a thread takes longer than most tasks.
-pub(crate) fn work<K: Named, R: Wait, E: Operate>(
+/// Runs tasks until the work is to end. It looks for a task a few times more before it sleeps,
+/// since waking a thread takes longer than most tasks.
+pub(crate) fn work<K: HasBasis, R: Wait, E: Operate>(
     rt: &R,
     alloc: Global,
     kernel: &E,

@@ -69,7 +69,7 @@ played_up contenders t t' node h some low is =
       (λ e. ok (omega arith)),
     ))
 
--- games are played from behind
+-- games are played from the last to the first
 pub played_down : (contenders : List Contender) (t t' : List (Option ℕ)) (node : ℕ) → IsContest (λ k. node + 1 ≤ k) contenders t → 0 < node → node < length contenders
     → t' ≡ slice_set t node (sooner_of contenders (winner_at t (2 * node)) (winner_at t (2 * node + 1))) → IsContest (λ k. node ≤ k) contenders t'
 played_down contenders t t' node h some low is =

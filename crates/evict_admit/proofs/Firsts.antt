@@ -42,7 +42,7 @@ module _ (contenders : List Contender) (some : (p : ℕ) → 0 < (contender_at c
       go false e = not_after _ _ e
 
   module _ (t : List (Option ℕ)) (whole : IsWhole contenders t) where
-    -- the first is no later than what stands at any place
+    -- the first is no later than the winner at any place
     first_no_later : (fuel k : ℕ) → k ≤ fuel → 0 < k → k < 2 * length contenders → NoLater (winner_at t 1) (winner_at t k)
     first_no_later zero k most some low = absurd (omega arith)
     first_no_later (suc fuel) k most some low = elim (is_or_not k 1) [
@@ -57,7 +57,7 @@ module _ (contenders : List Contender) (some : (p : ℕ) → 0 < (contender_at c
           ] in no_later_trans (winner_at t 1) (winner_at t (k / 2)) (winner_at t k) up down
     ]
 
-    -- what stands at a place stands at a seat below it
+    -- the winner at a place has a seat below it
     seat_below : (fuel k : ℕ) → length contenders ≤ k + fuel → 0 < k → k < 2 * length contenders → (p : ℕ) × (p < length contenders) × (winner_at t k ≡ winner_at t (length contenders + p))
     seat_below zero k most some low = (k - length contenders, omega arith, ap (winner_at t) (omega arith))
     seat_below (suc fuel) k most some low = elim (nat_lt k (length contenders)) as (λ r. nat_lt k (length contenders) ≡ r → (p : ℕ) × (p < length contenders) × (winner_at t k ≡ winner_at t (length contenders + p))) [
@@ -71,7 +71,7 @@ module _ (contenders : List Contender) (some : (p : ℕ) → 0 < (contender_at c
       | false ↦ λ e. let over = ltb-false k (length contenders) e in (k - length contenders, omega arith, ap (winner_at t) (omega arith))
     ] refl
 
-    -- the first stands at its own seat
+    -- the first has its own seat
     pub first_seat : (w : ℕ) (ready : ℕ → Bool) → 0 < length contenders → ((p : ℕ) → p < length contenders → winner_at t (length contenders + p) ≡ seat_of (ready p) p) → winner_at t 1 ≡ Some w
         → (w < length contenders) × (ready w ≡ true)
     first_seat w ready more seats is =

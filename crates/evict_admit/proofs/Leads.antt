@@ -1,4 +1,4 @@
--- Which row leads once one row more is looked at, and what a mark tells.
+-- Which row leads once one row more is read, and what a mark shows.
 use Rattle.std.proofs.Common.{◌≡◌, ℕ, suc, ◌+◌, ◌%◌, ◌<◌, List, [], ◌∷◌, Bool, true, false, true≢false, ◌&&◌, cond, Option, Some, None, length, drop, refl, ap, sym, ◌∙◌, subst, arith, add-one, drop-cons}
 use Rattle.std.proofs.Math.Seq.{drop-length}
 use Rattle.std.specs.Prelude.{◌==◌, filter, count_by, if◌then◌else◌, IfSome}
@@ -61,7 +61,7 @@ module _ (score : Stats → Score) (rows : List Row) where
     beaten : (row : Row) (d : Leader) → IsLeader most score rows (Some d) → goes_before score row (row_at rows d.place) ≡ comes_before (contender_for score row) d.contender
     beaten row d is = ap (comes_before (contender_for score row)) (sym (is.compared d refl))
 
-    -- what is to be found, with these rows behind the one that leads
+    -- the first row of the leader and of the rows after it is the first row of all
     abbrev pub IsPending : Option Leader → ℕ → Type 0
     IsPending leader i = first_beside score (leading_row rows leader) (rest i) ≡ next_of score rows
 

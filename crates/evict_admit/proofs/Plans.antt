@@ -133,7 +133,7 @@ shorter (x ∷ xs) gone (inr more) =
     let h : length (without gone.id xs) + 1 ≤ length xs = shorter xs gone more in
     elim (x.id == gone.id) as (λ b. length (cond (not b) (x ∷ without gone.id xs) (without gone.id xs)) + 1 ≤ length (x ∷ xs)) [ true ↦ omega (arith, h) | false ↦ omega (arith, h) ]
 
--- how a row stands once another has gone
+-- the state of a row once another has gone
 pub once_is : (out : List ℕ) (rows : List Row) (gone row : Row) → AreApart (still out rows) → In gone (still out rows) → once_gone gone row (left_of out rows row) ≡ left_of (out ++ gone.id ∷ []) rows row
 once_is out rows gone row apart here =
     let fewer : count_by (is_parent row.id) (still out rows) - one_if (is_parent row.id gone) ≡ count_by (is_parent row.id) (still (out ++ gone.id ∷ []) rows) =

@@ -1,4 +1,4 @@
--- A plan is what the function gives, and what it leaves.
+-- A plan is what the function returns, and what it leaves.
 use Rattle.std.proofs.Common.{◌≡◌, ℕ, zero, suc, ◌+◌, ◌-◌, ◌≤◌, List, [], ◌∷◌, Bool, true, false, not, ◌&&◌, ◌||◌, cond, Option, Some, None, inl, inr, refl, ap, sym, ◌∙◌, subst, arith, length}
 use Rattle.std.specs.Prelude.{filter, ◌==◌, count_by, sum_by}
 use Rattle.std.specs.Cmp.{first_so, second_so}
@@ -68,7 +68,7 @@ gives_is (id ∷ ids) (suc n) score rows bytes places enough few known =
     ∙ ap (one_more row.id) rest_row
     ∙ ap (λ i. one_more i (ids, enough)) known.1.2
 
--- what is found gives up is the function's answer
+-- a plan that gives up these ids is the answer of the function
 given_up_is : (ids : List ℕ) (score : Stats → Score) (rows : List Row) (bytes places : ℕ) (enough : Bool) → GivesUp score rows bytes places ids enough → given_up score rows bytes places ≡ (ids, enough)
 given_up_is ids score rows bytes places enough known = gives_is ids (length rows) score rows bytes places enough (omega arith) known
 

@@ -1,4 +1,4 @@
--- What is kept of the rows once one of them stands otherwise.
+-- What is kept of the rows once the state of one of them changes.
 use Rattle.std.proofs.Common.{◌≡◌, ◌≢◌, ℕ, ◌+◌, ◌<◌, List, [], ◌∷◌, Bool, true, false, Option, inl, inr, length, refl, ap, sym, ◌∙◌, length-set, get_or, get_or-set_same, get_or-set_other, arith, slice_set}
 use Rattle.std.specs.Prelude.{◌==◌, ◌||◌}
 use Rattle.std.specs.List.{list_any}

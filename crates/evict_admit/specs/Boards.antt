@@ -13,7 +13,7 @@ use Rattle.evict_admit.specs.declared.names.Known.{Known}
 use Rattle.evict_admit.specs.declared.board.Left.{Left}
 use Rattle.evict_admit.specs.Evictions.{is_parent}
 
--- what stands past the end of a list
+-- the value past the end of a list
 abbrev pub no_row : Row
 no_row = record { id = 0; bytes = 0; free = false; parents = []; stats = record { class = 0; work = 0; reuses = 0; others = 0; admitted_at = 0; used_at = 0 } }
 
@@ -40,7 +40,7 @@ comes_before a b = is_less a.score b.score || (not (is_less b.score a.score) && 
 abbrev pub AreSmall : List Contender → Type 0
 AreSmall contenders = (most : ℕ) × All (λ c. IsSmall most c.score) contenders
 
--- ## Contests: a list that has the places that take part behind, and at each place k before the sooner of those at 2 k and 2 k + 1
+-- ## Contests: a list whose last part has the places that take part, and which has at each place k before it the sooner of those at 2 k and 2 k + 1
 
 -- of two places, the one whose contender comes first
 abbrev pub sooner_of : List Contender → Option ℕ → Option ℕ → Option ℕ
@@ -48,7 +48,7 @@ sooner_of contenders None b = b
 sooner_of contenders (Some p) None = Some p
 sooner_of contenders (Some p) (Some q) = if comes_before (contender_at contenders q) (contender_at contenders p) then Some q else Some p
 
--- a place takes part or not
+-- the seat of a place, which takes part or not
 abbrev pub seat_of : Bool → ℕ → Option ℕ
 seat_of seated p = if seated then Some p else None
 
@@ -91,14 +91,14 @@ pub record IsKnown (known : Known) : Type 0 where
 abbrev pub one_if : Bool → ℕ
 one_if b = if b then 1 else 0
 
--- a row with one child more, or one less, if this is so
+-- a row with one child more, where this is so
 abbrev pub more_if : Bool → Left → Left
 more_if b left = record left { children = left.children + one_if b }
 
 abbrev pub less_if : Bool → Left → Left
 less_if b left = record left { children = left.children - one_if b }
 
--- a row that is given up, if this is so
+-- a row that is given up, where this is so
 abbrev pub gone_if : Bool → Left → Left
 gone_if b left = record left { gone = left.gone || b }
 
@@ -112,7 +112,7 @@ pub record IsSeated (known : Known) (lefts : List Left) (winners : List (Option 
   pub whole : IsWhole known.contenders.now winners
   pub seats : (p : ℕ) → p < length known.rows.now → winner_at winners (length known.rows.now + p) ≡ seat_of (may_go (row_at known.rows.now p) (left_at lefts p)) p
 
--- how a row stands once another is given up
+-- the state of a row once another is given up
 abbrev pub once_gone : Row → Row → Left → Left
 once_gone gone row left = record { children = left.children - one_if (is_parent row.id gone); gone = left.gone || row.id == gone.id }
 
@@ -123,6 +123,6 @@ is_gone out row = list_any (λ id. row.id == id) out
 abbrev pub still : List ℕ → List Row → List Row
 still out rows = filter (λ row. not (is_gone out row)) rows
 
--- how a row stands once rows with these ids are given up
+-- the state of a row once rows with these ids are given up
 abbrev pub left_of : List ℕ → List Row → Row → Left
 left_of out rows row = record { children = count_by (is_parent row.id) (still out rows); gone = is_gone out row }

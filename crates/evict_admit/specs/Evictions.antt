@@ -30,11 +30,11 @@ next_of score rows = first_by (goes_before score) (filter (can_go rows) rows)
 abbrev pub without : ℕ → List Row → List Row
 without id rows = filter (λ row. not (row.id == id)) rows
 
--- nothing is wanted any more
+-- nothing more is wanted
 abbrev pub is_enough : ℕ → ℕ → Bool
 is_enough bytes places = bytes == 0 && places == 0
 
--- of these rows, entries with these ids are given up one after the other, until the bytes and the places are free or no row can go; at last they are free or not
+-- of these rows, entries with these ids are given up one after the other, until the bytes and the places are free or no row can go; the last says whether they are free
 abbrev pub GivesUp : (Stats → Score) → List Row → ℕ → ℕ → List ℕ → Bool → Type 0
 GivesUp score rows bytes places [] enough =
     (enough ≡ is_enough bytes places) × (enough ≡ false → next_of score rows ≡ None)

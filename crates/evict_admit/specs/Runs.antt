@@ -46,7 +46,7 @@ pub record LeavesWhole (rows : List Row) (bytes places : ℕ) (ids : List ℕ) (
   pub keeps_parents : (row : Row) → Contains (left ids rows) row → (id : ℕ) → Contains ids id → is_parent id row ≡ false
   pub were_free : (id : ℕ) → Contains ids id → (row : Row) × Contains rows row × (row.id ≡ id) × (row.free ≡ true)
 
--- a plan is what the function gives, and nothing else is; and a plan leaves all whole
+-- a plan is what the function returns, and nothing else is; and a plan leaves all whole
 abbrev pub RunsAreFunctions : Type 0
 RunsAreFunctions = (score : Stats → Score) (rows : List Row) (bytes places : ℕ) (ids : List ℕ) (enough : Bool)
     → (GivesUp score rows bytes places ids enough ↔ (given_up score rows bytes places ≡ (ids, enough)))

@@ -1,4 +1,5 @@
-//! How the rows stand while a plan is made: their children that are left, and which of them may go.
+//! The state of the rows while a plan is made: their children that are left, and which of them may
+//! go.
 ghost use Rattle.std.specs.Prelude.{◌≡◌, ℕ, ◌+◌, ◌*◌, ◌<◌, ◌≤◌, ◌==◌, IfNone, IfSome, Some, None, count_by, false, length, slice_set};
 ghost use Rattle.std.specs.Option.{ForSome};
 ghost use Rattle.evict_admit.specs.Boards.{IsKnown, IsSeated, gone_if, left_at, less_if, may_go, more_if, once_gone, row_at, seat_of, winner_at};
@@ -8,7 +9,7 @@ use crate::contest::{play_all, settle};
 use crate::names::Known;
 use crate::plan::Row;
 
-/// How a row stands: how many rows that are left have it as parent, and whether it is given up.
+/// The state of a row: how many rows that are left have it as parent, and whether it is given up.
 #[derive(Clone, Copy)]
 pub(crate) struct Left {
     pub(crate) children: u32,
@@ -22,7 +23,7 @@ fn is_ready(row: &Row, left: &Left) -> bool
     !left.gone && row.free && left.children == 0
 }
 
-/// Notes the children of each row.
+/// Counts the children of each row.
 pub(crate) fn count_children(lefts: &mut [Left], known: &Known)
     requires known { IsKnown known.now }
     requires room { length lefts.old ≡ length known.now.rows.now }
@@ -35,7 +36,7 @@ pub(crate) fn count_children(lefts: &mut [Left], known: &Known)
     }
 }
 
-/// The parents of a row have a child more.
+/// Adds a child to each parent of a row.
 fn add_child(lefts: &mut [Left], known: &Known, row: &Row)
     requires known { IsKnown known.now }
     requires room { length lefts.old ≡ length known.now.rows.now }
@@ -50,7 +51,7 @@ fn add_child(lefts: &mut [Left], known: &Known, row: &Row)
     }
 }
 
-/// The row with this id has a child more.
+/// Adds a child to the row with this id.
 fn gain(lefts: &mut [Left], known: &Known, id: u64)
     requires known { IsKnown known.now }
     requires room { length lefts.old ≡ length known.now.rows.now }
@@ -75,7 +76,7 @@ pub(crate) fn seat_all(winners: &mut [Option<u16>], known: &Known, lefts: &[Left
     play_all(winners, known.contenders);
 }
 
-/// Writes each seat in turn.
+/// Writes each seat, one after the other.
 fn seat_each(winners: &mut [Option<u16>], known: &Known, lefts: &[Left])
     requires few { length known.now.rows.now ≤ 1024 }
     requires room { length lefts.now ≡ length known.now.rows.now }
@@ -93,7 +94,7 @@ fn seat_each(winners: &mut [Option<u16>], known: &Known, lefts: &[Left])
     }
 }
 
-/// A row stands otherwise from now on.
+/// Changes the state of a row, and its seat with it.
 fn reseat(lefts: &mut [Left], winners: &mut [Option<u16>], known: &Known, place: usize, left: Left)
     requires known { IsKnown known.now }
     requires seated { IsSeated known.now lefts.old winners.old }
@@ -106,7 +107,7 @@ fn reseat(lefts: &mut [Left], winners: &mut [Option<u16>], known: &Known, place:
     settle(winners, known.contenders, place, seated);
 }
 
-/// The row with this id has a child less.
+/// Takes a child from the row with this id.
 fn lose(lefts: &mut [Left], winners: &mut [Option<u16>], known: &Known, id: u64)
     requires known { IsKnown known.now }
     requires seated { IsSeated known.now lefts.old winners.old }
@@ -118,7 +119,7 @@ fn lose(lefts: &mut [Left], winners: &mut [Option<u16>], known: &Known, id: u64)
             children: lefts[place].children.saturating_sub(1),
             gone: lefts[place].gone,
         };
-        // A row with a child takes no part, before and after.
+        // A row with a child has no seat, before and after.
         if left.children == 0 {
             reseat(lefts, winners, known, place, left);
         } else {
@@ -127,7 +128,7 @@ fn lose(lefts: &mut [Left], winners: &mut [Option<u16>], known: &Known, id: u64)
     }
 }
 
-/// The parents of a row have a child less.
+/// Takes a child from each parent of a row.
 fn lose_child(lefts: &mut [Left], winners: &mut [Option<u16>], known: &Known, row: &Row)
     requires known { IsKnown known.now }
     requires seated { IsSeated known.now lefts.old winners.old }
@@ -141,7 +142,7 @@ fn lose_child(lefts: &mut [Left], winners: &mut [Option<u16>], known: &Known, ro
     }
 }
 
-/// A row is gone.
+/// Marks a row as gone.
 fn leave(lefts: &mut [Left], winners: &mut [Option<u16>], known: &Known, place: usize)
     requires known { IsKnown known.now }
     requires seated { IsSeated known.now lefts.old winners.old }
@@ -156,7 +157,7 @@ fn leave(lefts: &mut [Left], winners: &mut [Option<u16>], known: &Known, place: 
     reseat(lefts, winners, known, place, left);
 }
 
-/// Gives up a row: it is gone, and its parents have a child less.
+/// Gives up a row: it is gone, and each of its parents has a child less.
 pub(crate) fn give_up(lefts: &mut [Left], winners: &mut [Option<u16>], known: &Known, place: usize)
     requires known { IsKnown known.now }
     requires seated { IsSeated known.now lefts.old winners.old }

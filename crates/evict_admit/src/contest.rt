@@ -1,5 +1,5 @@
-//! A tournament tree over places: who of those that take part goes first, told again after each change by
-//! the games on its way alone.
+//! A tournament tree over places: which of those that take part goes first. After a change only the
+//! games on the path to the root are played again.
 ghost use Rattle.std.specs.Prelude.{◌≡◌, ◌≢◌, ℕ, ◌+◌, ◌*◌, ◌^◌, ◌<◌, ◌≤◌, length, None, slice_set};
 ghost use Rattle.std.specs.Option.{ForSome};
 ghost use Rattle.evict_admit.specs.Boards.{AreSmall, IsContest, IsWhole, comes_before, contender_at, seat_of, sooner_of, winner_at};
@@ -65,7 +65,7 @@ pub(crate) fn play_all(winners: &mut [Option<u16>], contenders: &[Contender])
     }
 }
 
-/// Lets a place take part from now on, or not.
+/// Sets whether a place takes part.
 pub(crate) fn settle(
     winners: &mut [Option<u16>],
     contenders: &[Contender],

@@ -1,7 +1,8 @@
-//! The row that goes first, found in one pass over the rows. Which of them are parents is told by marks: each
-//! id has one of 4,096, where a row is noted that has it as parent, or that has another id of that mark. So a
-//! row without a mark is parent of none, and one that the noted row names is a parent. Only where a mark
-//! leaves a doubt, and the row would go before those passed, are all rows looked at, and at most 8 times.
+//! The row that goes first, found in one pass over the rows. Marks show which of them are parents.
+//! Each id has one of 4,096 marks: the place of a row that has it as parent, or that has another id
+//! of the same mark as parent. So a row without a mark is parent of none, and an id that the marked
+//! row names is a parent. Only where a mark leaves a doubt, and the row would go before those
+//! passed, are all rows read, and at most 8 times.
 ghost use Rattle.std.specs.Prelude.{◌≡◌, ℕ, ◌+◌, ◌%◌, ◌<◌, ◌≤◌, ◌==◌, ◌&&◌, All, IfNone, IfSome, Some, count_by, false, length, true};
 ghost use Rattle.std.specs.Option.{ForSome};
 ghost use Rattle.score_hook.specs.Scores.{IsInRange, IsSmall, most_bottom, score_of};
@@ -16,17 +17,18 @@ use score_hook::Scorer;
 /// How many marks there are.
 const MARKS: usize = 4096;
 
-/// How often all rows are looked at for one.
+/// How often all rows may be read.
 const MOST_SCANS: u32 = 8;
 
-/// The row that goes first of those that were looked at.
+/// The row that goes first of those read so far.
 #[derive(Clone, Copy)]
 pub(crate) struct Leader {
     pub(crate) place: usize,
     pub(crate) contender: Contender,
 }
 
-/// The place of the row that goes first. None where no row can go, or where too many marks leave a doubt.
+/// The place of the row that goes first. None where no row can go, or where too many marks leave a
+/// doubt.
 pub(crate) fn first_to_go(rows: &[Row], scorer: &Scorer, now: u64) -> Option<usize>
     requires few { length rows.now ≤ 1024 }
     requires range { All (λ row. IsInRange row.stats now) rows.now }
@@ -81,7 +83,7 @@ fn names(row: &Row, id: u64) -> bool
     first == id || second == id
 }
 
-/// Whether the mark of an id tells that it is a parent of one of the rows.
+/// Whether the mark of an id shows that it is a parent of one of the rows.
 fn is_marked_parent(rows: &[Row], marks: &[u16], id: u64) -> bool
     requires { AreMarked rows.now marks.now }
     ensures { result ≡ true → (count_by (is_parent id) rows.now == 0) ≡ false }
@@ -90,7 +92,8 @@ fn is_marked_parent(rows: &[Row], marks: &[u16], id: u64) -> bool
     mark > 0 && mark <= rows.len() && names(&rows[mark - 1], id)
 }
 
-/// Whether an id is parent of no row, where so many looks at all rows are left. None once they are used up.
+/// Whether an id is parent of no row, where all rows may be read so many times more. None where
+/// they may not.
 fn is_childless(rows: &[Row], marks: &[u16], id: u64, scans: &mut u32) -> Option<bool>
     requires { AreMarked rows.now marks.now }
     ensures { IfSome result (λ none. none ≡ (count_by (is_parent id) rows.now == 0)) }
@@ -128,8 +131,8 @@ fn goes_first(contender: &Contender, leader: &Option<Leader>) -> bool
     }
 }
 
-/// A row as it is compared, where it goes before the one that leads. None where it doesn't, or can't go by
-/// what its mark tells.
+/// A row as it is compared, where it goes before the one that leads. None where it doesn't, or
+/// where its mark shows that it can't go.
 fn challenge(
     rows: &[Row],
     marks: &[u16],
@@ -160,7 +163,8 @@ fn challenge(
     }
 }
 
-/// Looks at each row in turn. None where no row can go, or where too many marks leave a doubt.
+/// Reads each row, one after the other. None where no row can go, or where too many marks leave a
+/// doubt.
 fn lead(rows: &[Row], marks: &[u16], scorer: &Scorer, now: u64) -> Option<Leader>
     requires marked { AreMarked rows.now marks.now }
     requires range { All (λ row. IsInRange row.stats now) rows.now }

@@ -32,7 +32,7 @@ impl Ledger {
         }
     }
 
-    /// Makes room for so many further shapes at least. Memory leaves all as it was.
+    /// Makes room for at least so many further shapes. Where memory runs out, all is as it was.
     pub fn reserve(&mut self, shapes: u64) -> Result<(), Memory>
         ensures room { OnOk result (shapes ≤ self.new.room) }
         ensures start { self.new.start ≡ self.old.start }
@@ -88,7 +88,7 @@ impl Ledger {
         ensures start { self.new.start ≡ self.old.start }
         ensures room { self.new.room ≡ self.old.room }
     {
-        // Read, so that the credit is known to fit once it rises to it at most.
+        // It is read so that the credit is known to fit: it rises to the start at most.
         let _start = self.start;
         self.credits[shape as usize - 1] += 1;
     }

@@ -17,8 +17,8 @@ pub(crate) struct Name {
 /// How many hints there are.
 pub(crate) const HINTS: usize = 4096;
 
-/// What is known of the rows from the beginning: themselves, their places by their ids, and how they
-/// are compared. By the hint of an id its place is mostly found at once, without a search.
+/// What is known of the rows from the beginning: themselves, their places by their ids, and how
+/// they are compared. The hint of an id mostly shows its place at once, without a search.
 #[derive(Clone, Copy)]
 pub(crate) struct Known<'a> {
     pub(crate) rows: &'a [Row],
@@ -27,7 +27,7 @@ pub(crate) struct Known<'a> {
     pub(crate) contenders: &'a [Contender],
 }
 
-/// Notes where each row stands, by their ids.
+/// Notes the place of each row, in the order of their ids.
 pub(crate) fn note_names(names: &mut [Name], rows: &[Row])
     requires room { length names.old ≡ length rows.now }
     requires few { length rows.now ≤ 1024 }
@@ -38,7 +38,7 @@ pub(crate) fn note_names(names: &mut [Name], rows: &[Row])
     names.sort_unstable_by_key(|name| name.id);
 }
 
-/// Notes each row in turn.
+/// Writes the id and place of each row, one after the other.
 fn write_names(names: &mut [Name], rows: &[Row])
     requires room { length names.old ≡ length rows.now }
     requires few { length rows.now ≤ 1024 }
@@ -54,7 +54,8 @@ fn write_names(names: &mut [Name], rows: &[Row])
     }
 }
 
-/// Notes each place at the hint of its row's id. Where two rows have one hint, the later place stands there.
+/// Notes each place at the hint of its row's id. Where two rows have one hint, it keeps the later
+/// place.
 pub(crate) fn note_hints(hints: &mut [u16], rows: &[Row])
     requires few { length rows.now ≤ 1024 }
     requires size { length hints.old ≡ 4096 }
@@ -65,7 +66,7 @@ pub(crate) fn note_hints(hints: &mut [u16], rows: &[Row])
     }
 }
 
-/// Where an id is named.
+/// The position of an id in the list of names.
 fn search(names: &[Name], id: u64) -> Option<usize>
     requires { IsNonDecreasingBy (λ name. name.id) names.now }
     ensures some { IfSome result (λ p. Contains names.now (record { id = id; place = p })) }

@@ -13,7 +13,7 @@ use crate::leading::first_to_go;
 use crate::names::{HINTS, Known, Name, note_hints, note_names};
 use score_hook::{Score, Scorer, Stats};
 
-/// The most rows that are looked at.
+/// The most rows that a plan takes.
 pub const MOST_ROWS: usize = 1024;
 
 /// An entry of a pool.
@@ -35,7 +35,7 @@ pub struct Row {
 /// free rows that are parent of none that is left, the one with the least score, then the least id.
 ///
 /// `out` lists their ids in that order. False exactly where giving up all that can go isn't enough;
-/// then `out` lists all of these. There are at most 1,024 rows, with ids that are above 0 and differ.
+/// then `out` lists all of these. There are at most 1,024 rows, with different ids above 0.
 pub fn plan_evictions(
     rows: &[Row],
     need: u128,
@@ -76,8 +76,8 @@ struct Wanted {
     places: u64,
 }
 
-/// The place of the row that goes first, where that is enough. None where it isn't, or where it isn't found
-/// in a pass.
+/// The place of the row that goes first, where that is enough. None where it isn't enough, or isn't
+/// found in a pass.
 fn first_enough(rows: &[Row], wanted: Wanted, scorer: &Scorer, now: u64) -> Option<usize>
     requires few { length rows.now ≤ MOST_ROWS }
     requires range { All (λ row. IsInRange row.stats now) rows.now }
@@ -146,7 +146,7 @@ fn plan_among(known: &Known, wanted: Wanted, out: &mut Vec<u64>) -> bool
     plan_in(lefts, winners, known, wanted, out)
 }
 
-/// What stands where no row is.
+/// The contender of a place without a row.
 const NOBODY: Contender = Contender {
     score: Score { top: 0, bottom: 1 },
     id: 0,
@@ -159,7 +159,7 @@ const CHILDLESS: Left = Left {
     gone: false,
 };
 
-/// Notes each row with its score.
+/// Writes the contender of each row, with its score.
 fn note_contenders(contenders: &mut [Contender], rows: &[Row], scorer: &Scorer, now: u64)
     requires room { length contenders.old ≡ length rows.now }
     requires range { All (λ row. IsInRange row.stats now) rows.now }
@@ -207,14 +207,14 @@ fn plan_in(
     is_enough(bytes, places)
 }
 
-/// Whether nothing is wanted any more.
+/// Whether nothing more is wanted.
 fn is_enough(bytes: u128, places: u64) -> bool
     ensures { result ≡ nothing_wanted bytes places }
 {
     bytes == 0 && places == 0
 }
 
-/// Adds an id where there is room for it.
+/// Adds an id, where there is room for it.
 fn put(out: &mut Vec<u64>, id: u64)
     requires { vec_len out.old < vec_capacity out.old }
     ensures items { out.new.items ≡ out.old.items ++ id ∷ [] }

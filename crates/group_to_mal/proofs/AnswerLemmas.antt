@@ -6,12 +6,12 @@ use Rattle.std.proofs.lemmas.Bool.{or_parts}
 use Rattle.cell_core.specs.declared.cell.Cell.{Cell}
 use Rattle.sql_tree.specs.Tree.{ExprTree, CondTree, ItemTree, QueryTree}
 use Rattle.sql_tree.specs.Exprs.{exprs_of_cond}
-use Rattle.sql_semantics.specs.Sources.{NamedSource, NamedTable, source_of, rows_of}
-use Rattle.sql_semantics.specs.References.{is_grouped, has_aggregate}
-use Rattle.sql_semantics.specs.Values.{Choice, value, constant_overflows, over_choices}
-use Rattle.sql_semantics.specs.Kept.{choices, cond_overflows, is_kept, kept}
-use Rattle.sql_semantics.specs.Rows.{rows_from, shown_exprs, overflows_for}
-use Rattle.sql_semantics.specs.Answer.{answer_over, arranged}
+use Rattle.sql_definitions.specs.Sources.{NamedSource, NamedTable, source_of, rows_of}
+use Rattle.sql_definitions.specs.References.{is_grouped, has_aggregate}
+use Rattle.sql_definitions.specs.Values.{Choice, value, constant_overflows, over_choices}
+use Rattle.sql_definitions.specs.Kept.{choices, cond_overflows, is_kept, kept}
+use Rattle.sql_definitions.specs.Rows.{rows_from, shown_exprs, overflows_for}
+use Rattle.sql_definitions.specs.Answer.{answer_over, arranged}
 use Rattle.pick_laws.proofs.ListLemmas.{any_append, any_map, any_same}
 
 any_or : {X : Type 0} (t u : X → Bool) (xs : List X) → list_any t xs || list_any u xs ≡ list_any (λ x. t x || u x) xs

@@ -25,9 +25,9 @@ use Rattle.pick_laws.proofs.GroupLemmas.{grouped_is, derived_is, heads_gathered}
 use Rattle.group_to_mal.specs.Columns.{values_by, spread_by, any_bat, spread_first, bats_of, gather_bats, keep_bats, finer, groups, heads, undoubled}
 use Rattle.std.specs.Prelude.{is_none, slice_get}
 
--- ## Values one behind the other
+-- ## Values one after the other
 
--- where each element gives something or nothing, the list gives all of it or nothing
+-- where each element yields something or nothing, the list yields all of it or nothing
 pub values_give : {V X : Type 0} {m : Machine V} {args : List Arg} {are : List V} (value : X → Emitter Arg) (o : X → Option V) (xs : List X)
     → AllByRecursion (λ x. Gives m args are (value x) (o x)) xs → GivesAll m args are (values_by value xs) (all_or_none (map o xs))
 values_give value o [] all = nothing_gives

@@ -18,10 +18,10 @@ use Rattle.sql_tree.specs.declared.tree.Query.{Query}
 use Rattle.sql_tree.specs.declared.tree.Stmt.{Stmt}
 use Rattle.sql_tree.specs.declared.tree.Stmt.TheVariants as stmt
 use Rattle.sql_grammar.specs.Formed.{IsFormed}
-use Rattle.sql_semantics.specs.declared.source.Source.{Source}
-use Rattle.sql_semantics.specs.Sources.{from_name, called_sources}
-use Rattle.sql_semantics.specs.Answer.{query_of, answer, answer_of_stmt}
-use Rattle.sql_semantics.specs.Check.{check_refusal}
+use Rattle.sql_definitions.specs.declared.source.Source.{Source}
+use Rattle.sql_definitions.specs.Sources.{from_name, called_sources}
+use Rattle.sql_definitions.specs.Answer.{query_of, answer, answer_of_stmt}
+use Rattle.sql_definitions.specs.Check.{check_refusal}
 use Rattle.rows_to_mal.specs.Conjuncts.{Scope}
 use Rattle.rows_to_mal.specs.Laws.{HoldsTables}
 use Rattle.rows_to_mal.specs.Rows.{statement_scope, kept_rows}

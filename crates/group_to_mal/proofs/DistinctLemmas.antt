@@ -5,8 +5,8 @@ use Rattle.std.specs.Cmp.Lexicographic.{pointwise}
 use Rattle.cell_core.specs.declared.cell.Cell.{Cell}
 use Rattle.cell_core.specs.Same.{same_cell, same_equivalence}
 use Rattle.cell_core.specs.Groups.{distinct}
-use Rattle.sql_semantics.specs.Rows.{same_cells}
-use Rattle.sql_semantics.specs.Answer as answer
+use Rattle.sql_definitions.specs.Rows.{same_cells}
+use Rattle.sql_definitions.specs.Answer as answer
 use Rattle.pick_laws.specs.Shapes.{Shape, Alone, Each, any_each, cells_at}
 use Rattle.pick_laws.specs.Numbers.{through, alike, all_same}
 use Rattle.pick_laws.proofs.ListLemmas.{all_any}

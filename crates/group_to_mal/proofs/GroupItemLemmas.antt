@@ -19,10 +19,10 @@ use Rattle.sql_tree.specs.Tree.{ExprTree, CondTree}
 use Rattle.sql_tree.specs.Tree.ExprTree.{ColumnOf}
 use Rattle.sql_tree.specs.Exprs.{exprs_of_cond}
 use Rattle.sql_tree.specs.declared.tree.ColRef.{ColRef}
-use Rattle.sql_semantics.specs.Values.{Choice, value, column_cell, group_cell}
-use Rattle.sql_semantics.specs.Truth.{holds}
-use Rattle.sql_semantics.specs.Rows.{same_cells, groups_by, group_key, group_row}
-use Rattle.sql_semantics.specs.Answer as answer
+use Rattle.sql_definitions.specs.Values.{Choice, value, column_cell, group_cell}
+use Rattle.sql_definitions.specs.Truth.{holds}
+use Rattle.sql_definitions.specs.Rows.{same_cells, groups_by, group_key, group_row}
+use Rattle.sql_definitions.specs.Answer as answer
 use Rattle.mal_emit.specs.Emitters.{Emitter}
 use Rattle.mal_emit.specs.Machines.{over, Holds, GivesAll, Gives}
 use Rattle.mal_emit.proofs.MachineLemmas.{At, step_to, rest_holds, first_holds, and_holds, stays}
@@ -201,7 +201,7 @@ module _ (db : Db) (scope : Scope) (rows : List Arg) {P : Type 0} (picks : List 
             ∙ ap (map (group_row scope.called items)) (sym (filter_map_swaps (λ group. holds (group_cell scope.called group) having) (group_of db scope rows picks are shape choice n) (firsts n picks))
             ∙ ap (filter (λ group. holds (group_cell scope.called group) having)) (sym (groups_are refs n agrees))))
 
-    -- behind the rows, the plan of groups shows the rows of SQL's groups
+    -- after the rows, the plan of groups shows the rows of SQL's groups
     pub group_shown : (ref : ColRef) (refs : List ColRef) → AllByRecursion (λ ref. RowFits db scope rows picks are shape choice (ColumnOf ref)) (ref ∷ refs)
         → ((n : P → ℕ) → AllByRecursion (Fits n) items) → ((n : P → ℕ) → AllByRecursion (Fits n) (exprs_of_cond having)) → 0 < length items → (before : List Instr) → Holds (over db) before rows are
         → plan_rows (showing db ((group_items scope rows (ref ∷ refs) having distinct items).run before).0 ((group_items scope rows (ref ∷ refs) having distinct items).run before).1 order limit) db ≡ groups_meant (ref ∷ refs)

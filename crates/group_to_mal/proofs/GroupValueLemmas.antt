@@ -18,7 +18,7 @@ use Rattle.sql_tree.specs.Tree.{ExprTree}
 use Rattle.sql_tree.specs.Tree.ExprTree.{Literal, ColumnOf, Operator, AggregateAll, Aggregate}
 use Rattle.sql_tree.specs.declared.tree.AggOp.{AggOp}
 use Rattle.sql_tree.specs.declared.tree.AggOp.TheVariants as aggregate
-use Rattle.sql_semantics.specs.Values.{Choice, value, cell_over, group_cell, first_choice, aggregated, constant_overflows, over_choices}
+use Rattle.sql_definitions.specs.Values.{Choice, value, cell_over, group_cell, first_choice, aggregated, constant_overflows, over_choices}
 use Rattle.mal_emit.specs.Emitters.{Emitter, emits, followed}
 use Rattle.mal_emit.specs.Machines.{over, Gives}
 use Rattle.mal_emit.proofs.MachineLemmas.{At}
@@ -108,7 +108,7 @@ module _ (db : Db) (scope : Scope) (rows : List Arg) {P : Type 0} (picks : List 
     group_heads = Bat (group_heads_of (number_oids n picks))
 
     module _ (g h : Arg) (first : FirstKnown) where
-      -- behind the rows: the groups' numbers and their first rows
+      -- after the rows: the groups' numbers and their first rows
       abbrev GroupGives : Emitter Arg → Option (Shape P) → Type 0
       GroupGives emitter o = Gives (over db) (h ∷ g ∷ rows) (group_heads ∷ numbers picks n ∷ are) emitter (option_map (as_value (firsts n picks)) o)
 

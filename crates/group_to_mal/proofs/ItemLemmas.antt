@@ -13,7 +13,7 @@ use Rattle.cell_core.specs.Pairs.{Pairs, numbered, is_true}
 use Rattle.cell_core.specs.Calc.{all_or_none}
 use Rattle.sql_tree.specs.Tree.{ExprTree, CondTree}
 use Rattle.sql_tree.specs.Exprs.{cond_exprs, exprs_of_cond}
-use Rattle.sql_semantics.specs.Truth.{truth, holds}
+use Rattle.sql_definitions.specs.Truth.{truth, holds}
 use Rattle.mal_emit.specs.Emitters.{Emitter, followed}
 use Rattle.mal_emit.specs.Machines.{over, Holds, Told, Gives, GivesAll}
 use Rattle.mal_emit.proofs.MachineLemmas.{stays, and_holds, none_after}
@@ -144,7 +144,7 @@ module _ {P : Type 0} (picks : List P) (shape : ExprTree → Option (Shape P)) (
             (all_both (λ p. at s p ≡ truth (cell p) c) (λ p. at s p ≡ truth (cell p) c) (λ p. is_kept (at s) p ≡ passes (Some c) p) (λ p e f. ap is_true e) picks m.1 m.1),
       )
 
-  -- ## What the instructions give
+  -- ## What the instructions compute
 
   module _ (db : Db) (value : ExprTree → Emitter Arg) (args : List Arg) (are : List Value) (h : Arg) (b : Pairs) (wide : Wide b picks) where
     abbrev pub Given : ExprTree → Type 0

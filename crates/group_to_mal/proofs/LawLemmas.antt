@@ -16,14 +16,14 @@ use Rattle.sql_tree.specs.Tree.StmtTree.{CreateTable, DropTable, AlterTable, Ins
 use Rattle.sql_tree.specs.Exprs.{exprs_of_cond}
 use Rattle.sql_tree.specs.declared.tree.ColRef.{ColRef}
 use Rattle.sql_tree.specs.declared.tree.FromItem.{FromItem}
-use Rattle.sql_semantics.specs.declared.source.Source.{Source}
-use Rattle.sql_semantics.specs.declared.source.Schema.{Schema}
-use Rattle.sql_semantics.specs.declared.refusal.Refusal.{Refusal}
-use Rattle.sql_semantics.specs.declared.refusal.Refusal.TheVariants.{KindsDiffer}
-use Rattle.sql_semantics.specs.Sources.{NamedSource, source_of, rows_of, source_named, schema_of, from_name, from_tables, from_sources, called_sources, places}
-use Rattle.sql_semantics.specs.References.{references, all_columns, items_of, item_exprs, column_item, has_aggregate, outer_references}
-use Rattle.sql_semantics.specs.Answer.{answer}
-use Rattle.sql_semantics.specs.Check.{misplaced, bad_references, bad_in_exprs, bad_keys, not_grouped, is_misfit_query, refused_if, names_twice, missing_tables, column_refusals, query_refusals, check_refusal, sources_named, called_in, tables_of}
+use Rattle.sql_definitions.specs.declared.source.Source.{Source}
+use Rattle.sql_definitions.specs.declared.source.Schema.{Schema}
+use Rattle.sql_definitions.specs.declared.refusal.Refusal.{Refusal}
+use Rattle.sql_definitions.specs.declared.refusal.Refusal.TheVariants.{KindsDiffer}
+use Rattle.sql_definitions.specs.Sources.{NamedSource, source_of, rows_of, source_named, schema_of, from_name, from_tables, from_sources, called_sources, places}
+use Rattle.sql_definitions.specs.References.{references, all_columns, items_of, item_exprs, column_item, has_aggregate, outer_references}
+use Rattle.sql_definitions.specs.Answer.{answer}
+use Rattle.sql_definitions.specs.Check.{misplaced, bad_references, bad_in_exprs, bad_keys, not_grouped, is_misfit_query, refused_if, names_twice, missing_tables, column_refusals, query_refusals, check_refusal, sources_named, called_in, tables_of}
 use Rattle.sql_kinds.proofs.NameLemmas.{left_empty, right_empty}
 use Rattle.sql_kinds.proofs.TableLemmas.{as_source, source_is}
 use Rattle.pick_laws.proofs.ListLemmas.{all_both, all_along}

@@ -20,15 +20,15 @@ use Rattle.sql_tree.specs.Tree.{ExprTree, QueryTree}
 use Rattle.sql_tree.specs.Tree.ExprTree.{Literal, ColumnOf, Operator, AggregateAll, Aggregate}
 use Rattle.sql_tree.specs.Exprs.{exprs_of_cond}
 use Rattle.sql_tree.specs.declared.tree.ColRef.{ColRef}
-use Rattle.sql_semantics.specs.declared.source.Source.{Source}
-use Rattle.sql_semantics.specs.Sources.{NamedSource}
-use Rattle.sql_semantics.specs.References.{item_exprs}
-use Rattle.sql_semantics.specs.References as references
-use Rattle.sql_semantics.specs.Values.{Choice, value, cell_over, group_cell, constant_overflows, over_choices}
-use Rattle.sql_semantics.specs.Truth.{holds}
-use Rattle.sql_semantics.specs.Kept.{choices, cond_overflows, is_kept}
-use Rattle.sql_semantics.specs.Rows.{choice_row, group_row, groups_by, group_key, rows_from, shown_exprs}
-use Rattle.sql_semantics.specs.Answer.{arranged, limited, undoubled, key_places}
+use Rattle.sql_definitions.specs.declared.source.Source.{Source}
+use Rattle.sql_definitions.specs.Sources.{NamedSource}
+use Rattle.sql_definitions.specs.References.{item_exprs}
+use Rattle.sql_definitions.specs.References as references
+use Rattle.sql_definitions.specs.Values.{Choice, value, cell_over, group_cell, constant_overflows, over_choices}
+use Rattle.sql_definitions.specs.Truth.{holds}
+use Rattle.sql_definitions.specs.Kept.{choices, cond_overflows, is_kept}
+use Rattle.sql_definitions.specs.Rows.{choice_row, group_row, groups_by, group_key, rows_from, shown_exprs}
+use Rattle.sql_definitions.specs.Answer.{arranged, limited, undoubled, key_places}
 use Rattle.mal_emit.specs.Emitters.{Emitter}
 use Rattle.mal_emit.specs.Machines.{over, ran, Holds, Told, GivesAll}
 use Rattle.mal_emit.proofs.MachineLemmas.{At, start, none_after, refs_hold}
@@ -39,7 +39,7 @@ use Rattle.pick_laws.proofs.KeepLemmas.{projected_is}
 use Rattle.rows_to_mal.specs.Conjuncts.{Scope, expr_value}
 use Rattle.rows_to_mal.specs.Rows.{kept_rows}
 use Rattle.group_to_mal.specs.Values.{first_of}
-use Rattle.group_to_mal.specs.QueryPlan.{Shown, always, has_column, row_items, group_items, whole_items, shown_items, query_shown, plan_of, query_plan}
+use Rattle.group_to_mal.specs.QueryPlan.{ShownColumns, always, has_column, row_items, group_items, whole_items, shown_items, query_shown, plan_of, query_plan}
 use Rattle.group_to_mal.proofs.TestLemmas.{Means}
 use Rattle.group_to_mal.proofs.ItemLemmas.{IsMeant, Given}
 use Rattle.group_to_mal.proofs.ShownLemmas.{items_shown}
@@ -86,7 +86,7 @@ module _ (db : Db) (called : List NamedSource) (lists : List (List (List Cell)))
   order = key_places scope.called query
 
   -- what the plan shows of these instructions
-  abbrev shown : List Instr × Shown → Option (List (List Cell))
+  abbrev shown : List Instr × ShownColumns → Option (List (List Cell))
   shown emitted = plan_rows (plan_of scope query emitted) db
 
   -- the items and HAVING are of columns that are there, with aggregates where the form allows them
@@ -97,7 +97,7 @@ module _ (db : Db) (called : List NamedSource) (lists : List (List (List Cell)))
         → AllByRecursion (λ ref. Fits (ColumnOf ref)) query.groups × AllByRecursion (GroupItem Fits) items × AllByRecursion (GroupItem Fits) (exprs_of_cond query.having)
     pub some : 0 < length items
 
-  -- behind the rows that a query keeps: what is known of them
+  -- after the rows that a query keeps: what is known of them
   pub record RowsKnown (picks : List P) : Type 0 where
     pub fits : (rows : List Arg) (e : ExprTree) → Fits e → RowFits db scope rows picks (columns picks) (shape picks) choice e
     pub first : (rows : List Arg) → FirstKnown db scope rows picks (columns picks) (shape picks) choice
@@ -209,7 +209,7 @@ module _ (db : Db) (called : List NamedSource) (lists : List (List (List Cell)))
 
     -- ## Every query
 
-    abbrev form_of : Bool → Bool → Emitter Shown
+    abbrev form_of : Bool → Bool → Emitter ShownColumns
     form_of grouped whole =
         if not grouped then always (row_items scope rows query.distinct items)
         else if whole then whole_items scope rows query.having items else always (group_items scope rows query.groups query.having query.distinct items)
@@ -230,7 +230,7 @@ module _ (db : Db) (called : List NamedSource) (lists : List (List (List Cell)))
 
   -- ## The plan
 
-  none_shown : (emitted : List Instr × Shown) → ran (over db) [] emitted.0 ≡ None → shown emitted ≡ None
+  none_shown : (emitted : List Instr × ShownColumns) → ran (over db) [] emitted.0 ≡ None → shown emitted ≡ None
   none_shown emitted e = by_test emitted.1.1
     where
       by_test : (keep : Option Arg) → shown (emitted.0, (emitted.1.0, keep)) ≡ None

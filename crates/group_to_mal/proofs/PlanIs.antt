@@ -7,11 +7,11 @@ use Rattle.cell_core.specs.declared.operator.Instr.{Instr}
 use Rattle.mal_meaning.specs.declared.plan.Plan.{Plan}
 use Rattle.sql_tree.specs.Tree.{ItemTree, QueryTree}
 use Rattle.sql_tree.specs.declared.tree.SortKey.{SortKey}
-use Rattle.sql_semantics.specs.Sources.{NamedSource}
-use Rattle.sql_semantics.specs.References.{items_of}
-use Rattle.sql_semantics.specs.Answer.{key_place, key_places}
+use Rattle.sql_definitions.specs.Sources.{NamedSource}
+use Rattle.sql_definitions.specs.References.{items_of}
+use Rattle.sql_definitions.specs.Answer.{key_place, key_places}
 use Rattle.rows_to_mal.specs.Conjuncts.{Scope}
-use Rattle.group_to_mal.specs.QueryPlan.{Shown, plan_of}
+use Rattle.group_to_mal.specs.QueryPlan.{ShownColumns, plan_of}
 
 -- the keys of items as places
 abbrev pub places_by : List NamedSource → List ItemTree → List SortKey → List (ℕ × Bool)
@@ -22,7 +22,7 @@ pub places_are : (scope : Scope) (query : QueryTree) (called : List NamedSource)
 places_are scope query called items keys c i k =
     ap (places_by called items) k ∙ ap (λ xs. places_by called xs query.keys) i ∙ ap (λ cs. key_places cs query) (sym c)
 
-pub plan_is : (scope : Scope) (query : QueryTree) (instrs : List Instr) (cols : List Arg) (test : Option Arg) (order : List (ℕ × Bool)) (emitted : List Instr × Shown) → (instrs, (cols, test)) ≡ emitted → order ≡ key_places scope.called query
+pub plan_is : (scope : Scope) (query : QueryTree) (instrs : List Instr) (cols : List Arg) (test : Option Arg) (order : List (ℕ × Bool)) (emitted : List Instr × ShownColumns) → (instrs, (cols, test)) ≡ emitted → order ≡ key_places scope.called query
     → record { instrs = instrs; out = record { cols = cols; keep = test; order = order; limit = query.limit } } ≡ plan_of scope query emitted
 plan_is scope query instrs cols test order emitted e o = ap ordered o ∙ ap (plan_of scope query) e
   where

@@ -15,11 +15,11 @@ use Rattle.sql_tree.specs.Tree.CondTree.{Compare, Within, IsNull, Negation, Both
 use Rattle.sql_tree.specs.Exprs.{cond_exprs, exprs_of_cond}
 use Rattle.sql_tree.specs.Names.{name_text}
 use Rattle.sql_tree.specs.declared.tree.ColRef.{ColRef}
-use Rattle.sql_semantics.specs.declared.source.Source.{Source}
-use Rattle.sql_semantics.specs.declared.refusal.Refusal.TheVariants.{NotGrouped}
-use Rattle.sql_semantics.specs.Sources.{NamedSource}
-use Rattle.sql_semantics.specs.References.{outer_references, has_aggregate, column_item, all_columns, items_of, item_exprs, is_grouped}
-use Rattle.sql_semantics.specs.Check.{is_group_column, not_grouped}
+use Rattle.sql_definitions.specs.declared.source.Source.{Source}
+use Rattle.sql_definitions.specs.declared.refusal.Refusal.TheVariants.{NotGrouped}
+use Rattle.sql_definitions.specs.Sources.{NamedSource}
+use Rattle.sql_definitions.specs.References.{outer_references, has_aggregate, column_item, all_columns, items_of, item_exprs, is_grouped}
+use Rattle.sql_definitions.specs.Check.{is_group_column, not_grouped}
 use Rattle.sql_kinds.proofs.NameLemmas.{map_empty, left_empty, right_empty}
 use Rattle.pick_laws.specs.Shapes.{Shape, at}
 use Rattle.pick_laws.proofs.ListLemmas.{all_append, all_map, all_along}
@@ -159,7 +159,7 @@ having_written (Some c) w = by_cond c w
     by_cond (Both left right) w = all_append IsValue (cond_exprs left) (cond_exprs right) (by_cond left w.0) (by_cond right w.1)
     by_cond (Either left right) w = all_append IsValue (cond_exprs left) (cond_exprs right) (by_cond left w.0) (by_cond right w.1)
 
--- ## Without GROUP BY no column stands outside aggregates
+-- ## Without GROUP BY no column is outside aggregates
 
 all_kept : {X : Type 0} (xs : List X) → filter (λ x. not false) xs ≡ xs
 all_kept [] = refl

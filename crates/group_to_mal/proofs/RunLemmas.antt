@@ -19,12 +19,12 @@ use Rattle.sql_tree.specs.Tree.StmtTree.{CreateTable, DropTable, AlterTable, Ins
 use Rattle.sql_tree.specs.Exprs.{cond_exprs, exprs_of_cond}
 use Rattle.sql_tree.specs.declared.tree.ColRef.{ColRef}
 use Rattle.sql_tree.specs.declared.tree.FromItem.{FromItem}
-use Rattle.sql_semantics.specs.declared.source.Source.{Source}
-use Rattle.sql_semantics.specs.Sources.{NamedSource, schema_of, from_name, called_sources}
-use Rattle.sql_semantics.specs.References.{outer_references, items_of, item_exprs}
-use Rattle.sql_semantics.specs.Answer.{key_places}
-use Rattle.sql_semantics.specs.Check.{is_misfit_cond, query_refusals, check_refusal, sources_named, called_in, tables_of}
-use Rattle.sql_semantics.specs.Kinds.{is_misfit, compares, is_cond_misfit}
+use Rattle.sql_definitions.specs.declared.source.Source.{Source}
+use Rattle.sql_definitions.specs.Sources.{NamedSource, schema_of, from_name, called_sources}
+use Rattle.sql_definitions.specs.References.{outer_references, items_of, item_exprs}
+use Rattle.sql_definitions.specs.Answer.{key_places}
+use Rattle.sql_definitions.specs.Check.{is_misfit_cond, query_refusals, check_refusal, sources_named, called_in, tables_of}
+use Rattle.sql_definitions.specs.Kinds.{is_misfit, compares, is_cond_misfit}
 use Rattle.rows_to_mal.specs.Conjuncts.{Scope}
 use Rattle.rows_to_mal.specs.Laws.{HoldsTables, RunsOver}
 use Rattle.rows_to_mal.specs.Rows.{condition_of, keeps_rows, statement_scope, kept_rows}

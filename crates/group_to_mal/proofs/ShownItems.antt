@@ -4,10 +4,10 @@ use Rattle.std.specs.Prelude.{length, ◌==◌}
 use Rattle.cell_core.specs.declared.operator.Arg.{Arg}
 use Rattle.sql_tree.specs.Tree.{ExprTree, CondTree, QueryTree}
 use Rattle.sql_tree.specs.declared.tree.ColRef.{ColRef}
-use Rattle.sql_semantics.specs.References.{item_exprs, is_grouped}
+use Rattle.sql_definitions.specs.References.{item_exprs, is_grouped}
 use Rattle.rows_to_mal.specs.Conjuncts.{Scope}
 use Rattle.mal_emit.specs.Emitters.{Emitter}
-use Rattle.group_to_mal.specs.QueryPlan.{Shown, always, row_items, whole_items, group_items, shown_items}
+use Rattle.group_to_mal.specs.QueryPlan.{ShownColumns, always, row_items, whole_items, group_items, shown_items}
 
 pub groups_shown : (scope : Scope) (query : QueryTree) (rows : List Arg) (refs : List ColRef) (having : Option CondTree) (items : List ExprTree) → is_grouped query ≡ true → (length query.groups == 0) ≡ false
     → refs ≡ query.groups → having ≡ query.having → items ≡ item_exprs scope.called query → always (group_items scope rows refs having query.distinct items) ≡ shown_items scope query rows
@@ -18,7 +18,7 @@ groups_shown scope query rows refs having items grouped some r h i =
     ∙ sym (ap (λ none. cond none (whole_items scope rows query.having (item_exprs scope.called query)) by_groups) some)
     ∙ sym (ap (λ b. cond (not b) (always (row_items scope rows query.distinct (item_exprs scope.called query))) (cond (length query.groups == 0) (whole_items scope rows query.having (item_exprs scope.called query)) by_groups)) grouped)
   where
-    by_groups : Emitter Shown
+    by_groups : Emitter ShownColumns
     by_groups = always (group_items scope rows query.groups query.having query.distinct (item_exprs scope.called query))
 
 -- as many as a number that isn't 0 are some

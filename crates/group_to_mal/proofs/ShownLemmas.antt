@@ -13,7 +13,7 @@ use Rattle.mal_meaning.specs.Meaning.{plan_rows}
 use Rattle.mal_meaning.specs.Output.{arranged}
 use Rattle.sql_tree.specs.Tree.{ExprTree, CondTree}
 use Rattle.sql_tree.specs.Exprs.{exprs_of_cond}
-use Rattle.sql_semantics.specs.Answer as answer
+use Rattle.sql_definitions.specs.Answer as answer
 use Rattle.mal_emit.specs.Emitters.{Emitter, followed}
 use Rattle.mal_emit.specs.Machines.{over, ran, Holds, Told}
 use Rattle.mal_emit.proofs.MachineLemmas.{stays, none_after}
@@ -29,7 +29,7 @@ use Rattle.group_to_mal.proofs.ItemLemmas.{first_kinds, first_each, first_cells,
 
 module _ {P : Type 0} (picks : List P) (shape : ExprTree → Option (Shape P)) (overflows : ExprTree → Bool) (cell : P → ExprTree → Cell) (is_bat : ExprTree → Bool)
     (db : Db) (value : ExprTree → Emitter Arg) (args : List Arg) (are : List Value) (h : Arg) (b : Pairs) (wide : Wide b picks) (order : List (ℕ × Bool)) (limit : Option ℕ) where
-  -- the rows that are shown behind these instructions
+  -- the rows that are shown after these instructions
   abbrev rows_behind : Emitter (List Arg) → List Instr → Option (List (List Cell))
   rows_behind emitter before = plan_rows (showing db (emitter.run before).0 (emitter.run before).1 order limit) db
 

@@ -17,7 +17,7 @@ use Rattle.sql_tree.specs.Tree.CondTree.{Compare, Within, IsNull, Negation, Both
 use Rattle.sql_tree.specs.Exprs.{cond_exprs}
 use Rattle.sql_tree.specs.declared.tree.CmpOp.{CmpOp}
 use Rattle.sql_tree.specs.declared.tree.CmpOp.TheVariants as cmp
-use Rattle.sql_semantics.specs.Truth.{truth, compared}
+use Rattle.sql_definitions.specs.Truth.{truth, compared}
 use Rattle.mal_emit.specs.Emitters.{Emitter, emits, followed}
 use Rattle.mal_emit.specs.Machines.{over, Gives}
 use Rattle.mal_emit.proofs.MachineLemmas.{At}
@@ -28,7 +28,7 @@ use Rattle.pick_laws.proofs.ShapeLemmas.{calculated_shape}
 use Rattle.rows_to_mal.specs.Conjuncts.{comparison_of}
 use Rattle.group_to_mal.specs.Values.{test_by, test_bat}
 
--- ## Functions that always give a cell
+-- ## Functions that always return a cell
 
 module _ {P : Type 0} where
   abbrev pub pair_shape : (Cell → Cell → Cell) → Shape P → Shape P → Shape P
@@ -125,10 +125,10 @@ module _ {P : Type 0} (picks : List P) (shape : ExprTree → Option (Shape P)) w
   all_right Q [] ys a = a
   all_right Q (x ∷ xs) ys a = all_right Q xs ys a.1
 
-  -- ### What instructions give
+  -- ### What instructions compute
 
   module _ (db : Db) (value : ExprTree → Emitter Arg) where
-    -- an emitter gives this value for the picks
+    -- an emitter computes this value for the picks
     abbrev pub GivesShape : List Arg → List Value → Emitter Arg → Option (Shape P) → Type 0
     GivesShape args are emitter o = Gives (over db) args are emitter (option_map (as_value picks) o)
 

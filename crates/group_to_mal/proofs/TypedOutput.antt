@@ -26,10 +26,10 @@ use Rattle.sql_tree.specs.Tree.ExprTree.{Literal}
 use Rattle.sql_tree.specs.declared.tree.Place.{Place}
 use Rattle.sql_tree.specs.declared.tree.Place.TheVariants.{Position, Named}
 use Rattle.sql_tree.specs.declared.tree.SortKey.{SortKey}
-use Rattle.sql_semantics.specs.Sources.{NamedSource, place_of}
-use Rattle.sql_semantics.specs.References.{items_of}
-use Rattle.sql_semantics.specs.Answer.{is_called, is_column, item_at, key_place, key_places}
-use Rattle.group_to_mal.specs.QueryPlan.{Shown}
+use Rattle.sql_definitions.specs.Sources.{NamedSource, place_of}
+use Rattle.sql_definitions.specs.References.{items_of}
+use Rattle.sql_definitions.specs.Answer.{is_called, is_column, item_at, key_place, key_places}
+use Rattle.group_to_mal.specs.QueryPlan.{ShownColumns}
 
 -- ## Keys
 
@@ -88,13 +88,13 @@ ok_from : (r : Result (List ValueType) PlanError) (found : List ValueType) → r
 ok_from (Ok types) found e = ap Ok (same_Some types found e)
 ok_from (Err error) found e = cc
 
--- what is shown behind instructions: columns of types, and a bit for a test
+-- what is shown after instructions: columns of types, and a bit for a test
 module _ (db : Db) where
   abbrev pub TestIs : List Instr → Option Arg → Type 0
   TestIs instrs None = Unit {0}
   TestIs instrs (Some test) = Holds (checking db) instrs (test ∷ []) (OneOf (Some kind.Bit) ∷ [])
 
-  pub record ShownIs (instrs : List Instr) (shown : Shown) (count : ℕ) : Type 0 where
+  pub record ShownIs (instrs : List Instr) (shown : ShownColumns) (count : ℕ) : Type 0 where
     pub first : ValueType
     pub others : List ValueType
     pub columns : Holds (checking db) instrs shown.0 (first ∷ others)
@@ -132,7 +132,7 @@ module _ (db : Db) where
   empty_not instrs [] t types h = absurd (none_known (checking db) h)
   empty_not instrs (col ∷ cols) t types h = refl
 
-  abbrev plan_with : List Instr → Shown → List (ℕ × Bool) → Option ℕ → Plan
+  abbrev plan_with : List Instr → ShownColumns → List (ℕ × Bool) → Option ℕ → Plan
   plan_with instrs shown order limit = record { instrs = instrs; out = record { cols = shown.0; keep = shown.1; order = order; limit = limit } }
 
   tested : (found : List ValueType) (instrs : List Instr) (keep : Option Arg) → ((args : List Arg) (are : List ValueType) → Holds (checking db) instrs args are → args_in (checking db) found args ≡ Some are) → TestIs instrs keep
@@ -146,7 +146,7 @@ module _ (db : Db) where
       only true e = refl
       only false e = cc
 
-  pub checked_and_fits : (instrs : List Instr) (shown : Shown) (count : ℕ) (order : List (ℕ × Bool)) (limit : Option ℕ) → ShownIs instrs shown count → are_below count order ≡ true
+  pub checked_and_fits : (instrs : List Instr) (shown : ShownColumns) (count : ℕ) (order : List (ℕ × Bool)) (limit : Option ℕ) → ShownIs instrs shown count → are_below count order ≡ true
       → (plan_fault (plan_with instrs shown order limit) ≡ None) × FitsDb (plan_with instrs shown order limit) db
   checked_and_fits instrs shown count order limit is below =
       let h = is.columns in

@@ -15,11 +15,11 @@ use Rattle.sql_tree.specs.Tree.ExprTree.{ColumnOf}
 use Rattle.sql_tree.specs.Tree.CondTree.{Compare, Within, IsNull, Negation, Both, Either}
 use Rattle.sql_tree.specs.Exprs.{exprs_of_cond}
 use Rattle.sql_tree.specs.declared.tree.ColRef.{ColRef}
-use Rattle.sql_semantics.specs.declared.source.Source.{Source}
-use Rattle.sql_semantics.specs.Check.{is_misfit_cond}
-use Rattle.sql_semantics.specs.Kinds.{kind_of_expr}
-use Rattle.sql_semantics.specs.References.{has_aggregate, outer_references, item_exprs}
-use Rattle.sql_semantics.specs.References as references
+use Rattle.sql_definitions.specs.declared.source.Source.{Source}
+use Rattle.sql_definitions.specs.Check.{is_misfit_cond}
+use Rattle.sql_definitions.specs.Kinds.{kind_of_expr}
+use Rattle.sql_definitions.specs.References.{has_aggregate, outer_references, item_exprs}
+use Rattle.sql_definitions.specs.References as references
 use Rattle.mal_emit.specs.Emitters.{Emitter}
 use Rattle.mal_emit.specs.Machines.{Holds, checking}
 use Rattle.mal_emit.proofs.MachineLemmas.{At, step_to, refs_hold, first_holds, and_holds, stays}
@@ -30,7 +30,7 @@ use Rattle.rows_to_mal.proofs.FoundLemmas.{InDb}
 use Rattle.rows_to_mal.proofs.PlaceLemmas.{scope_of}
 use Rattle.group_to_mal.specs.Columns.{values_by, any_bat, groups, heads}
 use Rattle.group_to_mal.specs.Values.{test_bat, first_of, whole_value, test_by, is_grouped, group_value}
-use Rattle.group_to_mal.specs.QueryPlan.{Shown, always, has_column, row_items, group_items, whole_items, shown_items}
+use Rattle.group_to_mal.specs.QueryPlan.{ShownColumns, always, has_column, row_items, group_items, whole_items, shown_items}
 use Rattle.group_to_mal.proofs.TypedColumns.{Column, bat_type, bats, types, first_bat, column_type, groups_typed}
 use Rattle.group_to_mal.proofs.TypedTests.{IsTyped, columns_of, values_typed, test_typed, items_typed}
 use Rattle.group_to_mal.proofs.TypedValues.{ItemFits, row_typed, whole_typed, group_typed}
@@ -217,7 +217,7 @@ module _ (db : Db) (names : List (List ℕ)) (source : Source) (sources : List S
       items : List ExprTree
       items = item_exprs scope.called query
 
-      form : Bool → Bool → Emitter Shown
+      form : Bool → Bool → Emitter ShownColumns
       form grouped none =
           cond (not grouped) (always (row_items scope rs query.distinct items)) (cond none (whole_items scope rs query.having items) (always (group_items scope rs query.groups query.having query.distinct items)))
 

@@ -1,4 +1,4 @@
--- The types of tests, by those of their sides; of values one behind the other; and of the items made of them.
+-- The types of tests, by those of their sides; of values one after the other; and of the items made of them.
 use Rattle.std.proofs.Common.{◌≡◌, List, [], ◌∷◌, map, Bool, true, false, not, ◌||◌, ◌&&◌, Option, Some, None, refl, ap, ◌∙◌, subst}
 use Rattle.std.specs.Bool.{then_some as some_if}
 use Rattle.std.specs.List.{AllByRecursion}
@@ -23,9 +23,9 @@ use Rattle.mal_emit.proofs.MachineLemmas.{At, stays, and_holds}
 use Rattle.mal_emit.proofs.TypeLemmas.{oids_type}
 use Rattle.rows_to_mal.specs.Conjuncts.{comparison_of}
 use Rattle.rows_to_mal.proofs.FitLemmas.{all_parts}
-use Rattle.sql_semantics.specs.Check.{is_misfit_cond}
-use Rattle.sql_semantics.specs.Kinds.{kind_of_expr, is_misfit, compares, is_cond_misfit}
-use Rattle.sql_semantics.specs.Sources.{NamedSource}
+use Rattle.sql_definitions.specs.Check.{is_misfit_cond}
+use Rattle.sql_definitions.specs.Kinds.{kind_of_expr, is_misfit, compares, is_cond_misfit}
+use Rattle.sql_definitions.specs.Sources.{NamedSource}
 use Rattle.group_to_mal.specs.Columns.{values_by, with_bat, spread_by, spread_first, undoubled}
 use Rattle.group_to_mal.specs.QueryPlan.{kept_columns, items_by}
 use Rattle.group_to_mal.specs.Values.{both_by, test_by, test_bat}
@@ -167,7 +167,7 @@ module _ (db : Db) (called : List NamedSource) (value : ExprTree → Emitter Arg
         columns : Holds (checking db) (spread.run (test.run before).0).0 ws (types cs)
         columns = stays (checking db) (spread.grows (test.run before).0) (stays (checking db) (test.grows before) j known) one
 
-    -- HAVING and DISTINCT behind the first column
+    -- HAVING and DISTINCT after the first column
     abbrev last_phrases : Option CondTree → Bool → List Bool → List Arg → Emitter (List Arg)
     last_phrases having distinct bs ws = followed (kept_columns value is_bat h having bs ws) (λ xs. undoubled distinct bs xs)
 

@@ -17,9 +17,9 @@ use Rattle.sql_tree.specs.Tree.ExprTree.{Literal, ColumnOf, Operator, AggregateA
 use Rattle.sql_tree.specs.declared.tree.AggOp.{AggOp}
 use Rattle.sql_tree.specs.declared.tree.AggOp.TheVariants as aggregate
 use Rattle.sql_grammar.specs.Written.{IsPlain, IsValue}
-use Rattle.sql_semantics.specs.declared.source.Source.{Source}
-use Rattle.sql_semantics.specs.Kinds.{kind_of_expr, kind_of_aggregate, is_misfit, is_no_int, refuses}
-use Rattle.sql_semantics.specs.References.{has_aggregate, outer_references}
+use Rattle.sql_definitions.specs.declared.source.Source.{Source}
+use Rattle.sql_definitions.specs.Kinds.{kind_of_expr, kind_of_aggregate, is_misfit, is_no_int, refuses}
+use Rattle.sql_definitions.specs.References.{has_aggregate, outer_references}
 use Rattle.sql_kinds.proofs.NameLemmas.{left_empty, right_empty}
 use Rattle.mal_emit.specs.Machines.{Gives, checking}
 use Rattle.mal_emit.proofs.GivesLemmas.{gives_same, then_some, behind_one, emits_gives, known_gives}

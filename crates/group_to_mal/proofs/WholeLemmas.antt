@@ -24,10 +24,10 @@ use Rattle.sql_tree.specs.declared.tree.AggOp.{AggOp}
 use Rattle.sql_tree.specs.declared.tree.AggOp.TheVariants as aggregate
 use Rattle.sql_tree.specs.declared.tree.ArithOp.{ArithOp}
 use Rattle.sql_tree.specs.declared.tree.ArithOp.TheVariants as arith_op
-use Rattle.sql_semantics.specs.References.{is_constant}
-use Rattle.sql_semantics.specs.Truth.{truth, holds}
-use Rattle.sql_semantics.specs.Values.{Choice, value, cell_over, first_choice, group_cell, aggregated, result_of, constant_overflows, over_choices}
-use Rattle.sql_semantics.specs.Rows.{group_row}
+use Rattle.sql_definitions.specs.References.{is_constant}
+use Rattle.sql_definitions.specs.Truth.{truth, holds}
+use Rattle.sql_definitions.specs.Values.{Choice, value, cell_over, first_choice, group_cell, aggregated, result_of, constant_overflows, over_choices}
+use Rattle.sql_definitions.specs.Rows.{group_row}
 use Rattle.mal_emit.specs.Emitters.{Emitter, emits}
 use Rattle.mal_emit.specs.Machines.{over, Holds, Told, Gives}
 use Rattle.mal_emit.proofs.MachineLemmas.{At, stays, and_holds, none_after}
@@ -41,7 +41,7 @@ use Rattle.rows_to_mal.specs.Candidates.{calc_of}
 use Rattle.rows_to_mal.specs.Conjuncts.{Scope, expr_value}
 use Rattle.group_to_mal.specs.Columns.{values_by}
 use Rattle.group_to_mal.specs.Values.{test_by, test_bat, total_of, first_of, whole_value}
-use Rattle.group_to_mal.specs.QueryPlan.{Shown, whole_items}
+use Rattle.group_to_mal.specs.QueryPlan.{ShownColumns, whole_items}
 use Rattle.group_to_mal.proofs.ColumnLemmas.{kinds, each}
 use Rattle.group_to_mal.proofs.TestLemmas.{Means, IsKind, test_shape, test_gives, test_means, test_kind}
 use Rattle.group_to_mal.proofs.ItemLemmas.{IsMeant, shapes_of, ShapesMean, AllMean, items_mean, mean_all, kind_all, Given, values_are}
@@ -256,7 +256,7 @@ module _ (db : Db) (scope : Scope) (rows : List Arg) {P : Type 0} (picks : List 
         ∙ rows_are shapes once ∙ ap (λ r. r ∷ []) m.cells.0
 
     -- the rows of a plan with this test, or none
-    abbrev rows_by : List Instr × Shown → Option (List (List Cell))
+    abbrev rows_by : List Instr × ShownColumns → Option (List (List Cell))
     rows_by emitted = plan_rows (record { instrs = emitted.0; out = record { cols = emitted.1.0; keep = emitted.1.1; order = order; limit = limit } }) db
 
     -- SQL's one group
@@ -342,7 +342,7 @@ module _ (db : Db) (scope : Scope) (rows : List Arg) {P : Type 0} (picks : List 
               (test_means once shape_of whole_overflows whole_cell c (mean_all once shape_of whole_overflows whole_cell never_bat (cond_exprs c) (meant first.number (cond_exprs c) c_fits)))
               (subst (λ b. IsKind (test_shape once shape_of c) b) (never_test c) (test_kind once shape_of never_bat c (kind_all once shape_of whole_overflows whole_cell never_bat (cond_exprs c) (meant first.number (cond_exprs c) c_fits))))
 
-      -- behind the rows, the plan shows the row of the one group where HAVING is true of it, or overflows where SQL does
+      -- after the rows, the plan shows the row of the one group where HAVING is true of it, or overflows where SQL does
       pub whole_shown : (having : Option CondTree) → AllByRecursion WholeFits (exprs_of_cond having) → (before : List Instr) → Holds (over db) before rows are
           → rows_by ((whole_items scope rows having items).run before) ≡ whole_meant having items
       whole_shown having having_fits before k = by_having having having_fits

@@ -8,7 +8,7 @@ use Rattle.cell_core.specs.declared.operator.Arg.TheVariants.{Const}
 use Rattle.mal_emit.specs.Emitters.{Emitter, emits, gives, followed}
 use Rattle.mal_emit.specs.Phrases.{counted, selects}
 
--- one value behind the other
+-- one value after the other
 abbrev pub values_by : {X : Type 0} → (X → Emitter Arg) → List X → Emitter (List Arg)
 values_by value [] = gives []
 values_by value (x ∷ xs) = followed (value x) (λ v. followed (values_by value xs) (λ vs. gives (v ∷ vs)))
@@ -39,12 +39,12 @@ bats_of (true ∷ bats) (v ∷ vs) = v ∷ bats_of bats vs
 bats_of (false ∷ bats) (v ∷ vs) = bats_of bats vs
 bats_of _ _ = []
 
--- a BAT at the places that the tails of n name; a scalar stays
+-- a BAT at the places in the tails of n; a scalar stays
 abbrev pub gather_one : Arg → Bool → Arg → Emitter Arg
 gather_one n true v = emits op.Join (n ∷ v ∷ [])
 gather_one n false v = gives v
 
--- each BAT at the places that the tails of n name; scalars stay
+-- each BAT at the places in the tails of n; scalars stay
 abbrev pub gather_bats : Arg → List Bool → List Arg → Emitter (List Arg)
 gather_bats n (true ∷ bats) (v ∷ vs) = followed (emits op.Join (n ∷ v ∷ [])) (λ x. followed (gather_bats n bats vs) (λ xs. gives (x ∷ xs)))
 gather_bats n (false ∷ bats) (v ∷ vs) = followed (gather_bats n bats vs) (λ xs. gives (v ∷ xs))

@@ -4,9 +4,9 @@ use Rattle.cell_core.specs.declared.table.Db.{Db}
 use Rattle.mal_meaning.specs.Meaning.{plan_rows}
 use Rattle.sql_tree.specs.Tree.{QueryTree, StmtTree}
 use Rattle.sql_grammar.specs.Formed.{IsFormed}
-use Rattle.sql_semantics.specs.declared.source.Source.{Source}
-use Rattle.sql_semantics.specs.Answer.{answer, query_of}
-use Rattle.sql_semantics.specs.Check.{check_refusal}
+use Rattle.sql_definitions.specs.declared.source.Source.{Source}
+use Rattle.sql_definitions.specs.Answer.{answer, query_of}
+use Rattle.sql_definitions.specs.Check.{check_refusal}
 use Rattle.rows_to_mal.specs.Laws.{HoldsTables, RunsOver}
 use Rattle.rows_to_mal.specs.Rows.{statement_scope}
 use Rattle.group_to_mal.specs.QueryPlan.{query_plan}

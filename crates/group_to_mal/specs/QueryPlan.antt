@@ -7,9 +7,9 @@ use Rattle.mal_meaning.specs.declared.plan.Plan.{Plan}
 use Rattle.sql_tree.specs.Tree.{ExprTree, CondTree, QueryTree}
 use Rattle.sql_tree.specs.Tree.ExprTree.{ColumnOf}
 use Rattle.sql_tree.specs.declared.tree.ColRef.{ColRef}
-use Rattle.sql_semantics.specs.References.{item_exprs}
-use Rattle.sql_semantics.specs.References as references
-use Rattle.sql_semantics.specs.Answer.{key_places}
+use Rattle.sql_definitions.specs.References.{item_exprs}
+use Rattle.sql_definitions.specs.References as references
+use Rattle.sql_definitions.specs.Answer.{key_places}
 use Rattle.mal_emit.specs.Emitters.{Emitter, gives, followed}
 use Rattle.rows_to_mal.specs.Conjuncts.{Scope, expr_value, is_alone}
 use Rattle.rows_to_mal.specs.Rows.{kept_rows}
@@ -17,11 +17,11 @@ use Rattle.group_to_mal.specs.Columns.{values_by, with_bat, spread_by, spread_fi
 use Rattle.group_to_mal.specs.Values.{test_by, test_bat, first_of, whole_value, whole_test, is_grouped, group_value}
 
 -- what a plan shows: its columns, and a test of whether it shows any row
-abbrev pub Shown : Type 0
-Shown = List Arg × Option Arg
+abbrev pub ShownColumns : Type 0
+ShownColumns = List Arg × Option Arg
 
--- columns that are shown whatever they are
-abbrev pub always : Emitter (List Arg) → Emitter Shown
+-- columns that are always shown
+abbrev pub always : Emitter (List Arg) → Emitter ShownColumns
 always columns = followed columns (λ vs. gives (vs, None))
 
 -- ## Items
@@ -53,12 +53,12 @@ group_items scope rows refs having distinct items =
     (λ keys. followed (groups keys) (λ g. followed (heads g) (λ h. items_by (group_value scope rows g h) is_grouped h having distinct items)))
 
 -- one row of scalars over all rows so far
-abbrev pub whole_items : Scope → List Arg → Option CondTree → List ExprTree → Emitter Shown
+abbrev pub whole_items : Scope → List Arg → Option CondTree → List ExprTree → Emitter ShownColumns
 whole_items scope rows having items =
     followed (values_by (whole_value scope rows) items) (λ vs. followed (whole_test scope rows having) (λ test. gives (vs, test)))
 
 -- what a query shows of the rows that its condition keeps
-abbrev pub shown_items : Scope → QueryTree → List Arg → Emitter Shown
+abbrev pub shown_items : Scope → QueryTree → List Arg → Emitter ShownColumns
 shown_items scope query rows =
     if not (references.is_grouped query) then always (row_items scope rows query.distinct (item_exprs scope.called query))
     else if length query.groups == 0 then whole_items scope rows query.having (item_exprs scope.called query)
@@ -66,11 +66,11 @@ shown_items scope query rows =
 
 -- ## Plans
 
-abbrev pub query_shown : Scope → QueryTree → Emitter Shown
+abbrev pub query_shown : Scope → QueryTree → Emitter ShownColumns
 query_shown scope query = followed (kept_rows scope query.cond) (λ rows. shown_items scope query rows)
 
 -- instructions, and what is shown of them in the order of the query
-abbrev pub plan_of : Scope → QueryTree → List Instr × Shown → Plan
+abbrev pub plan_of : Scope → QueryTree → List Instr × ShownColumns → Plan
 plan_of scope query emitted = record {
   instrs = emitted.0;
   out = record { cols = emitted.1.0; keep = emitted.1.1; order = key_places scope.called query; limit = query.limit };

@@ -47,7 +47,7 @@ fn finer(
     Ok(groups)
 }
 
-/// Adds each BAT at the places that the tails of one name; scalars stay.
+/// Adds each BAT at the places in the tails of `by`; scalars stay.
 pub(crate) fn gather_bats(
     alloc: Global,
     instrs: &mut Sequence<Instr>,
@@ -65,7 +65,7 @@ pub(crate) fn gather_bats(
     Ok(gathered)
 }
 
-/// The same of one column.
+/// Adds one column at these places, if it is a BAT; a scalar stays.
 fn gather_bat(
     alloc: Global,
     instrs: &mut Sequence<Instr>,

@@ -3,8 +3,8 @@ ghost use Rattle.std.specs.Prelude.{◌≡◌, map, Some, None, IfOk, IsSome};
 ghost use Rattle.std.specs.Option.{option_map};
 ghost use Rattle.cell_core.specs.declared.table.Db.{Db};
 ghost use Rattle.sql_tree.specs.Tree.{query_tree, stmt_tree};
-ghost use Rattle.sql_semantics.specs.Sources.{from_name as from_name_of, called_sources};
-ghost use Rattle.sql_semantics.specs.Answer.{query_of, answer_of_stmt};
+ghost use Rattle.sql_definitions.specs.Sources.{from_name as from_name_of, called_sources};
+ghost use Rattle.sql_definitions.specs.Answer.{query_of, answer_of_stmt};
 ghost use Rattle.mal_meaning.specs.Meaning.{plan_rows};
 ghost use Rattle.mal_meaning.specs.Runs.{Runs};
 ghost use Rattle.mal_check.specs.Checked.{plan_fault};
@@ -19,7 +19,7 @@ use cell_core::{Memory, Sequence};
 use mal_check::checked_plans_run;
 use mal_meaning::Plan;
 use rows_to_mal::{Tables, called_in_from};
-use sql_semantics::{Source, Typed};
+use sql_definitions::{Source, Typed};
 use sql_tree::{Query, Stmt};
 use std::alloc::Global;
 
@@ -53,8 +53,8 @@ fn compile_select(alloc: Global, typed: &Typed) -> Result<Plan, Memory>
 
 /// The plan of a checked query, a SELECT or an EXPLAIN.
 ///
-/// Over every valid database that has the query's tables, the plan has no fault, fits the columns and
-/// can be run, and its meaning is the query's answer: none exactly where the query overflows.
+/// Over every valid database that has the query's tables, the plan has no fault, fits the columns
+/// and can be run, and its meaning is the query's answer: none exactly where the query overflows.
 pub fn compile_query(alloc: Global, typed: &Typed) -> Result<Plan, Memory>
     requires query { IsSome (query_of (stmt_tree typed.now.stmt)) }
     ensures plan { IfOk result (λ plan. option_map (query_plan (statement_scope (stmt_tree typed.now.stmt) typed.now.sources)) (query_of (stmt_tree typed.now.stmt)) ≡ Some plan) }

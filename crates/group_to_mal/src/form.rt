@@ -16,7 +16,7 @@ use sql_tree::{AggOp, Cond, Expr};
 use std::alloc::Global;
 
 /// What values are over.
-pub enum Form {
+pub enum Grouping {
     /// Each row so far.
     Rows,
     /// All rows so far at once.
@@ -30,13 +30,13 @@ pub enum Form {
     },
 }
 
-// By a call of its own, so that proofs needn't go through its forms where one is let go.
-impl Drop for Form {
+// By a call of its own, so that proofs needn't go through its forms where one is dropped.
+impl Drop for Grouping {
     fn drop(self) {
         match self {
-            Form::Rows
-            | Form::Whole
-            | Form::Groups {
+            Grouping::Rows
+            | Grouping::Whole
+            | Grouping::Groups {
                 groups: _,
                 heads: _,
             } => {}
@@ -187,7 +187,7 @@ fn is_grouped(expr: &Expr) -> bool
     }
 }
 
-impl Form {
+impl Grouping {
     /// Adds the value of an expression.
     pub(crate) fn value(
         &self,
@@ -200,9 +200,9 @@ impl Form {
         ensures { IfOk result (λ arg. (instrs.new, arg) ≡ (value_over tables.now (variables rows.now) self.now (expr_tree expr.now)).run instrs.old) }
     {
         match self {
-            Form::Rows => tables.expr_value(alloc, instrs, rows, expr),
-            Form::Whole => whole_value(alloc, instrs, tables, rows, expr),
-            Form::Groups { groups, heads } => {
+            Grouping::Rows => tables.expr_value(alloc, instrs, rows, expr),
+            Grouping::Whole => whole_value(alloc, instrs, tables, rows, expr),
+            Grouping::Groups { groups, heads } => {
                 group_value(alloc, instrs, tables, rows, groups, *heads, expr)
             }
         }
@@ -213,9 +213,9 @@ impl Form {
         ensures { result ≡ is_bat_over self.now (expr_tree expr.now) }
     {
         match self {
-            Form::Rows => !is_alone(expr),
-            Form::Whole => false,
-            Form::Groups { .. } => is_grouped(expr),
+            Grouping::Rows => !is_alone(expr),
+            Grouping::Whole => false,
+            Grouping::Groups { .. } => is_grouped(expr),
         }
     }
 

@@ -11,22 +11,22 @@ ghost use Rattle.group_to_mal.specs.Columns.{heads as heads_of, values_by, any_b
 ghost use Rattle.group_to_mal.specs.Values.{is_grouped, group_value};
 ghost use Rattle.group_to_mal.specs.Forms.{value_over, is_bat_over};
 ghost use Rattle.group_to_mal.specs.ItemValues.{args_of, bats_in};
-ghost use Rattle.sql_semantics.specs.Exprs.{exprs_of};
+ghost use Rattle.sql_definitions.specs.Exprs.{exprs_of};
 
 use crate::columns::{ItemValue, groups, heads, keep_bats, spread, undoubled};
-use crate::form::Form;
+use crate::form::Grouping;
 use cell_core::{Arg, Instr, Memory, Op, Sequence};
 use rows_to_mal::Tables;
 use sql_tree::{ColRef, Cond, Item};
 use std::alloc::Global;
 
-/// Adds the values of items, one behind the other.
+/// Adds the values of items, one after the other.
 pub(crate) fn values(
     alloc: Global,
     instrs: &mut Sequence<Instr>,
     tables: &Tables<'_>,
     rows: &[u32],
-    form: &Form,
+    form: &Grouping,
     items: &[Item],
 ) -> Result<Vec<ItemValue>, Memory>
     ensures emitted { IfOk result (λ found. (instrs.new, args_of found.items) ≡ (values_by (value_over tables.now (variables rows.now) form.now) (exprs_of items.now)).run instrs.old) }
@@ -95,7 +95,7 @@ fn first_column(
     })
 }
 
-/// A column before others.
+/// Puts a column before others.
 fn with_first(alloc: Global, first: ItemValue, more: &[ItemValue]) -> Result<Vec<ItemValue>, Memory>
     ensures { IfOk result (λ all. all.items ≡ first ∷ more.now) }
 {
@@ -113,7 +113,7 @@ fn kept_columns(
     instrs: &mut Sequence<Instr>,
     tables: &Tables<'_>,
     rows: &[u32],
-    form: &Form,
+    form: &Grouping,
     heads: Arg,
     having: Option<&Cond>,
     columns: Vec<ItemValue>,
@@ -133,14 +133,14 @@ fn kept_columns(
     keep_bats(alloc, instrs, test, columns.as_slice())
 }
 
-/// Adds the items by these values: with a BAT among them, for the rows of which HAVING is true, and
-/// without doubled ones where that is asked for.
+/// Adds the items by these values, of which one at least becomes a BAT: for the rows of which
+/// HAVING is true, and without doubled ones where that is asked for.
 pub(crate) fn items_by(
     alloc: Global,
     instrs: &mut Sequence<Instr>,
     tables: &Tables<'_>,
     rows: &[u32],
-    form: &Form,
+    form: &Grouping,
     heads: Arg,
     having: Option<&Cond>,
     distinct: bool,
@@ -206,7 +206,7 @@ fn items_of_groups(
     ensures { IfOk result (λ shown. (instrs.new, args_of shown.items) ≡ (followed (heads_of groups) (λ h. items_by_of (group_value tables.now (variables rows.now) groups h) is_grouped h (option_map cond_tree (option_copied having.entry)) distinct (exprs_of items.now))).run instrs.old) }
 {
     let firsts = heads(alloc, instrs, groups.share()?)?;
-    let form = Form::Groups {
+    let form = Grouping::Groups {
         groups,
         heads: firsts,
     };

@@ -1,9 +1,7 @@
-//! The plan of a query, behind the rows that its condition keeps.
-ghost use Rattle.std.specs.Prelude.{◌≡◌, map, filter_map, IfOk};
-ghost use Rattle.std.specs.Option.{option_map};
+//! The plan of a query, after the rows that its condition keeps.
+ghost use Rattle.std.specs.Prelude.{◌≡◌, map, IfOk};
 ghost use Rattle.sql_tree.specs.Tree.{item_tree, query_tree};
-ghost use Rattle.sql_semantics.specs.References.{items_of};
-ghost use Rattle.sql_semantics.specs.Answer.{key_place as key_place_of};
+ghost use Rattle.sql_definitions.specs.References.{items_of};
 ghost use Rattle.mal_emit.specs.Phrases.{variables};
 ghost use Rattle.group_to_mal.specs.QueryPlan.{plan_of, shown_items as shown_items_of};
 
@@ -11,32 +9,11 @@ use crate::shown::shown_items;
 use cell_core::{Instr, Memory, Sequence};
 use mal_meaning::{Out, Plan};
 use rows_to_mal::Tables;
-use sql_semantics::{Called, all_columns, key_place};
-use sql_tree::{Item, Query, SortKey};
+use sql_definitions::{Called, all_columns, sort_keys};
+use sql_tree::{Item, Query};
 use std::alloc::Global;
 
-/// The keys of ORDER BY as places of items, each with whether low cells come first.
-fn sort_keys(
-    alloc: Global,
-    called: &[Called<'_>],
-    items: &[Item],
-    keys: &[SortKey],
-) -> Result<Vec<(u32, bool)>, Memory>
-    ensures { IfOk result (λ places. places.items ≡ filter_map (λ (key : SortKey). option_map (λ n. (n, key.ascending)) (key_place_of called.now (map item_tree items.now) key.at)) keys.now) }
-{
-    let mut places = Vec::new(alloc);
-    let mut rest = keys;
-    'keys: while let [key, more @ ..] = rest {
-        if let Some(place) = key_place(called, items, &key.at) {
-            let place = u32::try_from(place).map_err(|_| Memory)?;
-            places.push((place, key.ascending))?;
-        }
-        rest = more;
-    }
-    Ok(places)
-}
-
-/// The plan with these items, behind the instructions of its rows.
+/// The plan with these items, after the instructions of its rows.
 fn plan_with_items(
     alloc: Global,
     mut instrs: Sequence<Instr>,
@@ -63,7 +40,7 @@ fn plan_with_items(
     })
 }
 
-/// The plan of a query, behind the instructions of the rows that its condition keeps.
+/// The plan of a query, after the instructions of the rows that its condition keeps.
 pub fn plan_behind(
     alloc: Global,
     instrs: Sequence<Instr>,

@@ -15,7 +15,7 @@ module _ (spans : List Priced) (target : Span) where
   abbrev high_at : ℕ → Cut
   high_at p = (span_at spans p).high
 
-  -- the rows of a span, where it ends behind a cut
+  -- the rows of a span, where it ends after a cut
   abbrev paid : Cut → ℕ → ℕ
   paid c p = cond (is_cut_below c (high_at p)) (rows_at spans p) 0
 

@@ -1,4 +1,4 @@
--- The function gives the chosen chain, and its pieces cut up the target.
+-- The function returns the chosen chain, and its pieces cut up the target.
 use Rattle.std.proofs.Common.{◌≡◌, ℕ, zero, suc, ◌<◌, ◌≤◌, List, [], ◌∷◌, Bool, true, false, true≢false, Option, Some, None, inl, inr, refl, ap, sym, ◌∙◌, subst, arith, length, map}
 use Rattle.std.specs.Prelude.{flat_map, if◌then◌else◌}
 use Rattle.std.specs.List.{range_with_len}

@@ -48,7 +48,7 @@ module _ (spans : List Priced) (target : Span) where
   chain_within from [] h = tt
   chain_within from (p ∷ ps) h = (h.1, chain_within (span_at spans p).high ps h.3)
 
-  -- all spans of a chain end behind its beginning
+  -- all spans of a chain end after its beginning
   chain_beyond : (from start : Cut) (chain : List ℕ) → is_cut_below from start ≡ false → IsChain spans target from chain → AllByRecursion (λ p. is_cut_below start (span_at spans p).high ≡ true) chain
   chain_beyond from start [] up h = tt
   chain_beyond from start (p ∷ ps) up h =

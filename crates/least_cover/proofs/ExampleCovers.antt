@@ -32,7 +32,7 @@ before = (refl, refl)
 less : (covers target (map (span_at spans) (1 ∷ [])) ≡ false) × (covers target (map (span_at spans) (0 ∷ 2 ∷ [])) ≡ false) × (covers target (map (span_at spans) (1 ∷ 0 ∷ [])) ≡ true)
 less = (refl, refl, refl)
 
--- ## What the function gives, beside an independent implementation
+-- ## What the function returns, beside an independent implementation
 
 -- the spans of these selections, of the ids 31, 40 and 52: the greedy cutting takes 40 and 52
 cheaper : cheapest_of target ((31, (1, between 5 8)) ∷ (40, (2, between 1 5)) ∷ (52, (3, between 4 9)) ∷ []) ≡ Some (

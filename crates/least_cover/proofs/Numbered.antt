@@ -118,11 +118,46 @@ module _ (spans : List Priced) (target : Span) where
             let label = last_label in
             omega (arith, all, cons, label)
 
+    -- the chain that goes on at a stop, from which its number comes
+    record GoesOnAt (i : ℕ) : Type 0 where
+      rest : List ℕ
+      goes : IsChosen spans target (stop_at spans target i) rest
+      label : slice_index labels i ≡ cost - cost_of spans rest
+
+    nothing_paid : 0 ≡ cost - cost_of spans whole
+    nothing_paid = omega (arith, cost_is)
+
+    goes_on : (i : ℕ) → i ≤ length spans → is_stop spans target i ≡ true → GoesOnAt i
+    goes_on zero low stop = record { rest = whole; goes = chosen; label = nothing_paid }
+    goes_on (suc p) low stop = elim (is_cut_below target.low (high_at p)) as (λ a. is_cut_below target.low (high_at p) ≡ a → GoesOnAt (suc p)) [
+      | true ↦ λ above. let n = numbered p (omega (arith, low)) above (ends target (high_at p) stop) in record { rest = n.rest; goes = n.goes; label = n.label }
+      | false ↦ λ tie.
+          let level = begins target (high_at p) stop in
+          let zero_is = label_at p (omega (arith, low)) ∙ ap (λ a. if a && is_cut_below (high_at p) target.high then option_map_or (λ (best : Best). cost - (best.cost - rows_at spans p)) (best_at bests p) 0 else 0) tie in record {
+            rest = whole;
+            goes = (same_chains target.low (high_at p) tie level whole chosen.0, λ other h. chosen.1 other (same_chains (high_at p) target.low level tie other h));
+            label = zero_is ∙ nothing_paid;
+          }
+    ] refl
+
+    same_numbers : (i j : ℕ) → i ≤ length spans → j ≤ length spans → is_stop spans target i ≡ true → is_stop spans target j ≡ true
+        → is_cut_below (stop_at spans target i) (stop_at spans target j) ≡ false → is_cut_below (stop_at spans target j) (stop_at spans target i) ≡ false
+        → slice_index labels i ≡ slice_index labels j
+    same_numbers i j i_low j_low i_stop j_stop x y =
+        let a = goes_on i i_low i_stop in
+        let b = goes_on j j_low j_stop in
+        let no_more = chosen_costs spans target (stop_at spans target i) a.rest b.rest a.goes (same_chains (stop_at spans target j) (stop_at spans target i) y x b.rest b.goes.0) in
+        let no_less = chosen_costs spans target (stop_at spans target j) b.rest a.rest b.goes (same_chains (stop_at spans target i) (stop_at spans target j) x y a.rest a.goes.0) in
+        let of_a = a.label in
+        let of_b = b.label in
+        omega (arith, no_more, no_less, of_a, of_b)
+
     pub certify : IsCertificate spans target cost (labels_for spans target cost bests)
     certify = record {
       size = ap suc (length-append inner (cost ∷ [])) ∙ (let long = inner_long in omega (arith, long));
       low = refl;
       high = last_label;
       others = λ p low out. label_at p low ∙ other_label p out;
+      same = same_numbers;
       steps = step;
     }

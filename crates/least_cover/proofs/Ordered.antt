@@ -28,7 +28,7 @@ range_more a (suc n) = let same : (a + 1) + n ≡ a + suc n = omega arith in ap 
 pub range_next : (n : ℕ) → range_with_len 0 (n + 1) ≡ range_with_len 0 n ++ n ∷ []
 range_next n = let same : 0 + n ≡ n = omega arith in ap (range_with_len 0) (add-one n) ∙ range_more 0 n ∙ ap (λ k. range_with_len 0 n ++ k ∷ []) same
 
--- different numbers are told apart
+-- the test shows that different numbers differ
 told_apart : (a b : ℕ) → a ≢ b → nat_eq a b ≡ false
 told_apart a b differ = go (nat_eq a b) refl
   where

@@ -34,7 +34,7 @@ module _ (target : Span) (selections : List Selection) where
   abbrev high_at : ℕ → Cut
   high_at p = (entry_at selections p).1.high
 
-  -- behind the target's high a chain is empty
+  -- after the target's high a chain is empty
   no_more : (cut : Cut) (chain : List ℕ) → is_cut_below cut target.high ≡ false → IsChain priced target cut chain → chain ≡ []
   no_more cut [] h is = refl
   no_more cut (p ∷ ps) h is = absurd (true≢false (sym is.0 ∙ h))

@@ -30,7 +30,7 @@ nat_less i zero = inr (omega arith)
 nat_less zero (suc at) = inl (omega arith)
 nat_less (suc i) (suc at) = elim (nat_less i at) [ inl h ↦ inl (omega (arith, h)) | inr h ↦ inr (omega (arith, h)) ]
 
--- what is known stands within the list
+-- what is known is of a place within the list
 pub known_low : (bests : List (Option Best)) (p : ℕ) (best : Best) → best_at bests p ≡ Some best → p < length bests
 known_low bests p best is = elim (nat_less p (length bests)) [
   | inl low ↦ low
@@ -83,7 +83,7 @@ module _ (bests : List (Option Best)) (queue : List ℕ) (h : IsQueue bests queu
     new_above : (k : ℕ) → seat ≤ k → slice_index more (k + 1) ≡ at_ k
     new_above k low = get_or-insert_above queue seat place 0 k low is.within
 
-    -- what stands at a place of the longer queue
+    -- the value at a place of the longer queue
     Stands : ℕ → Type 0
     Stands k = ((k < seat) × (slice_index more k ≡ at_ k)) ⊎ (((k ≡ seat) × (slice_index more k ≡ place)) ⊎ ((j : ℕ) × (k ≡ j + 1) × (seat ≤ j) × (slice_index more k ≡ at_ j)))
 
@@ -160,6 +160,6 @@ module _ (bests : List (Option Best)) (queue : List ℕ) (h : IsQueue bests queu
           ∙ h.falls i j less low;
     }
 
--- the last of the first places, where it stood among all
+-- the last of the first places, by its place among all
 pub last_stands : (all queue : List ℕ) (at place : ℕ) → queue ≡ take (length queue) all → at + 1 ≡ length queue → place ≡ slice_index queue at → place ≡ slice_index all at
 last_stands all queue at place left last is = is ∙ ap (λ xs. slice_index xs at) left ∙ get_or-take (length queue) all at 0 (omega arith)

@@ -63,7 +63,7 @@ module _ (spans : List Priced) (target : Span) (bests : List (Option Best)) (old
       let known = left_queue.known at_last.0 (let count = at_last.1 in omega (arith, long, count)) in
       (known.0, ap (best_at bests) (sym (same_at at_last.0 (let count = at_last.1 in omega (arith, count)) ∙ at_last.2)) ∙ known.1)
 
-  -- the span ends behind the cut, and not at it: one that ends at it goes on with another that comes before it
+  -- the span ends after the cut, and not at it: one that ends at it goes on with another that comes before it
   holds_cut : (p : ℕ) (best : Best) → best_at bests p ≡ Some best → is_cut_below cut target.high ≡ true → ((q : ℕ) (b : Best) → best_at bests q ≡ Some b → is_cut_below cut (span_at spans q).low ≡ false → is_nearer bests q p ≡ false) → is_cut_below cut (span_at spans p).high ≡ true
   holds_cut p best is low first = go (is_cut_below cut (span_at spans p).high) refl
     where

@@ -1,4 +1,4 @@
--- What is known of all spans tells the chain through the target.
+-- What is known of all spans determines the chain through the target.
 use Rattle.std.proofs.Common.{◌≡◌, ℕ, zero, suc, ◌<◌, List, [], ◌∷◌, true, false, ◌&&◌, Option, Some, None, inl, refl, ap, sym, ◌∙◌, arith, length, take, replicate}
 use Rattle.std.specs.Prelude.{slice_index_or}
 use Rattle.std.specs.List.{list_all, list_any}

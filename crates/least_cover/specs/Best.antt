@@ -33,7 +33,7 @@ AreSolved spans target bests = (place : ℕ) (best : Best) → best_at bests pla
 abbrev pub best_cmp : Best → ℕ → Best → ℕ → Ordering
 best_cmp a i b j = ordering_then (nat_cmp a.cost b.cost) (ordering_then (nat_cmp a.length b.length) (nat_cmp i j))
 
--- what is known of a place, or nothing at all
+-- what is known of a place, or a chain of no spans where nothing is
 abbrev pub key_at : List (Option Best) → ℕ → Best
 key_at bests place = option_map_or (λ best. best) (best_at bests place) (record { cost = 0; length = 0; next = None })
 
@@ -45,7 +45,7 @@ is_nearer bests i j = is_lt (best_cmp (key_at bests i) i (key_at bests j) j)
 abbrev pub HasPlace : List ℕ → ℕ → Type 0
 HasPlace places p = (i : ℕ) × (i < length places) × (slice_index places i ≡ p)
 
--- the last of the first places doesn't begin behind the cut, or there is none
+-- the last of the first places doesn't begin after the cut, or there is none
 abbrev pub LastIs : List Priced → Cut → List ℕ → ℕ → Option ℕ → Type 0
 LastIs spans cut queue count None = count ≡ 0
 LastIs spans cut queue count (Some place) = (i : ℕ) × (i + 1 ≡ count) × (slice_index queue i ≡ place) × (is_cut_below cut (span_at spans place).low ≡ false)
@@ -84,7 +84,7 @@ label_for spans target cost bests place =
 abbrev pub labels_for : List Priced → Span → ℕ → List (Option Best) → List ℕ
 labels_for spans target cost bests = 0 ∷ (map (label_for spans target cost bests) (range_with_len 0 (length spans)) ++ cost ∷ [])
 
--- all spans that end behind the target's low are known, and right; or the target isn't covered
+-- all spans that end after the target's low are known, and right; or the target isn't covered
 abbrev pub Solves : List Priced → Span → List (Option Best) → Bool → Type 0
 Solves spans target bests true = AreSolved spans target bests × ((place : ℕ) → place < length spans → is_cut_below target.low (span_at spans place).high ≡ true → (best : Best) × (best_at bests place ≡ Some best))
 Solves spans target bests false = covers target (map (λ (e : Priced). e.1) spans) ≡ false
@@ -104,13 +104,13 @@ pub record IsQueue (bests : List (Option Best)) (queue : List ℕ) : Type 0 wher
   pub known : (i : ℕ) → i < length queue → (best : Best) × (best_at bests (slice_index queue i) ≡ Some best)
   pub falls : (i j : ℕ) → i < j → j < length queue → is_nearer bests (slice_index queue i) (slice_index queue j) ≡ false
 
--- where a place stands in the queue: none before it is nearer, and all from there on are
+-- the position of a place in the queue: none before it is nearer, and all from there on are
 pub record IsSeat (bests : List (Option Best)) (queue : List ℕ) (place at : ℕ) : Type 0 where
   pub within : at ≤ length queue
   pub before : (i : ℕ) → i < at → is_nearer bests (slice_index queue i) place ≡ false
   pub behind : (i : ℕ) → at ≤ i → i < length queue → is_nearer bests (slice_index queue i) place ≡ true
 
--- what is left of a queue once those at its end are gone that begin behind a cut, and its last one
+-- what is left of a queue once those at its end are dropped that begin after a cut, and its last one
 pub record IsFront (spans : List Priced) (cut : Cut) (old new : List ℕ) (last : Option ℕ) : Type 0 where
   pub count : ℕ
   pub few : count ≤ length old
@@ -118,7 +118,7 @@ pub record IsFront (spans : List Priced) (cut : Cut) (old new : List ℕ) (last 
   pub gone : (i : ℕ) → count ≤ i → i < length old → is_cut_below cut (span_at spans (slice_index old i)).low ≡ true
   pub last_is : LastIs spans cut old count last
 
--- each known span that doesn't begin behind the cut is in the queue
+-- each known span that doesn't begin after the cut is in the queue
 abbrev pub Waits : List Priced → List (Option Best) → Cut → List ℕ → Type 0
 Waits spans bests cut queue = (p : ℕ) (best : Best) → best_at bests p ≡ Some best → is_cut_below cut (span_at spans p).low ≡ false → HasPlace queue p
 

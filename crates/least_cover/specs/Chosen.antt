@@ -22,7 +22,7 @@ chains_from (suc n) spans target cut =
     then flat_map (λ place. map (λ places. place ∷ places) (chains_from n spans target (span_at spans place).high)) (holders spans cut)
     else [] ∷ []
 
--- the chain that is chosen through a target: of all chains the one that comes first
+-- the chosen chain through a target: of all chains the one that comes first
 abbrev pub chain_of : Span → List Priced → Option (List ℕ)
 chain_of target spans = if is_cut_below target.low target.high then first_by (comes_before spans) (chains_from (length spans) spans target target.low) else None
 
@@ -51,7 +51,7 @@ cheapest_of target selections =
 
 -- ## Laws
 
--- a chain is what the function gives exactly where it is the chosen one and the target isn't empty; and it gives none where the target isn't covered, and nowhere else
+-- a chain is what the function returns exactly where it is the chosen one and the target isn't empty; and it returns none where the target isn't covered, and nowhere else
 abbrev pub ChosenIsFunction : Type 0
 ChosenIsFunction = (spans : List Priced) (target : Span)
     → ((chain : List ℕ) → (chain_of target spans ≡ Some chain) ↔ ((is_cut_below target.low target.high ≡ true) × IsChosen spans target target.low chain))

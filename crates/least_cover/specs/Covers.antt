@@ -1,4 +1,4 @@
--- Covers of a target by spans that cost rows: the cheapest, the chain that is chosen, and the certificate that no cover costs less.
+-- Covers of a target by spans that cost rows: the cheapest, the chosen chain, and the certificate that no cover costs less.
 use Rattle.std.specs.Prelude.{◌≡◌, ℕ, zero, suc, ◌+◌, ◌<◌, ◌≤◌, List, [], ◌∷◌, map, Bool, true, false, if◌then◌else◌, All, length, sum_by, nat_eq, slice_index, slice_index_or}
 use Rattle.std.specs.List.{IsDistinct}
 use Rattle.std.specs.Ordering.{nat_cmp, ordering_then, is_lt}
@@ -54,7 +54,7 @@ chain_cmp spans a b = ordering_then (nat_cmp (cost_of spans a) (cost_of spans b)
 abbrev pub comes_before : List Priced → List ℕ → List ℕ → Bool
 comes_before spans a b = is_lt (chain_cmp spans a b)
 
--- the chain that is chosen from a cut on: no other comes before it
+-- the chosen chain from a cut on: no other comes before it
 abbrev pub IsChosen : List Priced → Span → Cut → List ℕ → Type 0
 IsChosen spans target cut chain =
     IsChain spans target cut chain × ((other : List ℕ) → IsChain spans target cut other → comes_before spans other chain ≡ false)
@@ -73,18 +73,22 @@ is_stop spans target i = lies_in target (stop_at spans target i)
 abbrev pub end_of : List Priced → Span → ℕ → ℕ
 end_of spans target place = if is_cut_below (span_at spans place).high target.high then suc place else suc (length spans)
 
--- a number for each stop and for the target's high, such that no span goes farther than its rows pay
+-- a number for each stop, one for all stops at one place, and a number for the target's high, such that no
+-- span goes farther than its rows pay
 pub record IsCertificate (spans : List Priced) (target : Span) (cost : ℕ) (labels : List ℕ) : Type 0 where
   pub size : length labels ≡ length spans + 2
   pub low : slice_index labels 0 ≡ 0
   pub high : slice_index labels (suc (length spans)) ≡ cost
   pub others : (place : ℕ) → place < length spans → is_stop spans target (suc place) ≡ false → slice_index labels (suc place) ≡ 0
+  pub same : (i j : ℕ) → i ≤ length spans → j ≤ length spans → is_stop spans target i ≡ true → is_stop spans target j ≡ true
+      → is_cut_below (stop_at spans target i) (stop_at spans target j) ≡ false → is_cut_below (stop_at spans target j) (stop_at spans target i) ≡ false
+      → slice_index labels i ≡ slice_index labels j
   pub steps : (i place : ℕ) → i ≤ length spans → is_stop spans target i ≡ true → place < length spans → lies_in (span_at spans place) (stop_at spans target i) ≡ true
       → slice_index labels (end_of spans target place) ≤ slice_index labels i + rows_at spans place
 
 -- ## Laws
 
--- a chain through the target is a cover; the chain that is chosen costs no more than any chain; and no two chains are chosen from one cut on
+-- a chain through the target is a cover; the chosen chain costs no more than any chain; and no two chains are chosen from one cut on
 pub record OneChosen (spans : List Priced) (target : Span) : Type 0 where
   pub covers_all : (chain : List ℕ) → is_cut_below target.low target.high ≡ true → IsChain spans target target.low chain → IsCover spans target chain
   pub costs_least : (cut : Cut) (chain other : List ℕ) → IsChosen spans target cut chain → IsChain spans target cut other → cost_of spans chain ≤ cost_of spans other

@@ -18,14 +18,14 @@ pub(crate) struct Best {
     pub(crate) next: Option<usize>,
 }
 
-/// What is said of a place of which nothing is known.
+/// The least chain of a place of which nothing is known.
 const NOTHING: Best = Best {
     cost: 0,
     length: 0,
     next: None,
 };
 
-/// Whether a cut stands strictly before another.
+/// Whether a cut is strictly before another.
 pub(crate) fn is_below(a: &Cut, b: &Cut) -> bool
     ensures { result ≡ is_cut_below a.now b.now }
 {
@@ -58,7 +58,7 @@ pub(crate) fn known(bests: &[Option<Best>], place: usize) -> Option<Best>
     bests[place]
 }
 
-/// The least chain that begins with a place, or nothing at all.
+/// The least chain that begins with a place, or `NOTHING` where none is known.
 fn key_of(bests: &[Option<Best>], place: usize) -> Best
     requires { place < length bests.now }
     ensures { result ≡ key_at bests.now place }

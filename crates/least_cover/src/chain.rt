@@ -10,7 +10,7 @@ ghost use Rattle.least_cover.specs.Covers.{IsChosen};
 use crate::best::{Best, known};
 use cell_core::Span;
 
-/// Adds a number where there is room for it.
+/// Adds a number, where there is room for it.
 pub(crate) fn append(numbers: &mut Vec<u64>, number: u64)
     requires { vec_len numbers.old < vec_capacity numbers.old }
     ensures items { numbers.new.items ≡ numbers.old.items ++ number ∷ [] }
@@ -22,7 +22,7 @@ pub(crate) fn append(numbers: &mut Vec<u64>, number: u64)
     }
 }
 
-/// What follows a place in its chain.
+/// The place that follows another in its chain.
 fn following(bests: &[Option<Best>], place: usize) -> Option<usize>
     requires { place < length bests.now }
     ensures { result ≡ option_and_then (λ (best : BestValue). best.next) (best_at bests.now place) }

@@ -1,4 +1,4 @@
-//! The certificate: a number for each place to stop.
+//! The certificate: a number for each place at which a chain may stop.
 ghost use Rattle.std.specs.Prelude.{◌≡◌, ◌&&◌, ◌+◌, ◌<◌, ◌≤◌, ◌^◌, [], All, length};
 ghost use Rattle.std.specs.Vec.{vec_capacity};
 ghost use Rattle.cell_core.specs.Cuts.{is_cut_below};
@@ -8,14 +8,15 @@ use crate::best::{Best, is_below, known, rows_of, span_of};
 use crate::chain::append;
 use cell_core::{Cut, Span};
 
-/// Whether a cut stands strictly within a target.
+/// Whether a cut is strictly within a target.
 fn is_inner(target: &Span, cut: &Cut) -> bool
     ensures { result ≡ (is_cut_below target.now.low cut.now && is_cut_below cut.now target.now.high) }
 {
     is_below(&target.low, cut) && is_below(cut, &target.high)
 }
 
-/// The number of the high of the span at a place: what its chain costs less from there than the whole.
+/// The number of the high of the span at a place: how much less its chain costs from there on than
+/// the whole.
 fn label_of(
     bests: &[Option<Best>],
     spans: &[(u64, Span)],

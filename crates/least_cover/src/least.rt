@@ -10,18 +10,19 @@ use crate::order::order_by_reach;
 use crate::solve::{nearest, solve};
 use cell_core::Span;
 
-/// The most spans that are looked at.
+/// The most spans that `cheapest` takes.
 pub const MOST_SPANS: usize = 1024;
 
-/// The cheapest cover of a target by spans that each cost a number of rows below 2^41: its cost. None
-/// where the target isn't covered, and nowhere else; then both lists stay empty.
+/// The cost of the cheapest cover of a target by spans that each cost a number of rows below 2^41.
+/// None where the target isn't covered, and nowhere else; then both lists stay empty.
 ///
-/// `chain` gets the places of the chosen chain, in order. `labels` gets its certificate: the number of
-/// the target's low, then for each span that of its high, 0 where this is no stop within the target,
-/// and last the number of the target's high.
+/// `chain` gets the places of the chosen chain, in order. `labels` gets its certificate: the number
+/// of the target's low, then for each span that of its high, 0 where this is no stop within the
+/// target, and last the number of the target's high.
 ///
-/// Takes no memory. Of n spans each is sorted once, finds its place among those in hand by halves, and
-/// leaves them once: some n log n comparisons. To make room for it there at most n numbers are shifted.
+/// Takes no memory. Each of n spans is sorted once, finds its place in the queue by halves, and
+/// leaves it once: some n log n comparisons. To make room for it there at most n numbers are
+/// shifted.
 pub fn cheapest(
     spans: &[(u64, Span)],
     target: &Span,
@@ -50,7 +51,7 @@ pub fn cheapest(
     }
     let mut store = [None; MOST_SPANS];
     let bests = &mut store[..spans.len()];
-    // The caller's lists have room, so each first serves to find what it is to tell.
+    // The caller's lists have room, so each first serves for the search.
     order_by_reach(chain, spans);
     if !solve(bests, chain.as_slice(), labels, spans, target) {
         chain.clear();

@@ -10,7 +10,7 @@ use crate::chain::append;
 use cell_core::{Cut, Span, compare_cuts};
 use std::cmp::Ordering;
 
-/// The high of the span at a place, or what stands for none.
+/// The high of the span at a place, or `none` where there is no span.
 fn high_of<'a>(spans: &'a [(u64, Span)], place: u64, none: &'a Cut) -> &'a Cut
     requires { none.now ≡ Low }
     ensures { result.now ≡ (span_at spans.now place).high }
@@ -21,7 +21,7 @@ fn high_of<'a>(spans: &'a [(u64, Span)], place: u64, none: &'a Cut) -> &'a Cut
     }
 }
 
-/// How the spans at two places compare, where the one that reaches farther is less.
+/// How the spans at two places compare; the one that reaches farther is less.
 fn compare_reach(spans: &[(u64, Span)], a: u64, b: u64) -> Ordering
     ensures { result ≡ cut_cmp (span_at spans.now b).high (span_at spans.now a).high }
 {

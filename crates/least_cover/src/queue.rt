@@ -7,7 +7,7 @@ ghost use Rattle.least_cover.specs.Best.{HasPlace, IsFront, IsQueue, IsSeat, bes
 use crate::best::{Best, is_below, is_nearer, span_of};
 use cell_core::{Cut, Span};
 
-/// Where a place stands in the queue, found by halves.
+/// The position of a place in the queue, found by halves.
 fn seat_for(queue: &[u64], bests: &[Option<Best>], place: usize) -> usize
     requires queue { IsQueue bests.now queue.now }
     requires low { place < length bests.now }
@@ -43,8 +43,8 @@ pub(crate) fn enqueue(queue: &mut Vec<u64>, bests: &[Option<Best>], place: usize
     }
 }
 
-/// Lets the places at the end go whose spans begin behind a cut, for good, since later cuts stand before
-/// it. The last one that is left is the nearest.
+/// Drops the places at the end whose spans begin after a cut, for good, since later cuts are before
+/// it. Returns the last place that is left, which is the nearest.
 pub(crate) fn front(queue: &mut Vec<u64>, spans: &[(u64, Span)], cut: &Cut) -> Option<usize>
     requires places { (i : ℕ) → i < length queue.old.items → slice_index queue.old.items i < length spans.now }
     ensures front { IsFront spans.now cut.now queue.old.items queue.new.items result }

@@ -9,7 +9,7 @@ use crate::best::{Best, is_below, known, rows_of, span_of};
 use crate::queue::{enqueue, front};
 use cell_core::{Cut, Span};
 
-/// Of the spans that are known and hold a cut, the one whose chain comes first.
+/// Of the known spans that hold a cut, the one whose chain comes first.
 pub(crate) fn nearest(
     bests: &[Option<Best>],
     queue: &mut Vec<u64>,
@@ -36,8 +36,8 @@ pub(crate) fn nearest(
     }
 }
 
-/// How the least chain goes on that begins with the span at a place. None where no span holds its
-/// high, and the target goes on there.
+/// How the least chain that begins with the span at a place goes on. None where the target goes on
+/// after its high, and no span holds that.
 fn onward(
     bests: &[Option<Best>],
     queue: &mut Vec<u64>,
@@ -76,7 +76,7 @@ fn onward(
     }
 }
 
-/// Finds how the least chain goes on that begins with each span that ends behind the target's low.
+/// Finds how the least chain goes on that begins with each span that ends after the target's low.
 /// False where the target isn't covered.
 pub(crate) fn solve(
     bests: &mut [Option<Best>],

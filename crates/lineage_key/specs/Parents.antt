@@ -1,4 +1,4 @@
--- What a key tells of its parents, its table and its shape.
+-- What a key shows of its parents, its table and its shape.
 use Rattle.std.specs.Prelude.{ℕ, List, [], ◌∷◌, Bool, ◌==◌, if◌then◌else◌, Option, Some, None, slice_index}
 use Rattle.std.specs.List.{filter_map, list_any}
 use Rattle.cell_core.specs.declared.cell.Cell.TheVariants as cell
@@ -9,7 +9,7 @@ use Rattle.lineage_key.specs.declared.key.KeyArg.{KeyArg}
 use Rattle.lineage_key.specs.declared.key.KeyArg.TheVariants.{Const, Id}
 use Rattle.lineage_key.specs.declared.shape.Shape.{Shape}
 
--- the id that stands in an argument
+-- the id in an argument
 abbrev pub id_in : KeyArg → Option ℕ
 id_in (Const c) = None
 id_in (Id n) = Some n
@@ -18,7 +18,7 @@ id_in (Id n) = Some n
 abbrev pub parents_of : Key → List ℕ
 parents_of key = filter_map id_in key.args
 
--- the first and the second parent, where 0 stands for none
+-- the first and the second parent, 0 where there is none
 abbrev pub two_parents : Key → List ℕ
 two_parents key = slice_index (parents_of key) 0 ∷ slice_index (parents_of key) 1 ∷ []
 
@@ -53,7 +53,7 @@ column_of key = second_text key.args
 
 -- ## Shapes
 
--- a bind keeps its table and column; any other key keeps the numbers of its arguments' shapes, where 0 stands for a constant or for no argument
+-- a bind keeps its table and column; any other key keeps the numbers of its arguments' shapes, and 0 for a constant or for no argument
 abbrev pub shape_of : List ℕ → Key → Shape
 shape_of numbers key =
     if is_bind key

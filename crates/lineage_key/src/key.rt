@@ -11,11 +11,11 @@ use std::hash::{Hash, Hasher};
 pub enum KeyArg {
     /// A constant.
     Const(Cell),
-    /// The id of the result that stands here, or 0 for a result without id.
+    /// The id of the result that is used here, or 0 for a result without id.
     Id(u64),
 }
 
-// By a call of its own, so that proofs needn't go through its forms where one is let go.
+// By a call of its own, so that proofs needn't go through its forms where one is dropped.
 impl Drop for KeyArg {
     fn drop(self) {
         match self {
@@ -24,8 +24,8 @@ impl Drop for KeyArg {
     }
 }
 
-/// What names the result of an instruction: the operator, its arguments with results by their ids,
-/// and the version of the column that a bind reads (other operators have version 0).
+/// The name of an instruction's result: the operator, its arguments with results by their ids, and
+/// the version of the column that a bind reads (other operators have version 0).
 #[derive(Drop)]
 pub struct Key {
     /// The operator.
@@ -143,8 +143,8 @@ pub fn equal_keys_are_the_same(a: &Key, b: &Key)
     let _ = b;
 }
 
-/// The key of an instruction: each variable replaced by the id of its result, where `ids` has the
-/// id of each variable in order, and 0 where its result has none.
+/// The key of an instruction: each variable is replaced by the id of its result. `ids` has the id
+/// of each variable in order, and 0 where its result has none.
 pub fn key_of(alloc: Global, instr: &Instr, ids: &[u64], version: u64) -> Result<Key, Memory>
     requires { All (IsNumbered (length ids.now)) instr.now.args }
     ensures { IfOk result (λ key. key ≡ key_for instr.now ids.now version) }

@@ -1,4 +1,4 @@
-//! What a key tells of its parents, its table and its shape.
+//! What a key shows of its parents, its table and its shape.
 ghost use Rattle.std.specs.Prelude.{◌≡◌, ◌==◌, [], ◌∷◌, IfOk, drop, slice_index};
 ghost use Rattle.std.specs.List.{filter_map, list_any};
 ghost use Rattle.lineage_key.specs.Parents.{column_of, id_in, is_bind, is_named, shape_of as shape_told, table_of, text_in, two_parents};
@@ -9,7 +9,7 @@ use cell_core::{Cell, Memory, Op, word_of};
 use std::alloc::Global;
 
 impl KeyArg {
-    /// The id that stands here, if it is no constant.
+    /// The id in this argument. None for a constant.
     pub fn id(&self) -> Option<u64>
         ensures { result ≡ id_in self.now }
     {
@@ -19,7 +19,7 @@ impl KeyArg {
         }
     }
 
-    /// The text that stands here; empty where it is no text.
+    /// The text in this argument; empty where it is no text.
     fn text(&self) -> &str
         ensures { result.now ≡ text_in self.now }
     {
@@ -38,8 +38,8 @@ impl Key {
         self.op == Op::Bind
     }
 
-    /// The ids of its first and its second parent, where 0 stands for none. An instruction that may be
-    /// pooled has no more than two.
+    /// The ids of its first and its second parent, 0 where there is none. An instruction that may
+    /// be pooled has no more than two.
     pub fn parents(&self) -> [u64; 2]
         ensures { result ≡ two_parents self.now }
     {
@@ -83,8 +83,8 @@ impl Key {
     }
 }
 
-/// The shape of a key, where `numbers` has the number of the shape of each argument's result, and 0
-/// for a constant and for no argument.
+/// The shape of a key. `numbers` has the number of the shape of each argument's result, and 0 for a
+/// constant and for no argument.
 pub fn shape_of(alloc: Global, key: &Key, numbers: [u32; 5]) -> Result<Shape, Memory>
     ensures { IfOk result (λ shape. shape ≡ shape_told numbers key.now) }
 {
@@ -109,7 +109,7 @@ pub fn shape_of(alloc: Global, key: &Key, numbers: [u32; 5]) -> Result<Shape, Me
     }
 }
 
-/// Whether an id stands in an argument.
+/// Whether an argument has this id.
 fn stands_in(arg: &KeyArg, id: u64) -> bool
     ensures { result ≡ list_any (λ parent. parent == id) (filter_map id_in (arg.now ∷ [])) }
 {
@@ -119,7 +119,7 @@ fn stands_in(arg: &KeyArg, id: u64) -> bool
     }
 }
 
-/// The first id among arguments, 0 where there is none, and the arguments behind it.
+/// The first id among arguments, 0 where there is none, and the arguments after it.
 fn next_id(args: &[KeyArg]) -> (u64, &[KeyArg])
     ensures first { result.0 ≡ slice_index (filter_map id_in args.now) 0 }
     ensures rest { filter_map id_in result.1.now ≡ drop 1 (filter_map id_in args.now) }

@@ -12,11 +12,11 @@ pub struct Shape {
     pub table: Word,
     /// The column that a bind names; empty for other operators.
     pub column: Word,
-    /// For each argument the number of its result's shape; 0 where a constant stands, or nothing.
+    /// For each argument the number of its result's shape; 0 for a constant and for no argument.
     pub args: [u32; 5],
 }
 
-// By a call of its own, so that proofs needn't go through its forms where one is let go.
+// By a call of its own, so that proofs needn't go through its forms where one is dropped.
 impl Drop for Shape {
     fn drop(self) {
         let Shape {

@@ -5,7 +5,7 @@ use crate::key::{Key, KeyArg};
 use cell_core::{Cell, Cut, Memory, Op, Span};
 
 /// The span of cells that a selection asks for. None exactly where the key is no selection whose
-/// four arguments behind the first are constants.
+/// four arguments after the first are constants.
 pub fn span_of(key: &Key) -> Result<Option<Span>, Memory>
     ensures { IfOk result (λ span. span ≡ span_asked key.now) }
 {

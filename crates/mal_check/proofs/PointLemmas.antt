@@ -1,4 +1,4 @@
--- That each instruction of a plan without a fault fits, whatever became of the others.
+-- Each instruction of a plan without a fault fits, whether or not the others have values.
 use Rattle.std.specs.Prelude.{◌≡◌, ℕ, zero, suc, ◌+◌, ◌<◌, List, [], ◌∷◌, ◌++◌, map, length, Bool, true, Option, Some, None, Result, Ok, Err, slice_get, unwrap_or, refl}
 use Rattle.std.proofs.Common.{ap, sym, ◌∙◌, subst, arith, append-nil, append_assoc}
 use Rattle.std.proofs.lemmas.Option.{slice_get_past, slice_get_within}
@@ -6,6 +6,7 @@ use Rattle.std.specs.Cmp.{first_so, second_so}
 use Rattle.std.specs.List.{list_all}
 use Rattle.std.specs.Option.{option_map, option_and_then}
 use Rattle.std.proofs.lemmas.Bool.{and_from}
+use Rattle.cell_core.proofs.ListLemmas.{both_found, slice_get-append_left, slice_get-append_middle}
 use Rattle.cell_core.specs.declared.operator.Op.{Op}
 use Rattle.cell_core.specs.declared.operator.Op.TheVariants as op
 use Rattle.cell_core.specs.declared.operator.Arg.{Arg}
@@ -27,31 +28,15 @@ use Rattle.mal_check.proofs.RunLemmas.{TypedValue, constant_is, types_given, fit
 
 -- ## Lists
 
-get_front : {X : Type 0} (xs ys : List X) (n : ℕ) → n < length xs → slice_get (xs ++ ys) n ≡ slice_get xs n
-get_front [] ys n low = absurd (omega arith)
-get_front (x ∷ xs) ys zero low = refl
-get_front (x ∷ xs) ys (suc n) low = get_front xs ys n (omega arith)
-
-get_here : {X : Type 0} (xs : List X) (y : X) (ys : List X) → slice_get (xs ++ y ∷ ys) (length xs) ≡ Some y
-get_here [] y ys = refl
-get_here (x ∷ xs) y ys = get_here xs y ys
-
 plain : (n : ℕ) → n + 0 ≡ n
 plain n = omega arith
 
 get_next : {X : Type 0} (xs : List X) (y : X) (ys : List X) → slice_get ((xs ++ y ∷ []) ++ ys) (length xs + 0) ≡ Some y
-get_next xs y ys = ap (slice_get ((xs ++ y ∷ []) ++ ys)) (plain (length xs)) ∙ ap (λ zs. slice_get zs (length xs)) (append_assoc xs (y ∷ []) ys) ∙ get_here xs y ys
+get_next xs y ys = ap (slice_get ((xs ++ y ∷ []) ++ ys)) (plain (length xs)) ∙ ap (λ zs. slice_get zs (length xs)) (append_assoc xs (y ∷ []) ys) ∙ slice_get-append_middle xs y ys
 
 one_longer : {X : Type 0} (xs : List X) (y : X) (k : ℕ) → length (xs ++ y ∷ []) + k ≡ length xs + suc k
 one_longer [] y k = omega arith
 one_longer (x ∷ xs) y k = let rest : length (xs ++ y ∷ []) + k ≡ length xs + suc k = one_longer xs y k in omega arith
-
--- the parts of what is found for all
-split : {X : Type 0} (first : Option X) (rest : Option (List X)) (all : List X) → option_and_then (λ y. option_map (λ ys. y ∷ ys) rest) first ≡ Some all
-    → (x : X) × (xs : List X) × (first ≡ Some x) × (rest ≡ Some xs) × (x ∷ xs ≡ all)
-split None rest all e = absurd (cc)
-split (Some x) None all e = absurd (cc)
-split (Some x) (Some xs) all e = (x, xs, refl, refl, some_is (x ∷ xs) all e)
 
 -- ## Values of types, of which some may be missing
 
@@ -99,26 +84,26 @@ typed_args values types [] [] [] are e f = refl
 typed_args values types [] (t ∷ ts) vs are e f = cc
 typed_args values types [] [] (v ∷ vs) are e f = cc
 typed_args values types (arg ∷ args) found vs are e f =
-    let t = split (arg_type types arg) (arg_types types args) found e in
-    let v = split (arg_value values arg) (arg_values values args) vs f in
+    let t = both_found (arg_type types arg) (arg_types types args) found e in
+    let v = both_found (arg_value values arg) (arg_values values args) vs f in
     let both : are_of_types (v.0 ∷ v.1) (t.0 ∷ t.1) ≡ true =
     and_from (is_of_type v.0 t.0) (are_of_types v.1 t.1) (typed_arg values types arg t.0 are t.2 v.0 v.2) (typed_args values types args t.1 v.1 are t.3 v.3) in
     sym (ap (λ vs. are_of_types vs found) v.4) ∙ sym (ap (λ ts. are_of_types (v.0 ∷ v.1) ts) t.4) ∙ both
 
--- ## What comes behind changes no arguments
+-- ## Later values change no arguments
 
 arg_kept : (values more : List (Option Value)) (types : List ValueType) (arg : Arg) (t : ValueType) → length values ≡ length types → arg_type types arg ≡ Some t
     → arg_value (values ++ more) arg ≡ arg_value values arg
 arg_kept values more types (Const c) t long e = refl
 arg_kept values more types (Var n) t long e =
     let low : n < length types = slice_get_within types n t e in
-    ap (λ o. unwrap_or o None) (get_front values more n (omega arith))
+    ap (λ o. unwrap_or o None) (slice_get-append_left values more n (omega arith))
 
 args_kept : (values more : List (Option Value)) (types : List ValueType) (args : List Arg) (found : List ValueType) → length values ≡ length types → arg_types types args ≡ Some found
     → arg_values (values ++ more) args ≡ arg_values values args
 args_kept values more types [] found long e = refl
 args_kept values more types (arg ∷ args) found long e =
-    let t = split (arg_type types arg) (arg_types types args) found e in
+    let t = both_found (arg_type types arg) (arg_types types args) found e in
     ap (λ v. option_and_then (λ y. option_map (λ ys. y ∷ ys) (arg_values (values ++ more) args)) v) (arg_kept values more types arg t.0 long t.2)
     ∙ ap (λ vs. option_and_then (λ y. option_map (λ ys. y ∷ ys) vs) (arg_value values arg)) (args_kept values more types args t.1 long t.3)
 
@@ -147,7 +132,7 @@ types_grow types (i ∷ is) all e =
 
 -- ## Instructions
 
--- what is known of an instruction behind values of types
+-- what is known of an instruction after values of types
 record Known (db : Db) (values : List (Option Value)) (types : List ValueType) (instr : Instr) (t : ValueType) : Type 0 where
   kept : (more : List (Option Value)) → arg_values (values ++ more) instr.args ≡ arg_values values instr.args
   fits : (args : List Value) → arg_values values instr.args ≡ Some args → FitsHere db instr.op (Some args)
@@ -185,7 +170,7 @@ among db values more all types instr t known is =
       typed = λ v e. known.typed v (sym value ∙ e);
     }
 
--- an instruction behind others has a type, and fits
+-- an instruction after others has a type, and fits
 abbrev Fitting : Db → List ValueType → List (Option Value) → Instr → ℕ → Type 0
 Fitting db all values instr n = (t : ValueType) × (slice_get all n ≡ Some t) × FitsAt db values n instr t
 

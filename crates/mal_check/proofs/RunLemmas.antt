@@ -163,7 +163,7 @@ column_of db values op.Bind args vs ts t given fit has e =
     let P : Option (List Value) → Type 0 = λ found. TypedValue (option_and_then (bind_value db) found) t in subst P given (bind_found db values args t has fit)
 column_of db values operator args vs ts t given fit has e = absurd (cc)
 
--- an instruction without a fault can be run, and gives a value of its type
+-- an instruction without a fault can be run, and yields a value of its type
 abbrev RunsHere : Db → List Value → Instr → ValueType → Type 0
 RunsHere db values instr t =
     FitsHere db instr.op (arg_values (map Some values) instr.args)

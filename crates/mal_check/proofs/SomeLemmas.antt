@@ -16,11 +16,11 @@ use Rattle.cell_core.specs.Pairs.{Pairs, bats_in, shortest, row_at, cell_at}
 use Rattle.std.specs.Ordering.{is_eq, is_ne, is_lt, is_le, is_gt, is_ge}
 use Rattle.cell_core.specs.Calc.{comparison, conjunction, disjunction, negation, nil_test, over_two, over_one, all_or_none, first_heads, calculated_at, calculated}
 use Rattle.cell_core.specs.Operators.{of_bat, of_bats, of_bat_and_cell, of_range, operate}
+use Rattle.cell_core.specs.Forms.{may_overflow}
 use Rattle.cell_core.proofs.TypedLemmas.{no_values, first_value, first_bat, first_one}
 use Rattle.cell_core.specs.Kinds.{ValueType, OneOf, BatOf, is_of_type, are_of_types, from_bat, from_bats, from_bat_and_cell, from_range, from_two, from_one, from_any, both_are, are_comparable, result_type, Fits}
 use Rattle.mal_meaning.specs.Meaning.{value_over}
 use Rattle.mal_meaning.specs.Runs.{FitsHere}
-use Rattle.mal_check.specs.Pointwise.{may_overflow}
 
 -- what has a value at equal arguments
 has_value : (f : List Value → Option Value) (args others : List Value) → args ≡ others → IsSome (f others) → IsSome (f args)

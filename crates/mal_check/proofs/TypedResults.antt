@@ -1,4 +1,4 @@
--- What an operator gives of values of fitting types is of the type that the table of kinds says.
+-- The result of an operator on values of fitting types has the type that the table of kinds says.
 use Rattle.std.specs.Prelude.{◌≡◌, ℕ, List, [], ◌∷◌, map, filter, zip, not, Bool, true, false, ◌&&◌, ◌||◌, cond, ℤ, ◌+ℤ◌, ◌-ℤ◌, ◌*ℤ◌, Option, Some, None, refl}
 use Rattle.std.specs.Cmp.{first_so, second_so}
 use Rattle.std.proofs.Common.{sym, subst}
@@ -211,7 +211,7 @@ negation_is x c e = cell_along (Some kind.Bit) (negation x) c e (opposite_is x)
 nil_test_is : (x c : Cell) → Some (nil_test x) ≡ Some c → is_of_kind (Some kind.Bit) c ≡ true
 nil_test_is x c e = cell_along (Some kind.Bit) (nil_test x) c e refl
 
--- scalars alone give a scalar
+-- scalars alone yield a scalar
 scalar_type : (k : Kind) (args : List Value) (types : List ValueType) → are_of_types args types ≡ true → shortest args ≡ None → calculated_type k types ≡ OneOf (Some k)
 scalar_type k [] [] ok e = refl
 scalar_type k (One c ∷ args) (OneOf a ∷ types) ok e = scalar_type k args types (second_so (is_of_kind a c) (are_of_types args types) ok) e

@@ -18,7 +18,7 @@ use Rattle.mal_check.specs.declared.error.PlanError.TheVariants.{UnknownVar, Kin
 
 -- ## Instructions
 
--- the type of an argument behind instructions of these types, if it names none that comes later
+-- the type of an argument after instructions of these types, if it names none that comes later
 abbrev pub arg_type : List ValueType → Arg → Option ValueType
 arg_type types (Const cell) = Some (OneOf (kind_of cell))
 arg_type types (Var n) = slice_get types n
@@ -40,7 +40,7 @@ type_at n operator args (Some types) =
 unfoldable pub instr_type : List ValueType → Instr → Result ValueType PlanError
 instr_type types instr = type_at (length types) instr.op instr.args (arg_types types instr.args)
 
--- an instruction's fault, or else what comes of the others
+-- an instruction's fault, or else the result for the others
 abbrev pub fault_or_else : (ValueType → Result (List ValueType) PlanError) → Result ValueType PlanError → Result (List ValueType) PlanError
 fault_or_else others (Ok found) = others found
 fault_or_else others (Err e) = Err e
@@ -80,7 +80,7 @@ abbrev pub is_empty : List Arg → Bool
 is_empty [] = true
 is_empty (arg ∷ args) = false
 
--- the first fault of the output behind instructions of these types; it is named by their number
+-- the first fault of the output after instructions of these types; it is named by their number
 abbrev pub out_fault : List ValueType → Out → Option PlanError
 out_fault types out =
     if is_empty out.cols then Some NoOutput

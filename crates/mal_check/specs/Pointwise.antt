@@ -1,10 +1,10 @@
--- What is known of each instruction of a plan without a fault, whatever became of the others.
-use Rattle.std.specs.Prelude.{◌≡◌, ℕ, List, Bool, true, false, Option, Some, None, Ok, IsSome, slice_get}
+-- What is known of each instruction of a plan without a fault, whether or not the others have values.
+use Rattle.std.specs.Prelude.{◌≡◌, ℕ, List, true, false, Option, Some, None, Ok, IsSome, slice_get}
 use Rattle.cell_core.specs.declared.operator.Op.{Op}
-use Rattle.cell_core.specs.declared.operator.Op.TheVariants as op
 use Rattle.cell_core.specs.declared.operator.Instr.{Instr}
 use Rattle.cell_core.specs.declared.operator.Value.{Value}
 use Rattle.cell_core.specs.declared.table.Db.{Db}
+use Rattle.cell_core.specs.Forms.{may_overflow}
 use Rattle.cell_core.specs.Kinds.{ValueType, is_of_type}
 use Rattle.mal_meaning.specs.declared.plan.Plan.{Plan}
 use Rattle.mal_meaning.specs.Meaning.{arg_values, value_over, instr_value, plan_values}
@@ -27,13 +27,6 @@ CheckedInstrsFit = (plan : Plan) (db : Db) → plan_fault plan ≡ None → Fits
     → (types : List ValueType) × (instr_types plan.instrs ≡ Ok types) × ((n : ℕ) (instr : Instr) → slice_get plan.instrs n ≡ Some instr
     → (t : ValueType) × (slice_get types n ≡ Some t) × FitsAt db (plan_values db plan.instrs) n instr t)
 
--- the operators that may overflow
-abbrev pub may_overflow : Op → Bool
-may_overflow op.Plus = true
-may_overflow op.Minus = true
-may_overflow op.Times = true
-may_overflow _ = false
-
--- any other operator has a value on arguments that fit it
+-- an operator that can't overflow has a value on arguments that fit it
 abbrev pub OthersHaveValues : Type 0
 OthersHaveValues = (db : Db) (operator : Op) (args : List Value) → FitsHere db operator (Some args) → may_overflow operator ≡ false → IsSome (value_over db operator args)

@@ -17,7 +17,7 @@ use Rattle.mal_meaning.specs.declared.plan.Plan.{Plan}
 use Rattle.mal_meaning.specs.Runs.{Runs}
 use Rattle.mal_check.specs.Checked.{plan_fault}
 
--- where the column that a bind names is there, its cells are Nil or of the kind that it names
+-- where the column that a bind names exists, its cells are Nil or of the kind that it names
 abbrev pub fits_column : Db → List Arg → Bool
 fits_column db (Const (Text table) ∷ Const (Text column) ∷ Const (Text word) ∷ []) =
     option_map_or (λ b. is_of_type (Bat b) (BatOf (Some kind.Oid) (named_kind word))) (bound table column db) true

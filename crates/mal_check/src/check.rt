@@ -14,7 +14,6 @@ use cell_core::{Arg, Form, Instr, Memory, Op, Sequence};
 use mal_meaning::Plan;
 use std::alloc::Global;
 
-/// How many arguments an operator takes.
 fn argument_count(op: Op) -> usize
     ensures { result ≡ forms.argument_count op }
 {
@@ -57,7 +56,7 @@ fn kind_over(op: Op, args: &[Arg], kinds: &[ValueKind]) -> Option<ValueKind>
     }
 }
 
-/// The kind of the result of an instruction behind those of these kinds, or its fault.
+/// The kind of the result of an instruction after those of these kinds, or its fault.
 #[tactic(auto, unfolding(crate::specs::Checked::instr_type))]
 fn instr_kind(alloc: Global, kinds: &[ValueKind], instr: &Instr) -> Result<ValueKind, PlanError>
     ensures kind { IfOk result (λ kind. checked.instr_type (types_of kinds.now) instr.now ≡ Ok (type_of kind)) }
@@ -77,7 +76,7 @@ fn instr_kind(alloc: Global, kinds: &[ValueKind], instr: &Instr) -> Result<Value
     }
 }
 
-/// The number of the instruction behind those of these kinds.
+/// The number of the instruction after those of these kinds.
 fn number_of(kinds: &[ValueKind]) -> Result<u32, Memory>
     ensures { IfOk result (λ number. number ≡ length kinds.now) }
 {
@@ -102,7 +101,7 @@ fn instr_kinds(alloc: Global, instrs: &[Instr]) -> Result<Sequence<ValueKind>, P
     Ok(kinds)
 }
 
-/// Whether a plan is well formed. Otherwise it answers the plan's first fault: that of the first
+/// Whether a plan is well formed. Otherwise it returns the plan's first fault: that of the first
 /// instruction at fault, and, where there is none, that of the output. Within an instruction and
 /// within the output, `UnknownVar` comes before `WrongCount`, and that before `KindsDiffer`; an
 /// output without columns is `NoOutput`, before any other fault of the output. `Memory` may come at

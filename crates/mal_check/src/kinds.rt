@@ -1,4 +1,4 @@
-//! The kinds of values, and what kind an operator makes of those of its arguments.
+//! The kinds of values, and the kind of an operator's result from those of its arguments.
 ghost use Rattle.std.specs.Prelude.{◌≡◌, ◌∷◌, [], slice_get};
 ghost use Rattle.std.specs.Bool.{then_some};
 ghost use Rattle.std.specs.Option.{option_map};
@@ -55,7 +55,7 @@ fn cells_kind(value: ValueKind) -> Option<Kind>
     }
 }
 
-/// What a function of cells gives: a scalar, or a BAT with the head kind of the first BAT.
+/// The kind of a function's result: a scalar, or a BAT with the head kind of the first BAT.
 fn calculated_kind(kind: Kind, args: &[ValueKind]) -> ValueKind
     ensures { type_of result ≡ kinds.calculated_type kind (types_of args.now) }
 {
@@ -83,7 +83,6 @@ fn arithmetic_kind(args: &[ValueKind]) -> Option<ValueKind>
     }
 }
 
-/// The kind that a comparison has.
 fn comparison_kind(args: &[ValueKind]) -> Option<ValueKind>
     ensures { option_map type_of result ≡ from_two kinds.are_comparable kind.Bit (types_of args.now) }
 {
@@ -111,7 +110,6 @@ fn junction_kind(args: &[ValueKind]) -> Option<ValueKind>
     }
 }
 
-/// The kind that a negation has.
 fn negation_kind(args: &[ValueKind]) -> Option<ValueKind>
     ensures { option_map type_of result ≡ from_one kind.Bit kind.Bit (types_of args.now) }
 {
@@ -135,7 +133,7 @@ fn nil_test_kind(args: &[ValueKind]) -> Option<ValueKind>
     }
 }
 
-/// What a function of two cells gives.
+/// The kind of the result of a function of two cells.
 fn kind_from_two(op: Op, args: &[ValueKind]) -> Option<ValueKind>
     requires { form_of op ≡ form.TwoCells }
     ensures { option_map type_of result ≡ result_type op (types_of args.now) }
@@ -148,7 +146,7 @@ fn kind_from_two(op: Op, args: &[ValueKind]) -> Option<ValueKind>
     }
 }
 
-/// What a function of one cell gives.
+/// The kind of the result of a function of one cell.
 fn kind_from_one(op: Op, args: &[ValueKind]) -> Option<ValueKind>
     requires { form_of op ≡ form.OneCell }
     ensures { option_map type_of result ≡ result_type op (types_of args.now) }
@@ -167,7 +165,7 @@ fn given(test: bool, kind: ValueKind) -> Option<ValueKind>
     if test { Some(kind) } else { None }
 }
 
-/// What an operator makes of a BAT as a BAT.
+/// The kind of the BAT that an operator makes of one BAT.
 fn kind_from_bat(op: Op, b: BatKind) -> Option<ValueKind>
     requires { form_of op ≡ form.OneBat }
     ensures { option_map type_of result ≡ result_type op (BatOf b.head b.tail ∷ []) }
@@ -181,7 +179,7 @@ fn kind_from_bat(op: Op, b: BatKind) -> Option<ValueKind>
     }
 }
 
-/// What an operator makes of a BAT as a scalar.
+/// The kind of the scalar that an operator makes of one BAT.
 fn total_kind(op: Op, b: BatKind) -> Option<ValueKind>
     requires { form_of op ≡ form.Total }
     ensures { option_map type_of result ≡ result_type op (BatOf b.head b.tail ∷ []) }
@@ -194,7 +192,7 @@ fn total_kind(op: Op, b: BatKind) -> Option<ValueKind>
     }
 }
 
-/// What an operator of a BAT and a cell gives.
+/// The kind of the result of an operator of a BAT and a cell.
 fn kind_from_cell(op: Op, b: BatKind, cell: Option<Kind>) -> Option<ValueKind>
     requires { form_of op ≡ form.BatAndCell }
     ensures { option_map type_of result ≡ result_type op (BatOf b.head b.tail ∷ OneOf cell ∷ []) }
@@ -206,7 +204,7 @@ fn kind_from_cell(op: Op, b: BatKind, cell: Option<Kind>) -> Option<ValueKind>
     }
 }
 
-/// What an operator of two BATs gives.
+/// The kind of the result of an operator of two BATs.
 fn kind_from_bats(op: Op, l: BatKind, r: BatKind) -> Option<ValueKind>
     requires { form_of op ≡ form.TwoBats }
     ensures { option_map type_of result ≡ result_type op (BatOf l.head l.tail ∷ BatOf r.head r.tail ∷ []) }
@@ -227,7 +225,7 @@ fn kind_from_bats(op: Op, l: BatKind, r: BatKind) -> Option<ValueKind>
     }
 }
 
-/// What a select gives: its bounds are of the tails' kind, and the two others are bits.
+/// The kind of a select's result: its bounds are of the tails' kind, and the two others are bits.
 fn range_kind(args: &[ValueKind]) -> Option<ValueKind>
     ensures { option_map type_of result ≡ from_range (types_of args.now) }
 {
@@ -246,7 +244,8 @@ fn range_kind(args: &[ValueKind]) -> Option<ValueKind>
     given(bounds_fit && bits_fit, ValueKind::Bat(*b))
 }
 
-/// The kind of an operator's result, where the kinds of its arguments fit it. Bind has its own rule.
+/// The kind of an operator's result, where the kinds of its arguments fit it. Bind has its own
+/// rule.
 pub(crate) fn result_kind(op: Op, args: &[ValueKind]) -> Option<ValueKind>
     ensures { option_map type_of result ≡ result_type op (types_of args.now) }
 {

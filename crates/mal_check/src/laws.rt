@@ -2,16 +2,16 @@
 ghost use Rattle.mal_check.specs.Pointwise.{CheckedInstrsFit, OthersHaveValues};
 ghost use Rattle.mal_check.specs.Runnable.{CheckedPlansRun};
 
-/// A plan without a fault can be run over every database whose columns are of the kinds that the plan
-/// binds: whatever instruction is reached has arguments that fit it. A column that isn't there is
-/// empty, and fits.
+/// A plan without a fault can be run over every database whose columns are of the kinds that the
+/// plan binds: each instruction that is reached has arguments that fit it. A column that doesn't
+/// exist is empty, and fits.
 pub fn checked_plans_run()
     ensures { CheckedPlansRun }
 {}
 
-/// The same instruction by instruction, whatever became of the others: the value of each is that of
-/// its operator on the values of its arguments; where these are there, they fit; and where it has a
-/// value, that is of the type which the check gives it.
+/// The same instruction by instruction, whether or not the others have values: the value of each is
+/// that of its operator on the values of its arguments; where these exist, they fit; and where it
+/// has a value, that is of the type which the check finds for it.
 pub fn checked_instrs_fit()
     ensures { CheckedInstrsFit }
 {}

@@ -1,8 +1,8 @@
 //! Whether a plan is well formed: which of its instructions is the first at fault, and why.
 //!
-//! It stands on `cell_core`, which says which arguments fit an operator, on `cell_calc` for kinds, and on
-//! `mal_meaning`, which says what a plan is. It promises that `check_plan` answers exactly a plan's first
-//! fault.
+//! It uses `cell_core`, which says which arguments fit an operator, `cell_calc` for kinds, and
+//! `mal_meaning`, which says what a plan is. It promises that `check_plan` returns exactly a plan's
+//! first fault.
 #![tactic(auto)]
 
 mod check;

@@ -75,7 +75,7 @@ fn are_below(order: &[(u32, bool)], count: usize) -> bool
     true
 }
 
-/// The first fault of an output behind instructions of these kinds, of which there are `number`.
+/// The first fault of an output after instructions of these kinds, of which there are `number`.
 pub(crate) fn out_fault(kinds: &[ValueKind], out: &Out, number: u32) -> Option<PlanError>
     requires { number ≡ length kinds.now }
     ensures { result ≡ checked.out_fault (types_of kinds.now) out.now }

@@ -10,7 +10,7 @@ use Rattle.mal_emit.specs.Phrases.{gather}
 use Rattle.mal_emit.proofs.MachineLemmas.{At, step_to, rest_holds, first_holds, and_holds, stays, none_known, some_known}
 
 module _ {V : Type 0} (m : Machine V) (b : V) (f : V → V) where
-  -- a join of the one with this gives something
+  -- a join of the one with this has a result
   abbrev pub Joins : V → Type 0
   Joins v = (n r : Arg) → m.apply op.Join (n ∷ r ∷ []) (b ∷ v ∷ []) ≡ Some (f v)
 

@@ -1,4 +1,4 @@
--- What emitters give, put together.
+-- Results of emitters, put together.
 use Rattle.std.proofs.Common.{◌≡◌, List, [], ◌∷◌, map, Option, Some, None, refl, subst}
 use Rattle.std.specs.Option.{option_map, option_and_then}
 use Rattle.cell_core.specs.declared.cell.Cell.{Cell}
@@ -10,7 +10,7 @@ use Rattle.mal_emit.specs.Emitters.{Grown, Emitter, emits, gives, followed}
 use Rattle.mal_emit.specs.Machines.{Machine, Holds, Told, Gives, GivesAll}
 use Rattle.mal_emit.proofs.MachineLemmas.{Ref, Lit, pick, picked, none_after, step_to, rest_holds, first_holds, and_holds, refs_hold, stays}
 
--- the result before the last is let go
+-- the result before the last is dropped
 second_gone : {V : Type 0} (m : Machine V) (instrs : List Instr) (a b : Arg) (args : List Arg) (v : V) (are : List V) (o : Option V)
     → Told m instrs (b ∷ a ∷ args) (option_map (λ w. w ∷ v ∷ are) o) → Told m instrs (b ∷ args) (option_map (λ w. w ∷ are) o)
 second_gone {V} m instrs a b args v are None h = h
@@ -48,7 +48,7 @@ module _ {V : Type 0} {m : Machine V} where
     told = λ before h. second_gone m ((followed first next).run before).0 (first.run before).1 ((followed first next).run before).1 args v are o ((k (first.run before).1).told (first.run before).0 (g.told before h));
   }
 
-  -- where the first may give nothing
+  -- where the first may have no result
   pub then_found : {X : Type 0} {args : List Arg} {are : List V} {first : Emitter Arg} {next : Arg → Emitter Arg} (f : X → V) (found : Option X) {o : X → Option V}
       → Gives m args are first (option_map f found) → ((a : Arg) (x : X) → found ≡ Some x → Gives m (a ∷ args) (f x ∷ are) (next a) (o x))
       → Gives m args are (followed first next) (option_and_then o found)
@@ -90,7 +90,7 @@ module _ {V : Type 0} {m : Machine V} where
   pub gives_same : {args : List Arg} {are : List V} {emitter : Emitter Arg} {o p : Option V} → o ≡ p → Gives m args are emitter o → Gives m args are emitter p
   gives_same {args} {are} {emitter} {o} {p} e g = subst (λ x. Gives m args are emitter x) e g
 
-  -- what is behind one more
+  -- the result after one more argument
   pub behind_one : {x : Arg} {args : List Arg} {v : V} {are : List V} {emitter : Emitter Arg} {o : Option V} → Gives m args are emitter o → Gives m (x ∷ args) (v ∷ are) emitter o
   behind_one {x} {args} {v} {are} {emitter} {o} g = record {
     told = λ before h. beside_known m before (emitter.run before).0 (emitter.run before).1 x args v are o (emitter.grows before) h (g.told before (rest_holds m h));
@@ -103,7 +103,7 @@ module _ {V : Type 0} {m : Machine V} where
   pub gives_all_same : {args : List Arg} {are : List V} {emitter : Emitter (List Arg)} {o p : Option (List V)} → o ≡ p → GivesAll m args are emitter o → GivesAll m args are emitter p
   gives_all_same {args} {are} {emitter} {o} {p} e g = subst (λ x. GivesAll m args are emitter x) e g
 
-  -- lists of results, one emitter behind the other
+  -- lists of results, one emitter after the other
   pub all_then : {X : Type 0} {args : List Arg} {are : List V} {first : Emitter (List Arg)} {next : List Arg → Emitter (List Arg)} (f : X → List V) (found : Option X) {o : X → Option (List V)}
       → GivesAll m args are first (option_map f found) → ((results : List Arg) (x : X) → found ≡ Some x → GivesAll m results (f x) (next results) (o x))
       → GivesAll m args are (followed first next) (option_and_then o found)

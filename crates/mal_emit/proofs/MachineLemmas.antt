@@ -1,8 +1,9 @@
--- Steps of a machine: what is known behind instructions, and behind one more.
+-- Steps of a machine: what is known after instructions, and after one more.
 use Rattle.std.proofs.Common.{◌≡◌, ℕ, suc, zero, List, [], ◌∷◌, ◌++◌, length, map, Option, Some, None, refl, ap, sym, ◌∙◌, append-nil, append_assoc}
 use Rattle.std.specs.Prelude.{slice_get, get_or}
 use Rattle.std.specs.Option.{option_map, option_and_then}
 use Rattle.std.proofs.lemmas.Option.{same_Some}
+use Rattle.cell_core.proofs.ListLemmas.{both_found, both_from, slice_get-append_found, slice_get-append_last}
 use Rattle.cell_core.specs.declared.cell.Cell.{Cell}
 use Rattle.cell_core.specs.declared.cell.Cell.TheVariants.{Nil}
 use Rattle.cell_core.specs.declared.operator.Op.{Op}
@@ -26,45 +27,25 @@ module _ {V : Type 0} (m : Machine V) where
   picked are (At n) = get_or are n (m.constant Nil)
   picked are (Lit cell) = m.constant cell
 
-  -- ## Options
-
-  cons_parts : {X : Type 0} (x : Option X) (xs : Option (List X)) (zs : List X) → option_and_then (λ y. option_map (λ ys. y ∷ ys) xs) x ≡ Some zs
-      → (y : X) × (ys : List X) × (x ≡ Some y) × (xs ≡ Some ys) × (y ∷ ys ≡ zs)
-  cons_parts None xs zs e = cc
-  cons_parts (Some y) None zs e = cc
-  cons_parts (Some y) (Some ys) zs e = (y, ys, refl, refl, same_Some (y ∷ ys) zs e)
-
-  cons_from : {X : Type 0} {x : Option X} {xs : Option (List X)} (y : X) (ys : List X) → x ≡ Some y → xs ≡ Some ys → option_and_then (λ y. option_map (λ ys. y ∷ ys) xs) x ≡ Some (y ∷ ys)
-  cons_from {X} {x} {xs} y ys e f = ap (option_and_then (λ z. option_map (λ zs. z ∷ zs) xs)) e ∙ ap (option_map (λ zs. y ∷ zs)) f
-
-  slice_get-append : {X : Type 0} (xs ys : List X) (n : ℕ) (x : X) → slice_get xs n ≡ Some x → slice_get (xs ++ ys) n ≡ Some x
-  slice_get-append [] ys n x e = cc
-  slice_get-append (y ∷ xs) ys zero x e = e
-  slice_get-append (y ∷ xs) ys (suc n) x e = slice_get-append xs ys n x e
-
-  slice_get-last : {X : Type 0} (xs : List X) (x : X) (n : ℕ) → n ≡ length xs → slice_get (xs ++ x ∷ []) n ≡ Some x
-  slice_get-last [] x n e = ap (slice_get (x ∷ [])) e
-  slice_get-last (y ∷ xs) x n e = ap (slice_get (y ∷ xs ++ x ∷ [])) e ∙ slice_get-last xs x (length xs) refl
-
   -- ## Arguments
 
   arg_stays : (found more : List V) (arg : Arg) (v : V) → arg_in m found arg ≡ Some v → arg_in m (found ++ more) arg ≡ Some v
   arg_stays found more (Const cell) v e = e
-  arg_stays found more (Var n) v e = slice_get-append found more n v e
+  arg_stays found more (Var n) v e = slice_get-append_found found more n v e
 
   args_stay : (found more : List V) (args : List Arg) (are : List V) → args_in m found args ≡ Some are → args_in m (found ++ more) args ≡ Some are
   args_stay found more [] are e = e
   args_stay found more (arg ∷ args) are e =
-      let parts = cons_parts (arg_in m found arg) (args_in m found args) are e in
-      cons_from parts.0 parts.1 (arg_stays found more arg parts.0 parts.2) (args_stay found more args parts.1 parts.3) ∙ ap Some parts.4
+      let parts = both_found (arg_in m found arg) (args_in m found args) are e in
+      both_from parts.0 parts.1 (arg_stays found more arg parts.0 parts.2) (args_stay found more args parts.1 parts.3) ∙ ap Some parts.4
 
   arg_picked : (found : List V) (args : List Arg) (are : List V) (n : ℕ) → args_in m found args ≡ Some are → arg_in m found (get_or args n (Const Nil)) ≡ Some (get_or are n (m.constant Nil))
   arg_picked found [] are n e = ap (λ ys. Some (get_or ys n (m.constant Nil))) (same_Some [] are e)
   arg_picked found (arg ∷ args) are zero e =
-      let parts = cons_parts (arg_in m found arg) (args_in m found args) are e in
+      let parts = both_found (arg_in m found arg) (args_in m found args) are e in
       parts.2 ∙ ap (λ ys. Some (get_or ys 0 (m.constant Nil))) parts.4
   arg_picked found (arg ∷ args) are (suc n) e =
-      let parts = cons_parts (arg_in m found arg) (args_in m found args) are e in
+      let parts = both_found (arg_in m found arg) (args_in m found args) are e in
       arg_picked found args parts.1 n parts.3 ∙ ap (λ ys. Some (get_or ys (suc n) (m.constant Nil))) parts.4
 
   ref_picked : (found : List V) (args : List Arg) (are : List V) → args_in m found args ≡ Some are → (ref : Ref) → arg_in m found (pick args ref) ≡ Some (picked are ref)
@@ -73,7 +54,7 @@ module _ {V : Type 0} (m : Machine V) where
 
   refs_picked : (found : List V) (args : List Arg) (are : List V) → args_in m found args ≡ Some are → (refs : List Ref) → args_in m found (map (pick args) refs) ≡ Some (map (picked are) refs)
   refs_picked found args are e [] = refl
-  refs_picked found args are e (ref ∷ refs) = cons_from (picked are ref) (map (picked are) refs) (ref_picked found args are e ref) (refs_picked found args are e refs)
+  refs_picked found args are e (ref ∷ refs) = both_from (picked are ref) (map (picked are) refs) (ref_picked found args are e ref) (refs_picked found args are e refs)
 
   -- ## Runs
 
@@ -101,7 +82,7 @@ module _ {V : Type 0} (m : Machine V) where
       again None h = refl
       again (Some v) h = h v
 
-  -- as many as there are instructions, behind those that were there
+  -- as many as there are instructions, after those found before
   ran_behind : (found : List V) (instrs : List Instr) (all : List V) → ran m found instrs ≡ Some all → (new : List V) × (all ≡ found ++ new) × (length new ≡ length instrs)
   ran_behind found [] all e = ([], same_Some all found (sym e) ∙ sym (append-nil found), refl)
   ran_behind found (i ∷ is) all e = again (result m found i) (λ v f. ran_behind (found ++ v ∷ []) is all f) e
@@ -132,7 +113,7 @@ module _ {V : Type 0} (m : Machine V) where
 
   pub rest_holds : {instrs : List Instr} {arg : Arg} {args : List Arg} {v : V} {are : List V} → Holds m instrs (arg ∷ args) (v ∷ are) → Holds m instrs args are
   rest_holds {instrs} {arg} {args} {v} {are} h =
-      let parts = cons_parts (arg_in m h.found arg) (args_in m h.found args) (v ∷ are) h.known in
+      let parts = both_found (arg_in m h.found arg) (args_in m h.found args) (v ∷ are) h.known in
       let same : parts.1 ≡ are = cc in
       record { found = h.found; done = h.done; known = parts.3 ∙ ap Some same }
 
@@ -142,19 +123,19 @@ module _ {V : Type 0} (m : Machine V) where
   -- one beside others
   pub and_holds : {instrs : List Instr} {arg : Arg} {args more : List Arg} {v : V} {are those : List V} → Holds m instrs (arg ∷ more) (v ∷ those) → Holds m instrs args are → Holds m instrs (arg ∷ args) (v ∷ are)
   and_holds {instrs} {arg} {args} {more} {v} {are} {those} h k =
-      let parts = cons_parts (arg_in m h.found arg) (args_in m h.found more) (v ∷ those) h.known in
+      let parts = both_found (arg_in m h.found arg) (args_in m h.found more) (v ∷ those) h.known in
       let same : parts.0 ≡ v = cc in
       record {
         found = h.found;
         done = h.done;
-        known = cons_from v are (parts.2 ∙ ap Some same) (ap (λ vs. args_in m vs args) (same_found h k) ∙ k.known);
+        known = both_from v are (parts.2 ∙ ap Some same) (ap (λ vs. args_in m vs args) (same_found h k) ∙ k.known);
       }
 
   args_append : (found : List V) (args more : List Arg) (are those : List V) → args_in m found args ≡ Some are → args_in m found more ≡ Some those → args_in m found (args ++ more) ≡ Some (are ++ those)
   args_append found [] more are those e f = f ∙ ap (λ vs. Some (vs ++ those)) (same_Some [] are e)
   args_append found (arg ∷ args) more are those e f =
-      let parts = cons_parts (arg_in m found arg) (args_in m found args) are e in
-      cons_from parts.0 (parts.1 ++ those) parts.2 (args_append found args more parts.1 those parts.3 f) ∙ ap (λ vs. Some (vs ++ those)) parts.4
+      let parts = both_found (arg_in m found arg) (args_in m found args) are e in
+      both_from parts.0 (parts.1 ++ those) parts.2 (args_append found args more parts.1 those parts.3 f) ∙ ap (λ vs. Some (vs ++ those)) parts.4
 
   pub append_holds : {instrs : List Instr} {args more : List Arg} {are those : List V} → Holds m instrs args are → Holds m instrs more those → Holds m instrs (args ++ more) (are ++ those)
   append_holds {instrs} {args} {more} {are} {those} h k = record {
@@ -176,13 +157,13 @@ module _ {V : Type 0} (m : Machine V) where
 
   pub some_known : {instrs : List Instr} {arg : Arg} {args : List Arg} → Holds m instrs (arg ∷ args) [] → ⊥
   some_known {instrs} {arg} {args} h =
-      let parts = cons_parts (arg_in m h.found arg) (args_in m h.found args) [] h.known in
+      let parts = both_found (arg_in m h.found arg) (args_in m h.found args) [] h.known in
       clash parts.0 parts.1 parts.4
     where
       clash : (v : V) (vs : List V) → v ∷ vs ≡ [] → ⊥
       clash v vs e = cc
 
-  -- an instruction, and what is known behind it
+  -- an instruction, and what is known after it
   pub step_to : {instrs : List Instr} {args : List Arg} {are : List V} (h : Holds m instrs args are) (operator : Op) (refs : List Ref) (o : Option V)
       → m.apply operator (map (pick args) refs) (map (picked are) refs) ≡ o
       → Told m (instrs ++ instruction operator (map (pick args) refs) ∷ []) (Var (length instrs) ∷ args) (option_map (λ v. v ∷ are) o)
@@ -193,7 +174,7 @@ module _ {V : Type 0} (m : Machine V) where
             record {
               found = h.found ++ v ∷ [];
               done = pushed ∙ ap (option_map (λ v. h.found ++ v ∷ [])) f;
-              known = cons_from v are (slice_get-last h.found v (length instrs) long) (args_stay h.found (v ∷ []) args are h.known);
+              known = both_from v are (slice_get-append_last h.found v (length instrs) long) (args_stay h.found (v ∷ []) args are h.known);
             }
       ] (ap (option_and_then (m.apply operator (map (pick args) refs))) (refs_picked h.found args are h.known refs) ∙ e)
     where
@@ -210,7 +191,7 @@ module _ {V : Type 0} (m : Machine V) where
       → Told m (instrs ++ instruction operator (map (pick args) refs) ∷ []) (Var (length instrs) ∷ args) (option_map (λ v. v ∷ are) (m.apply operator (map (pick args) refs) (map (picked are) refs)))
   step {instrs} {args} {are} h operator refs = step_to h operator refs (m.apply operator (map (pick args) refs) (map (picked are) refs)) refl
 
-  -- where something gave nothing, that stays so
+  -- where an instruction had no result, that stays so
   pub none_told : {A : Type 0} (before : List Instr) (emitter : Emitter A) (args : List Arg) → ran m [] before ≡ None → Told m (emitter.run before).0 args None
   none_told {A} before emitter args e = none_after (emitter.grows before) e
 

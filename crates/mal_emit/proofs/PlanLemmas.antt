@@ -36,7 +36,7 @@ module _ (db : Db) where
   unfolding instr_value
   result_is values instr = ap (λ os. option_and_then (value_over db instr.op) (all_or_none os)) (args_are values instr.args)
 
-  -- what instructions give behind values, by the machine and as the meaning of plans runs them
+  -- the results of instructions after values, by the machine and as the meaning of plans runs them
   pub ran_is : (values : List Value) (instrs : List Instr) → ran (over db) values instrs ≡ run_from db values instrs
   ran_is values [] = refl
   ran_is values (i ∷ is) =
@@ -64,7 +64,7 @@ module _ (db : Db) where
       again (Some y) None f g h e = cc
       again (Some y) (Some ys) f g h e = ap (λ v. v ∷ map (value_in values) args) (here arg y f) ∙ ap (λ r. y ∷ r) (h ys g) ∙ same_Some (y ∷ ys) are e
 
-  -- the values of arguments, from what is known behind instructions
+  -- the values of arguments, from what is known after instructions
   pub values_told : (instrs : List Instr) (args : List Arg) (o : Option (List Value)) → Told (over db) instrs args o
       → option_map (λ values. map (value_in values) args) (all_or_none (plan_values db instrs)) ≡ o
   values_told instrs args None h = ap (option_map (λ values. map (value_in values) args)) (sym (run_values_are db instrs) ∙ sym (ran_is [] instrs) ∙ h)
@@ -75,7 +75,7 @@ module _ (db : Db) where
   abbrev pub showing : List Instr → List Arg → List (ℕ × Bool) → Option ℕ → Plan
   showing instrs cols order limit = record { instrs = instrs; out = record { cols = cols; keep = None; order = order; limit = limit } }
 
-  -- the rows of a plan, from what is known behind its instructions
+  -- the rows of a plan, from what is known after its instructions
   pub rows_told : (instrs : List Instr) (cols : List Arg) (order : List (ℕ × Bool)) (limit : Option ℕ) (o : Option (List Value)) → Told (over db) instrs cols o
       → plan_rows (showing instrs cols order limit) db ≡ option_map (λ are. arranged (showing instrs cols order limit).out (unordered are)) o
   rows_told instrs cols order limit None h =

@@ -1,4 +1,4 @@
--- The machine that gives types runs as the check does; and the types of the shared phrases.
+-- The machine that finds types runs as the check does; and the types of the shared phrases.
 use Rattle.std.proofs.Common.{◌≡◌, Bool, true, false, cond, ℕ, List, [], ◌∷◌, ◌++◌, length, map, Option, Some, None, Ok, refl, ap, sym, ◌∙◌, subst}
 use Rattle.std.specs.Prelude.{◌==◌, ◌&&◌, not, is_some, slice_get, Result, Err, ok_or}
 use Rattle.std.specs.List.{AllByRecursion, list_all}
@@ -55,7 +55,7 @@ result_is types instr =
     ap (λ os. option_and_then (counted_type instr.op instr.args) (all_or_none os)) (args_are types instr.args)
     ∙ type_is (length types) instr.op instr.args (arg_types types instr.args)
 
--- the machine that gives types runs as the check does
+-- the machine that finds types runs as the check does
 pub ran_is_checked : (types : List ValueType) (instrs : List Instr) → ran typing types instrs ≡ result_ok (types_from types instrs)
 ran_is_checked types [] = refl
 ran_is_checked types (i ∷ is) =

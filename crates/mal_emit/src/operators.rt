@@ -6,7 +6,7 @@ use crate::instruction::emit;
 use cell_core::{Arg, Instr, Memory, Op, Sequence};
 use std::alloc::Global;
 
-/// Adds an operator, and answers its result as an argument of others.
+/// Adds an operator, and returns its result as an argument of others.
 fn add(instrs: &mut Sequence<Instr>, op: Op, args: Vec<Arg>) -> Result<Arg, Memory>
     ensures { IfOk result (λ arg. (instrs.new, arg) ≡ (emits op args.items).run instrs.old) }
 {
@@ -14,14 +14,16 @@ fn add(instrs: &mut Sequence<Instr>, op: Op, args: Vec<Arg>) -> Result<Arg, Memo
     Ok(Arg::Var(number))
 }
 
-/// Adds an operator of one value, and answers its result as an argument.
+/// Adds an operator of one value, and returns its result as an argument. On `Memory`, `instrs` is as it
+/// was.
 pub fn one(alloc: Global, instrs: &mut Sequence<Instr>, op: Op, of: Arg) -> Result<Arg, Memory>
     ensures { IfOk result (λ arg. (instrs.new, arg) ≡ (emits op (of ∷ [])).run instrs.old) }
 {
     add(instrs, op, vec![in alloc; of]?)
 }
 
-/// Adds an operator of two values, and answers its result as an argument.
+/// Adds an operator of two values, and returns its result as an argument. On `Memory`, `instrs` is as it
+/// was.
 pub fn two(
     alloc: Global,
     instrs: &mut Sequence<Instr>,

@@ -7,7 +7,8 @@ use crate::instruction::emit;
 use cell_core::{Arg, Cell, Instr, Memory, Op, Sequence};
 use std::alloc::Global;
 
-/// Adds the heads of a BAT beside a count from 0.
+/// Adds the heads of a BAT beside a count from 0. On `Memory`, `instrs` keeps what it had, and one more
+/// instruction may follow.
 pub fn counted(alloc: Global, instrs: &mut Sequence<Instr>, of: u32) -> Result<u32, Memory>
     ensures { IfOk result (λ number. (instrs.new, Var number) ≡ (counted_of (Var of)).run instrs.old) }
 {
@@ -16,7 +17,8 @@ pub fn counted(alloc: Global, instrs: &mut Sequence<Instr>, of: u32) -> Result<u
     emit(instrs, Op::Reverse, vec![in alloc; Arg::Var(marked)]?)
 }
 
-/// Adds each of these BATs by the places that the tails of one name.
+/// Adds each of these BATs by the places that the tails of one name. On `Memory`, `instrs` keeps what it
+/// had, and the first of these may follow.
 pub fn gather(
     alloc: Global,
     instrs: &mut Sequence<Instr>,
@@ -34,7 +36,7 @@ pub fn gather(
     Ok(gathered)
 }
 
-/// Adds the pairs of a BAT whose tail lies in a range.
+/// Adds the pairs of a BAT whose tail lies in a range. On `Memory`, `instrs` is as it was.
 pub fn selects(
     alloc: Global,
     instrs: &mut Sequence<Instr>,
@@ -52,7 +54,8 @@ pub fn selects(
     emit(instrs, Op::Select, args)
 }
 
-/// Adds these BATs at the places where a value is true, counted from 0.
+/// Adds these BATs at the places where a value is true, counted from 0. On `Memory`, `instrs` keeps what
+/// it had, and the first of its new instructions may follow.
 pub fn keep(
     alloc: Global,
     instrs: &mut Sequence<Instr>,

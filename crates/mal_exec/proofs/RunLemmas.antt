@@ -11,12 +11,12 @@ use Rattle.mal_meaning.specs.Meaning.{arg_values, instr_value, instr_load, load_
 use Rattle.mal_meaning.specs.Runs.{FitsHere, RunsFrom, run_from, run_values}
 use Rattle.mal_exec.proofs.RowLemmas.{values_more, some_more}
 
--- a list that isn't empty is its first element and what is behind it
+-- a list that isn't empty is its first element and what follows it
 pub uncons : {X : Type 0} (xs : List X) (x : X) → 1 ≤ length xs → x ≡ get_or xs 0 x → xs ≡ x ∷ take (length xs - 1) (drop 1 xs)
 uncons [] x few e = grind arith
 uncons (y ∷ ys) x few e = ap (λ z. z ∷ ys) (sym e) ∙ ap (λ zs. x ∷ zs) (sym (take_all (length (y ∷ ys) - 1) ys (grind arith)))
 
--- running the rest behind what is run gives what running all gives, in values and in work
+-- running the rest after what has run has the result of running all, in values and in work
 pub record Reached (db : Db) (instrs : List Instr) (start : ℕ) (objs : List Obj) (rest : List Instr) (so_far steps : ℕ) : Type 0 where
   pub runs : RunsFrom db (values_of objs) rest
   pub values : run_from db (values_of objs) rest ≡ run_values db instrs

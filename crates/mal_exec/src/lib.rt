@@ -1,10 +1,10 @@
 //! Plans run over shared columns, by any machine that runs operators.
 //!
-//! It stands on `bat_core` for columns and operators and on `mal_meaning` for plans. `run_plan` gives
-//! the rows of a plan's meaning and counts exactly its work; `run_instr` gives one instruction's value, for
-//! those who run a plan step by step, and `run_op` that of an operator; `known_args` finds arguments among
-//! results that come in any order; `output` makes the rows of an output from the values of a plan's
-//! instructions.
+//! It uses `bat_core` for columns and operators and `mal_meaning` for plans. `run_plan` returns the
+//! rows of a plan's meaning and counts exactly its work. `run_instr` returns one instruction's
+//! value, for callers that run a plan step by step, and `run_op` that of an operator. `known_args`
+//! finds arguments among results that come in any order. `output` makes the rows of an output from
+//! the values of a plan's instructions.
 #![tactic(auto)]
 
 mod results;

@@ -1,4 +1,4 @@
-//! The arguments of an instruction among results of which some may not be there yet.
+//! The arguments of an instruction among results of which some may not be known yet.
 ghost use Rattle.std.specs.Prelude.{◌≡◌, IfOk};
 ghost use Rattle.std.specs.Option.{option_map};
 ghost use Rattle.bat_core.specs.Objects.{value_of, values_of};
@@ -10,7 +10,7 @@ use bat_core::Obj;
 use cell_core::{Arg, Memory};
 use std::alloc::Global;
 
-/// The value at a place, if it is there.
+/// The value at a place, if it is known.
 fn known_at(results: &[Option<Obj>], place: u32) -> Result<Option<Obj>, Memory>
     ensures { IfOk result (λ found. option_map value_of found ≡ arg_value (known_of results.now) (Var place)) }
 {
@@ -21,7 +21,7 @@ fn known_at(results: &[Option<Obj>], place: u32) -> Result<Option<Obj>, Memory>
     Ok(Some(value))
 }
 
-/// The value of an argument, if it is there.
+/// The value of an argument, if it is known.
 fn known_arg(results: &[Option<Obj>], arg: &Arg) -> Result<Option<Obj>, Memory>
     ensures { IfOk result (λ found. option_map value_of found ≡ arg_value (known_of results.now) arg.now) }
 {
@@ -34,7 +34,7 @@ fn known_arg(results: &[Option<Obj>], arg: &Arg) -> Result<Option<Obj>, Memory>
     }
 }
 
-/// The values of arguments among the results of instructions by their numbers, if all are there.
+/// The values of arguments among the results of instructions by their numbers, if all are known.
 pub fn known_args(
     alloc: Global,
     results: &[Option<Obj>],
@@ -42,7 +42,7 @@ pub fn known_args(
 ) -> Result<Option<Vec<Obj>>, Memory>
     ensures { IfOk result (λ found. option_map (λ v. values_of v.items) found ≡ arg_values (known_of results.now) args.now) }
 {
-    // Nothing is allocated where the first argument isn't there, as with most that wait.
+    // Nothing is allocated where the first argument isn't known, as with most that wait.
     let mut found = Vec::new(alloc);
     let mut rest = args;
     'parts: while let [arg, more @ ..] = rest {

@@ -36,7 +36,6 @@ fn columns_at(alloc: Global, values: &[Obj], cols: &[Arg]) -> Result<Vec<Obj>, M
     Ok(columns)
 }
 
-/// Whether the rows are shown.
 fn shows_rows(values: &[Obj], keep: &Option<Arg>) -> Result<bool, Memory>
     ensures { IfOk result (λ shown. shown ≡ is_shown (values_of values.now) keep.now) }
 {
@@ -90,7 +89,7 @@ fn first_rows(alloc: Global, columns: &[Obj], count: u64) -> Result<Vec<Sequence
     Ok(rows)
 }
 
-/// The shorter of what is known and a BAT.
+/// The shorter of a known length and a BAT's.
 fn shorter(least: Option<u64>, value: &Obj) -> Option<u64>
     ensures { result ≡ shorter_of least (value_of value.now) }
 {
@@ -117,7 +116,7 @@ fn shortest_bat(columns: &[Obj]) -> Option<u64>
 
 /// The rows of an output: none where `keep` isn't true, else as many as the shortest BAT among the
 /// columns has pairs, or one without a BAT; in the order of the keys, then of all cells; and of
-/// these as many as the limit lets stay.
+/// these at most as many as the limit.
 pub fn output(alloc: Global, out: &Out, values: &[Obj]) -> Result<Sequence<Sequence<Cell>>, Memory>
     ensures rows { IfOk result (λ rows. rows ≡ output_rows out.now (values_of values.now)) }
 {

@@ -14,7 +14,7 @@ use mal_meaning::Plan;
 use std::alloc::Global;
 use std::sync::ledger::Ledger;
 
-/// What a run of a plan gives.
+/// The result of a run of a plan.
 pub struct Ran {
     /// The rows of the plan's output.
     pub rows: Sequence<Sequence<Cell>>,
@@ -22,7 +22,7 @@ pub struct Ran {
     pub load: u128,
 }
 
-// By a call of its own, so that proofs needn't go through its forms where one is let go.
+// By a call of its own, so that proofs needn't go through its forms where one is dropped.
 impl Drop for Ran {
     fn drop(self) {
         let Ran { rows: _, load: _ } = self;
@@ -80,8 +80,8 @@ fn args_at(alloc: Global, values: &[Obj], args: &[Arg]) -> Result<Option<Vec<Obj
     Ok(Some(found))
 }
 
-/// The cells of a column, each beside the number of its row; none where the database doesn't have the
-/// column.
+/// The cells of a column, each beside the number of its row; none where the database doesn't have
+/// the column.
 fn column_of<C: Columns>(
     alloc: Global,
     columns: &C,
@@ -111,7 +111,7 @@ fn bind<C: Columns>(alloc: Global, columns: &C, args: &[Obj]) -> Result<Option<O
     Ok(Some(Obj::Bat(column_of(alloc, columns, table, column)?)))
 }
 
-/// How many pairs the values have, where that is known to fit.
+/// How many pairs the values have; `Memory` where that leaves 128 bits.
 fn pairs_of(values: &[Obj]) -> Result<u128, Memory>
     ensures { IfOk result (λ pairs. pairs ≡ pairs_read (values_of values.now)) }
 {
@@ -126,8 +126,9 @@ fn pairs_of(values: &[Obj]) -> Result<u128, Memory>
     Ok(pairs)
 }
 
-/// The value of an operator on arguments that fit it, and its work, by which the counter rises. `Overflow`
-/// comes exactly where it has none, and then the counter rises by at most that work, and doesn't fall.
+/// The value of an operator on arguments that fit it, and its work, by which the counter rises.
+/// `Overflow` comes exactly where it has none, and then the counter rises by at most that work, and
+/// doesn't fall.
 pub fn run_op<C: Columns, E: Operate, L: Ledger>(
     alloc: Global,
     op: Op,
@@ -164,8 +165,8 @@ pub fn run_op<C: Columns, E: Operate, L: Ledger>(
 }
 
 /// The value of an instruction, where those before it have these values, and its work, by which the
-/// counter rises. `Overflow` comes exactly where it has none, and then the counter rises by at most that
-/// work, and doesn't fall.
+/// counter rises. `Overflow` comes exactly where it has none, and then the counter rises by at most
+/// that work, and doesn't fall.
 #[tactic(auto, unfolding(mal_meaning::specs::Meaning::instr_value))]
 pub fn run_instr<C: Columns, E: Operate, L: Ledger>(
     alloc: Global,
@@ -209,9 +210,9 @@ fn run_next<C: Columns, E: Operate, L: Ledger>(
     run_instr(alloc, instr, values.as_slice(), columns, kernel, steps)
 }
 
-/// Runs a plan over the columns of a database, each instruction once and in order. The counter rises
-/// by exactly the plan's work. `Overflow` comes exactly where the plan has no rows, and then the
-/// counter rises by at most that work, and doesn't fall.
+/// Runs a plan over the columns of a database, each instruction once and in order. The counter
+/// rises by exactly the plan's work. `Overflow` comes exactly where the plan has no rows, and then
+/// the counter rises by at most that work, and doesn't fall.
 pub fn run_plan<C: Columns, E: Operate, L: Ledger>(
     alloc: Global,
     plan: &Plan,
@@ -241,7 +242,7 @@ struct Finished {
     load: u128,
 }
 
-// By a call of its own, so that proofs needn't go through its forms where one is let go.
+// By a call of its own, so that proofs needn't go through its forms where one is dropped.
 impl Drop for Finished {
     fn drop(self) {
         let Finished { values: _, load: _ } = self;

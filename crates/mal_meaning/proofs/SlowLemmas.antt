@@ -1,4 +1,4 @@
--- That the plain operators give what the definitions say.
+-- The plain operators return what the definitions say.
 use Rattle.std.proofs.Common.{◌≡◌, ℕ, ◌+◌, ◌≤◌, List, [], ◌∷◌, ◌++◌, map, filter, length, not, Bool, true, false, cond, Option, Some, None, refl, ap, sym, subst, ◌∙◌, IsTrue, arith}
 use Rattle.std.specs.Prelude.{min, get_or}
 use Rattle.std.specs.List.{position_or_len, zip}
@@ -11,16 +11,16 @@ use Rattle.cell_core.specs.declared.operator.Value.{Value}
 use Rattle.cell_core.specs.declared.operator.Value.TheVariants.{Bat, One}
 use Rattle.cell_core.specs.Same.{same_cell}
 use Rattle.cell_core.specs.Pairs.{Pairs, heads_of, tails_of, numbered, shortest, row_at, rows_of}
-use Rattle.cell_core.specs.Calc.{calculated}
+use Rattle.cell_core.specs.Calc.{row_function, calculated}
 use Rattle.cell_core.specs.Operators.{operate}
-use Rattle.cell_core.specs.Forms.{form_of}
+use Rattle.cell_core.specs.Forms.{is_calc}
 use Rattle.cell_core.specs.declared.operator.Op.{Op}
 use Rattle.cell_core.specs.declared.operator.Op.TheVariants as op
 use Rattle.cell_core.specs.Groups.{distinct, group_number, grouped, derived, paired_tails, least, by_group}
 use Rattle.mal_meaning.specs.declared.groups.Sameness.TheVariants as sameness
 use Rattle.cell_calc.specs.declared.aggregate.Aggregate.{Aggregate}
 use Rattle.cell_calc.specs.Aggregates.{aggregate_of}
-use Rattle.mal_meaning.specs.Slow.{are_same, number_among, head_numbered, pair_numbered, group_folded, shorter_of, is_function, row_function}
+use Rattle.mal_meaning.specs.Slow.{are_same, number_among, head_numbered, pair_numbered, group_folded, shorter_of}
 
 -- tails kept by a test of tails
 tails_kept : (test : Cell → Bool) (b : Pairs) → tails_of (filter (λ q. test q.1) b) ≡ filter test (tails_of b)
@@ -88,7 +88,7 @@ pub rows_more : (values : List Value) (count : ℕ) → rows_of values (count + 
 rows_more values count = map-range_with_len_more (row_at values) 0 count count (grind arith)
 
 -- the functions of cells are what the table says
-pub function_is : (operator : Op) (args : List Value) → IsTrue (is_function (form_of operator)) → calculated (row_function operator) args ≡ operate operator args
+pub function_is : (operator : Op) (args : List Value) → IsTrue (is_calc operator) → calculated (row_function operator) args ≡ operate operator args
 function_is op.Plus args h = refl
 function_is op.Minus args h = refl
 function_is op.Times args h = refl

@@ -22,7 +22,7 @@ abbrev pub is_yes : Value → Bool
 is_yes (One cell) = is_true cell
 is_yes (Bat b) = false
 
--- rows are shown where `keep` is true or isn't there
+-- rows are shown where `keep` is true or absent
 abbrev pub is_shown : List Value → Option Arg → Bool
 is_shown values keep = option_map_or (λ arg. is_yes (value_in values arg)) keep true
 

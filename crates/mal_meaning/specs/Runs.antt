@@ -1,4 +1,4 @@
--- Running a plan instruction by instruction, up to the first without a value, gives what the plan means.
+-- Running a plan instruction by instruction, up to the first without a value, computes what the plan means.
 use Rattle.std.proofs.Common.{◌≡◌, List, [], ◌∷◌, ◌++◌, map, Option, Some, None, refl, ap, sym, ◌∙◌}
 use Rattle.std.specs.Option.{option_map, option_and_then}
 use Rattle.std.proofs.lemmas.List.{map-append}
@@ -15,24 +15,24 @@ use Rattle.mal_meaning.specs.Meaning.{arg_values, bind_value, instr_value, value
 use Rattle.mal_meaning.specs.Output.{output_rows}
 use Rattle.mal_meaning.specs.declared.plan.Plan.{Plan}
 
--- the arguments of an instruction are there and fit it; those of a bind are three texts, whose column needn't be there
+-- the arguments of an instruction have values and fit it; those of a bind are three texts, whose column needn't exist
 abbrev pub FitsHere : Db → Op → Option (List Value) → Type 0
 FitsHere db operator None = ⊥
 FitsHere db op.Bind (Some args) = IsSome (bind_value db args)
 FitsHere db operator (Some args) = Fits operator args
 
--- each instruction that is reached behind these values has arguments that fit
+-- each instruction that is reached after these values has arguments that fit
 abbrev pub RunsFrom : Db → List Value → List Instr → Type 0
 RunsFrom db values [] = Unit {0}
 RunsFrom db values (instr ∷ instrs) =
     FitsHere db instr.op (arg_values (map Some values) instr.args)
     × ((value : Value) → instr_value db (map Some values) instr ≡ Some value → RunsFrom db (values ++ value ∷ []) instrs)
 
--- a plan can be run over a database: whatever is reached fits
+-- a plan can be run over a database: each instruction that is reached fits
 abbrev pub Runs : Plan → Db → Type 0
 Runs plan db = RunsFrom db [] plan.instrs
 
--- the values once these instructions are run behind those with values; None where one has no value
+-- the values once these instructions are run after those with values; None where one has no value
 abbrev pub run_from : Db → List Value → List Instr → Option (List Value)
 run_from db values [] = Some values
 run_from db values (instr ∷ instrs) =
@@ -74,11 +74,11 @@ run_from_is : (db : Db) (values : List Value) (instrs : List Instr) → run_from
 run_from_is db values [] = sym (all_some values)
 run_from_is db values (i ∷ is) = run_next db values i is (instr_value db (map Some values) i) (λ value. run_from_is db (values ++ value ∷ []) is)
 
--- running the instructions gives all their values
+-- running the instructions computes all their values
 pub run_values_are : (db : Db) (instrs : List Instr) → run_values db instrs ≡ all_or_none (plan_values db instrs)
 run_values_are db instrs = run_from_is db [] instrs
 
--- so it gives the rows of a plan, or none
+-- so it computes the rows of a plan, or none
 pub rows_of_run : (plan : Plan) (db : Db) → option_map (output_rows plan.out) (run_values db plan.instrs) ≡ plan_rows plan db
 rows_of_run plan db = ap (option_map (output_rows plan.out)) (run_values_are db plan.instrs)
 

@@ -1,20 +1,14 @@
--- The parts of which the plain operators are made. Only contracts of private functions name them: what
--- callers see speaks of `cell_core`'s definitions alone.
-use Rattle.std.specs.Prelude.{ℕ, min, List, length, map, filter, Bool, true, false, ◌+ℤ◌, ◌-ℤ◌, ◌*ℤ◌, Option, None, Some}
+-- The parts of which the plain operators are made. Only contracts of private functions name them:
+-- public contracts use `cell_core`'s definitions alone.
+use Rattle.std.specs.Prelude.{ℕ, min, List, length, map, filter, Bool, Option, None, Some}
 use Rattle.std.specs.List.{position_or_len}
-use Rattle.std.specs.Ordering.{is_eq, is_ne, is_lt, is_le, is_gt, is_ge}
 use Rattle.cell_core.specs.declared.cell.Cell.{Cell}
 use Rattle.cell_core.specs.declared.cell.Cell.TheVariants.{Oid}
-use Rattle.cell_core.specs.declared.operator.Op.{Op}
-use Rattle.cell_core.specs.declared.operator.Op.TheVariants as op
 use Rattle.cell_core.specs.declared.operator.Value.{Value}
-use Rattle.cell_core.specs.declared.form.Form.{Form}
-use Rattle.cell_core.specs.declared.form.Form.TheVariants as form
 use Rattle.cell_core.specs.declared.operator.Value.TheVariants.{Bat, One}
 use Rattle.cell_core.specs.Same.{same_cell}
 use Rattle.cell_core.specs.Pairs.{Pairs, heads_of}
 use Rattle.cell_core.specs.Groups.{same_pair}
-use Rattle.cell_core.specs.Calc.{arithmetic, comparison, conjunction, disjunction, negation, nil_test, over_two, over_one}
 use Rattle.mal_meaning.specs.declared.groups.Sameness.{Sameness}
 use Rattle.mal_meaning.specs.declared.groups.Sameness.TheVariants as sameness
 use Rattle.cell_calc.specs.declared.aggregate.Aggregate.{Aggregate}
@@ -45,23 +39,6 @@ pair_numbered names p = Oid (number_among sameness.Pair names p)
 abbrev pub group_folded : Aggregate → Pairs → Cell → Cell
 group_folded which paired tail = aggregate_of which (heads_of (filter (λ p. same_cell p.1 tail) paired))
 
--- a function of cells over a row of arguments
-abbrev pub row_function : Op → List Cell → Option Cell
-row_function op.Plus = over_two (arithmetic (λ x y. x +ℤ y))
-row_function op.Minus = over_two (arithmetic (λ x y. x -ℤ y))
-row_function op.Times = over_two (arithmetic (λ x y. x *ℤ y))
-row_function op.Eq = over_two (λ x y. Some (comparison is_eq x y))
-row_function op.Ne = over_two (λ x y. Some (comparison is_ne x y))
-row_function op.Lt = over_two (λ x y. Some (comparison is_lt x y))
-row_function op.Le = over_two (λ x y. Some (comparison is_le x y))
-row_function op.Gt = over_two (λ x y. Some (comparison is_gt x y))
-row_function op.Ge = over_two (λ x y. Some (comparison is_ge x y))
-row_function op.And = over_two (λ x y. Some (conjunction x y))
-row_function op.Or = over_two (λ x y. Some (disjunction x y))
-row_function op.Not = over_one (λ x. Some (negation x))
-row_function op.IsNil = over_one (λ x. Some (nil_test x))
-row_function _ = λ row. None
-
 -- the shorter of two lengths, of which the first may be missing
 abbrev pub min_of : Option ℕ → ℕ → ℕ
 min_of None n = n
@@ -71,9 +48,3 @@ min_of (Some m) n = min m n
 abbrev pub shorter_of : Option ℕ → Value → Option ℕ
 shorter_of least (One cell) = least
 shorter_of least (Bat b) = Some (min_of least (length b))
-
--- a form of functions of cells
-abbrev pub is_function : Form → Bool
-is_function form.TwoCells = true
-is_function form.OneCell = true
-is_function _ = false

@@ -2,47 +2,13 @@
 ghost use Rattle.std.specs.Prelude.{◌≡◌, ◌++◌, ◌∷◌, [], map, zip, Some, None, IfOk, OnOk};
 ghost use Rattle.cell_core.specs.declared.operator.Value.TheVariants.{Bat};
 ghost use Rattle.cell_core.specs.Pairs.{bats_in, shortest, cell_at, row_at, rows_of};
-ghost use Rattle.cell_core.specs.Calc.{all_or_none, first_heads, calculated_at, calculated};
-ghost use Rattle.mal_meaning.specs.Slow.{row_function, shorter_of};
+ghost use Rattle.cell_core.specs.Calc.{row_function, all_or_none, first_heads, calculated_at, calculated};
+ghost use Rattle.mal_meaning.specs.Slow.{shorter_of};
 
 use crate::columns::{heads, pair_up, push_cell};
-use cell_calc::{
-    both, difference, either, has_no_value, is_above, is_at_least, is_at_most, is_below, is_equal,
-    is_unequal, opposite, product, sum,
-};
+use cell_calc::{apply_one, apply_two};
 use cell_core::{Cell, Memory, Op, Sequence, Value};
 use std::alloc::Global;
-
-/// A function of two cells.
-fn apply_two(op: Op, x: &Cell, y: &Cell) -> Option<Cell>
-    ensures { result ≡ row_function op (x.now ∷ y.now ∷ []) }
-{
-    match op {
-        Op::Plus => sum(x, y),
-        Op::Minus => difference(x, y),
-        Op::Times => product(x, y),
-        Op::Eq => Some(is_equal(x, y)),
-        Op::Ne => Some(is_unequal(x, y)),
-        Op::Lt => Some(is_below(x, y)),
-        Op::Le => Some(is_at_most(x, y)),
-        Op::Gt => Some(is_above(x, y)),
-        Op::Ge => Some(is_at_least(x, y)),
-        Op::And => Some(both(x, y)),
-        Op::Or => Some(either(x, y)),
-        _ => None,
-    }
-}
-
-/// A function of one cell.
-fn apply_one(op: Op, x: &Cell) -> Option<Cell>
-    ensures { result ≡ row_function op (x.now ∷ []) }
-{
-    match op {
-        Op::Not => Some(opposite(x)),
-        Op::IsNil => Some(has_no_value(x)),
-        _ => None,
-    }
-}
 
 /// A function of cells over a row of arguments.
 fn apply_function(op: Op, row: &[Cell]) -> Option<Cell>
@@ -135,7 +101,7 @@ pub(crate) fn shortest_bat(values: &[Value]) -> Option<usize>
     least
 }
 
-/// The shorter of what is known and a BAT.
+/// The shorter of a known length and a BAT's.
 fn shorter(least: Option<usize>, value: &Value) -> Option<usize>
     ensures { result ≡ shorter_of least value.now }
 {

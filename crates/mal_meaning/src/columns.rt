@@ -25,7 +25,6 @@ pub(crate) fn push_pair(
     pairs.push((head, tail))
 }
 
-/// The heads.
 pub(crate) fn heads(alloc: Global, b: &[(Cell, Cell)]) -> Result<Sequence<Cell>, Memory>
     ensures { IfOk result (λ cells. cells ≡ heads_of b.now) }
 {
@@ -38,7 +37,6 @@ pub(crate) fn heads(alloc: Global, b: &[(Cell, Cell)]) -> Result<Sequence<Cell>,
     Ok(cells)
 }
 
-/// The tails.
 pub(crate) fn tails(alloc: Global, b: &[(Cell, Cell)]) -> Result<Sequence<Cell>, Memory>
     ensures { IfOk result (λ cells. cells ≡ tails_of b.now) }
 {

@@ -1,13 +1,12 @@
 //! The operators by name, over plain values.
 ghost use Rattle.std.specs.Prelude.{◌≡◌, ◌∷◌, [], Some, IfOk, IsTrue};
 ghost use Rattle.cell_core.specs.declared.form.Form.TheVariants as form;
-ghost use Rattle.cell_core.specs.Forms.{form_of};
+ghost use Rattle.cell_core.specs.Forms.{form_of, is_calc};
 ghost use Rattle.cell_core.specs.declared.operator.Value.TheVariants as value;
 ghost use Rattle.cell_core.specs.Operators.{operate};
 ghost use Rattle.cell_core.specs.declared.operator.Op.TheVariants as operator;
-ghost use Rattle.cell_core.specs.Pairs.{tails_of, is_true};
+ghost use Rattle.cell_core.specs.Pairs.{tails_of};
 ghost use Rattle.cell_calc.specs.Aggregates.{aggregate_of};
-ghost use Rattle.mal_meaning.specs.Slow.{is_function};
 
 use crate::calc::calculate;
 use crate::columns::tails;
@@ -97,13 +96,6 @@ fn run_on_cell(
     }
 }
 
-/// Whether a cell is the bit true.
-fn is_set(cell: &Cell) -> bool
-    ensures { result ≡ is_true cell.now }
-{
-    matches!(cell, Cell::Bit(true))
-}
-
 /// The pairs in a range.
 fn run_select(alloc: Global, args: &[Value]) -> Result<Option<Value>, Memory>
     ensures { IfOk result (λ out. out ≡ operate operator.Select args.now) }
@@ -118,13 +110,13 @@ fn run_select(alloc: Global, args: &[Value]) -> Result<Option<Value>, Memory>
     else {
         return Ok(None);
     };
-    let pairs = select(alloc, b.as_slice(), low, high, is_set(li), is_set(hi))?;
+    let pairs = select(alloc, b.as_slice(), low, high, li.is_true(), hi.is_true())?;
     Ok(Some(Value::Bat(pairs)))
 }
 
 /// A function of cells, over scalars or by position.
 fn run_function(alloc: Global, op: Op, args: &[Value]) -> Result<Option<Value>, Memory>
-    requires { IsTrue (is_function (form_of op)) }
+    requires { IsTrue (is_calc op) }
     ensures { IfOk result (λ out. out ≡ operate op args.now) }
 {
     calculate(alloc, op, args)

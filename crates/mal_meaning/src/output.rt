@@ -1,4 +1,4 @@
-//! The rows of an output: in order, and as many as its limit lets stay.
+//! The rows of an output: in order, and at most as many as its limit.
 ghost use Rattle.std.specs.Prelude.{◌≡◌, map, Some, IfOk};
 ghost use Rattle.mal_meaning.specs.Output.{limited, arranged, unordered, output_rows, value_in, is_yes, is_shown};
 
@@ -8,8 +8,8 @@ use crate::relations::copy_pairs;
 use cell_core::{Arg, Cell, Memory, Sequence, Value, sort_rows_by};
 use std::alloc::Global;
 
-/// Puts rows into the order of an output's keys and then of all cells, and keeps the first ones
-/// where it has a limit.
+/// Sorts rows by an output's keys and then by all cells, and keeps the first ones where it has a
+/// limit.
 pub fn arrange(out: &Out, rows: Vec<Sequence<Cell>>) -> Result<Sequence<Sequence<Cell>>, Memory>
     ensures { IfOk result (λ arrangement. arrangement ≡ arranged out.now rows.items) }
 {
@@ -66,7 +66,6 @@ fn values_of(alloc: Global, values: &[Value], args: &[Arg]) -> Result<Sequence<V
     Ok(columns)
 }
 
-/// Whether an output shows its rows.
 fn shows_rows(alloc: Global, values: &[Value], keep: &Option<Arg>) -> Result<bool, Memory>
     ensures { IfOk result (λ shown. shown ≡ is_shown values.now keep.now) }
 {

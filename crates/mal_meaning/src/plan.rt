@@ -4,9 +4,9 @@ ghost use Rattle.mal_meaning.specs.SamePlan.{same_out, same_plan};
 use cell_core::{Arg, Instr, Memory, Sequence, copy_args};
 use std::alloc::Global;
 
-/// What a plan answers, made of the values of its instructions.
+/// The output of a plan, made of the values of its instructions.
 pub struct Out {
-    /// The columns: a BAT gives its tails, a scalar stands in every row.
+    /// The columns: a BAT shows its tails, a scalar is in every row.
     pub cols: Sequence<Arg>,
     /// If there is one, it has to be true, or no row is shown.
     pub keep: Option<Arg>,
@@ -17,7 +17,7 @@ pub struct Out {
     pub limit: Option<u64>,
 }
 
-// By a call of its own, so that proofs needn't go through its forms where one is let go.
+// By a call of its own, so that proofs needn't go through its forms where one is dropped.
 impl Drop for Out {
     fn drop(self) {
         let Out {
@@ -33,11 +33,11 @@ impl Drop for Out {
 pub struct Plan {
     /// The instructions; `Arg::Var(0)` is the result of the first one, and so on.
     pub instrs: Sequence<Instr>,
-    /// What the plan answers.
+    /// The plan's output.
     pub out: Out,
 }
 
-// By a call of its own, so that proofs needn't go through its forms where one is let go.
+// By a call of its own, so that proofs needn't go through its forms where one is dropped.
 impl Drop for Plan {
     fn drop(self) {
         let Plan { instrs: _, out: _ } = self;
@@ -131,7 +131,6 @@ fn share_keep(keep: &Option<Arg>) -> Result<Option<Arg>, Memory>
     })
 }
 
-/// Equal keys.
 fn copy_order(alloc: Global, order: &[(u32, bool)]) -> Result<Sequence<(u32, bool)>, Memory>
     ensures { IfOk result (λ copy. copy ≡ order.now) }
 {

@@ -37,8 +37,8 @@ fn cells_at(alloc: Global, rows: &[Sequence<Cell>], place: usize) -> Result<Sequ
     Ok(cells)
 }
 
-/// The cells of a column, each beside the number of its row; none where the database doesn't have the
-/// column.
+/// The cells of a column, each beside the number of its row; none where the database doesn't have
+/// the column.
 fn column(
     alloc: Global,
     db: &Db,
@@ -139,8 +139,8 @@ fn run_instrs(alloc: Global, db: &Db, instrs: &[Instr]) -> Result<Option<Sequenc
 }
 
 /// The rows of a plan over a database, computed instruction by instruction over plain lists.
-/// `Overflow` stands for an instruction without a value: one that overflows, whose arguments don't
-/// fit, or that names a result which isn't there.
+/// `Overflow` means an instruction without a value: one that overflows, whose arguments don't fit,
+/// or that names a result which doesn't exist.
 #[tactic(auto, using(crate::specs::Runs::rows_of_run))]
 pub fn slow_run(alloc: Global, plan: &Plan, db: &Db) -> Result<Sequence<Sequence<Cell>>, RunError>
     ensures rows { IfOk result (λ rows. plan_rows plan.now db.now ≡ Some rows) }

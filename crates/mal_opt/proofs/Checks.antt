@@ -6,6 +6,7 @@ use Rattle.std.specs.Option.{option_map, option_map_or, option_and_then}
 use Rattle.std.specs.Result.{result_ok}
 use Rattle.std.specs.Cmp.{first_so, second_so}
 use Rattle.std.proofs.lemmas.Option.{same_Some, slice_get_within}
+use Rattle.cell_core.proofs.ListLemmas.{both_found}
 use Rattle.cell_core.specs.declared.operator.Arg.{Arg}
 use Rattle.cell_core.specs.declared.operator.Arg.TheVariants.{Const, Var}
 use Rattle.cell_core.specs.declared.operator.Instr.{Instr}
@@ -18,7 +19,7 @@ use Rattle.mal_check.specs.Checked.{is_known, is_bit, is_empty, are_below, passe
 use Rattle.mal_emit.specs.Machines.{Machine, typing, arg_in, args_in, result, ran}
 use Rattle.mal_emit.proofs.TypeLemmas.{ran_is_checked}
 use Rattle.mal_opt.specs.Live.{is_result, uses}
-use Rattle.mal_opt.proofs.Runs.{both_found, was_given, first_ran, long_snoc, with_none}
+use Rattle.mal_opt.proofs.Runs.{was_given, first_ran, long_snoc, with_none}
 use Rattle.std.proofs.lemmas.Bool.Decides.{Decides-eqb}
 
 -- an output without a fault

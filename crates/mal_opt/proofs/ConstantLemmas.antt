@@ -1,4 +1,4 @@
--- That an operator gives a scalar of constants alone only where these are one or two.
+-- An operator on constants alone has a scalar value only where these are one or two.
 use Rattle.std.specs.Prelude.{◌≡◌, ℕ, List, [], ◌∷◌, Option, Some, None, refl}
 use Rattle.std.proofs.Common.{ap, ◌∙◌, sym, map, arith}
 use Rattle.std.specs.Prelude.{zip}
@@ -13,14 +13,27 @@ use Rattle.cell_core.specs.declared.operator.Arg.TheVariants.{Const, Var}
 use Rattle.cell_core.specs.declared.operator.Instr.{Instr}
 use Rattle.cell_core.specs.declared.operator.Value.{Value}
 use Rattle.cell_core.specs.declared.operator.Value.TheVariants.{Bat, One}
-use Rattle.cell_core.specs.Calc.{all_or_none, calculated_at, calculated, over_two, over_one, first_heads}
+use Rattle.cell_core.specs.Calc.{row_function, all_or_none, calculated_at, calculated, over_two, over_one, first_heads}
 use Rattle.cell_core.specs.Operators.{operate, of_bat, of_bats, of_bat_and_cell, of_range}
 use Rattle.cell_core.specs.Pairs.{Pairs, shortest, bats_in, rows_of}
 use Rattle.mal_meaning.specs.Meaning.{arg_value, arg_values}
 use Rattle.mal_opt.specs.Passes.{as_cell, constant_value}
 use Rattle.mal_opt.specs.Parts.{scalar_over, given_constants}
 
--- a list of cells beside another gives no scalar
+scalar_is : (o : Option Cell) → o ≡ option_and_then as_cell (option_map One o)
+scalar_is None = refl
+scalar_is (Some x) = refl
+
+-- of one scalar or two an operator gives what its function of cells gives
+pub scalar_of_one : (operator : Op) (x : Cell) → row_function operator (x ∷ []) ≡ scalar_over operator (One x ∷ [])
+scalar_of_one op.Bind x = refl
+scalar_of_one operator x = scalar_is (row_function operator (x ∷ []))
+
+pub scalar_of_two : (operator : Op) (x y : Cell) → row_function operator (x ∷ y ∷ []) ≡ scalar_over operator (One x ∷ One y ∷ [])
+scalar_of_two op.Bind x y = refl
+scalar_of_two operator x y = scalar_is (row_function operator (x ∷ y ∷ []))
+
+-- a list of cells beside another yields no scalar
 none_listed : {X : Type 0} (o : Option X) (f : X → Value) → ((x : X) → as_cell (f x) ≡ None) → option_and_then as_cell (option_map f o) ≡ None
 none_listed None f h = refl
 none_listed (Some x) f h = h x
@@ -51,7 +64,7 @@ no_cell f (Bat a) (Bat b) z vs = refl
 no_cell f (Bat a) (One b) z vs = refl
 no_cell f (One a) y z vs = refl
 
--- of three values and more no operator gives a scalar
+-- on three or more values no operator has a scalar value
 none_of_many : (operator : Op) (x y z : Value) (vs : List Value) → scalar_over operator (x ∷ y ∷ z ∷ vs) ≡ None
 none_of_many op.Select x y z vs = no_range (x ∷ y ∷ z ∷ vs)
 none_of_many op.Plus x y z vs = many_two (shortest (x ∷ y ∷ z ∷ vs)) _ x y z vs

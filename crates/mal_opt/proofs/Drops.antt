@@ -1,4 +1,4 @@
--- What dropping leaves: each instruction that is alive, over what stands for its arguments, in order.
+-- The result of dropping: each instruction that is alive, over the replacements of its arguments, in order.
 use Rattle.std.proofs.Common.{◌≡◌, ◌+◌, ◌<◌, ◌≤◌, ℕ, suc, zero, Bool, true, false, cond, List, [], ◌∷◌, ◌++◌, length, map, Option, Some, None, refl, ap, sym, ◌∙◌, subst, arith, append-nil, append_assoc}
 use Rattle.std.specs.Prelude.{◌||◌, ◌==◌, slice_get, get_or}
 use Rattle.std.specs.Option.{option_map, option_map_or}
@@ -6,6 +6,8 @@ use Rattle.std.proofs.lemmas.Option.{same_Some, slice_get_within, slice_get-get_
 use Rattle.std.proofs.lemmas.List.{get_or_append_left}
 use Rattle.std.proofs.Math.Seq.{get_or-append_seam}
 use Rattle.std.proofs.lemmas.Bool.Decides.{Decides-eqb}
+use Rattle.cell_core.specs.Forms.{may_overflow}
+use Rattle.cell_core.proofs.ListLemmas.{slice_get-append_found, slice_get-append_last, slice_get-append_middle}
 use Rattle.cell_core.specs.declared.cell.Cell.{Cell}
 use Rattle.cell_core.specs.declared.cell.Cell.TheVariants.{Nil}
 use Rattle.cell_core.specs.declared.operator.Arg.{Arg}
@@ -13,10 +15,9 @@ use Rattle.cell_core.specs.declared.operator.Arg.TheVariants.{Const, Var}
 use Rattle.cell_core.specs.declared.operator.Instr.{Instr}
 use Rattle.mal_meaning.specs.declared.plan.Out.{Out}
 use Rattle.mal_meaning.specs.declared.plan.Plan.{Plan}
-use Rattle.mal_check.specs.Pointwise.{may_overflow}
 use Rattle.mal_opt.specs.Live.{is_result, uses, is_shown}
 use Rattle.mal_opt.specs.Passes.{Passed, renamed, renamed_instr, keeping, replaced, dropping, passed, behind, nothing}
-use Rattle.mal_opt.proofs.Runs.{get_more, get_last, get_either, get_front}
+use Rattle.mal_opt.proofs.Runs.{get_either}
 
 longer : {X : Type 0} (xs : List X) (x : X) → length (xs ++ x ∷ []) ≡ suc (length xs)
 longer [] x = refl
@@ -29,7 +30,7 @@ or_right : (a b : Bool) → b ≡ true → (a || b) ≡ true
 or_right true b e = refl
 or_right false b e = e
 
--- what stands for arguments that are named already stays
+-- the replacements of arguments that are named already stay
 renamed_more : (places more : List Arg) (args : List Arg) → ((n : ℕ) → uses n args ≡ true → n < length places) → map (renamed (places ++ more)) args ≡ map (renamed places) args
 renamed_more places more [] scoped = refl
 renamed_more places more (arg ∷ args) scoped =
@@ -94,13 +95,13 @@ module _ (alive : ℕ → Bool) where
 
     old_named : (n : ℕ) (instr : Instr) → slice_get before n ≡ Some instr → renamed_instr new instr ≡ renamed_instr so.places instr
     old_named n instr at = with_args instr (map (renamed new) instr.args) (map (renamed so.places) instr.args) (renamed_more so.places (place ∷ []) instr.args (λ m u.
-        let low : m < n = scoped n instr (get_more before (i ∷ []) n instr at) m u in
+        let low : m < n = scoped n instr (slice_get-append_found before (i ∷ []) n instr at) m u in
         let within : n < length before = slice_get_within before n instr at in
         omega (arith, low, within, h.long)))
 
     last_named : renamed_instr new i ≡ renamed_instr so.places i
     last_named = with_args i (map (renamed new) i.args) (map (renamed so.places) i.args) (renamed_more so.places (place ∷ []) i.args (λ m u.
-        let low : m < length before = scoped (length before) i (get_front before i []) m u in
+        let low : m < length before = scoped (length before) i (slice_get-append_middle before i []) m u in
         omega (arith, low, h.long)))
 
     old_source : (k : ℕ) (x : Instr) → Source before so k x → (instrs : List Instr) → Source (before ++ i ∷ []) (behind instrs new) k x
@@ -109,7 +110,7 @@ module _ (alive : ℕ → Bool) where
         record {
           number = s.number;
           instr = s.instr;
-          at = get_more before (i ∷ []) s.number s.instr s.at;
+          at = slice_get-append_found before (i ∷ []) s.number s.instr s.at;
           lives = s.lives;
           place = old_place s.number within ∙ s.place;
           is = s.is ∙ sym (old_named s.number s.instr s.at);
@@ -158,16 +159,16 @@ module _ (alive : ℕ → Bool) where
         (λ last same. record {
           number = length before;
           instr = i;
-          at = get_front before i [];
+          at = slice_get-append_middle before i [];
           lives = lives;
           place = last_place before so h i scoped place ∙ ap Var (sym last);
           is = sym same ∙ sym (last_named before so h i scoped place);
         });
     target = λ n instr k at a e. get_either before i n instr at
-        (λ old. get_more so.instrs (renamed_instr so.places i ∷ []) k (renamed_instr so.places instr) (h.target n instr k old a (sym (old_place before so h i scoped place n (slice_get_within before n instr old)) ∙ e)) ∙ ap Some (sym (old_named before so h i scoped place n instr old)))
+        (λ old. slice_get-append_found so.instrs (renamed_instr so.places i ∷ []) k (renamed_instr so.places instr) (h.target n instr k old a (sym (old_place before so h i scoped place n (slice_get_within before n instr old)) ∙ e)) ∙ ap Some (sym (old_named before so h i scoped place n instr old)))
         (λ last same.
         let is : length so.instrs ≡ k = var_is (length so.instrs) k (sym (last_place before so h i scoped place) ∙ ap (λ m. get_or (new before so h i scoped place) m (Var m)) (sym last) ∙ e) in
-        get_last so.instrs (renamed_instr so.places i) k (sym is) ∙ ap Some (sym (last_named before so h i scoped place) ∙ ap (renamed_instr (new before so h i scoped place)) same));
+        slice_get-append_last so.instrs (renamed_instr so.places i) k (sym is) ∙ ap Some (sym (last_named before so h i scoped place) ∙ ap (renamed_instr (new before so h i scoped place)) same));
     rising = λ n m k j less low a b e f. either before so h i scoped place m low
         (λ old. old_rising before so h i scoped place n m k j less old a b e f)
         (λ last.
@@ -188,7 +189,7 @@ module _ (alive : ℕ → Bool) where
       (all_kept (before ++ i ∷ []) (dropping alive keeping so (renamed_instr so.places i)) is (one_kept (alive (length so.places)) refl) (subst IsScoped (sym (append_assoc before (i ∷ []) is)) scoped))
     where
       front : IsScoped (before ++ i ∷ [])
-      front n instr at m u = subst IsScoped (sym (append_assoc before (i ∷ []) is)) scoped n instr (get_more (before ++ i ∷ []) is n instr at) m u
+      front n instr at m u = subst IsScoped (sym (append_assoc before (i ∷ []) is)) scoped n instr (slice_get-append_found (before ++ i ∷ []) is n instr at) m u
 
       one_kept : (b : Bool) → alive (length so.places) ≡ b → Kept (before ++ i ∷ []) (cond b (keeping so (renamed_instr so.places i)) (replaced so (Const Nil)))
       one_kept true e = kept_alive before so h i front (ap alive (sym h.long) ∙ e)

@@ -5,6 +5,7 @@ use Rattle.std.specs.Option.{option_map, option_and_then}
 use Rattle.std.specs.Cmp.{first_so, second_so}
 use Rattle.std.proofs.lemmas.Option.{same_Some}
 use Rattle.std.proofs.lemmas.Bool.{and_from}
+use Rattle.cell_core.proofs.ListLemmas.{both_found, both_from}
 use Rattle.cell_core.specs.declared.cell.Cell.TheVariants.{Text}
 use Rattle.cell_core.specs.declared.cell.Kind.{Kind}
 use Rattle.cell_core.specs.declared.cell.Kind.TheVariants as kind
@@ -16,13 +17,12 @@ use Rattle.cell_core.specs.declared.operator.Instr.{Instr}
 use Rattle.cell_core.specs.declared.operator.Value.{Value}
 use Rattle.cell_core.specs.declared.operator.Value.TheVariants.{Bat, One}
 use Rattle.cell_core.specs.declared.table.Db.{Db}
-use Rattle.cell_core.specs.Forms.{argument_count}
+use Rattle.cell_core.specs.Forms.{argument_count, may_overflow}
 use Rattle.cell_core.specs.Kinds.{ValueType, OneOf, BatOf, kind_of, named_kind, bind_type, result_type}
 use Rattle.mal_meaning.specs.Meaning.{bind_value, value_over}
 use Rattle.mal_check.specs.Checked.{type_over}
-use Rattle.mal_check.specs.Pointwise.{may_overflow}
 use Rattle.mal_emit.specs.Machines.{over, typing, counted_type, arg_in, args_in, result, ran}
-use Rattle.mal_opt.proofs.Runs.{both_found, both_from, was_given, first_ran, result_from}
+use Rattle.mal_opt.proofs.Runs.{was_given, first_ran, result_from}
 use Rattle.mal_opt.proofs.Shapes.{has_shape, are_shaped, result_shaped, made}
 
 pub shaped_snoc : (vs : List Value) (ts : List ValueType) (v : Value) (t : ValueType) → are_shaped vs ts ≡ true → has_shape v t ≡ true → are_shaped (vs ++ v ∷ []) (ts ++ t ∷ []) ≡ true
@@ -100,7 +100,7 @@ module _ (db : Db) where
 
   -- ## A run
 
-  -- the first instruction without a value, and what stands before it
+  -- the first instruction without a value, and those before it
   pub record Fails (vs : List Value) (is : List Instr) : Type 0 where
     pub before : List Instr
     pub instr : Instr

@@ -1,4 +1,4 @@
--- Finer types: a kind that is that of Nil in place of any. An operator takes finer types as well, and gives a finer one.
+-- Finer types: a kind that is that of Nil in place of any. An operator takes finer types as well, and returns a finer one.
 use Rattle.std.proofs.Common.{◌≡◌, ◌+◌, ℕ, suc, zero, List, [], ◌∷◌, ◌++◌, length, map, Bool, true, false, cond, Option, Some, None, refl, ap, sym, ◌∙◌, subst}
 use Rattle.std.specs.Prelude.{◌&&◌, ◌||◌, ◌==◌, slice_get}
 use Rattle.std.specs.Bool.{then_some}
@@ -110,7 +110,7 @@ or_finer (Some a) (Some a') b b' e f h = e
 
 -- ## Operators
 
--- what a finer list of types gives
+-- the result for a finer list of types
 abbrev Gives : (List ValueType → Option ValueType) → List ValueType → ValueType → Type 0
 Gives f types r = (s : ValueType) × (f types ≡ Some s) × IsFiner s r
 

@@ -1,4 +1,4 @@
--- What a pass makes follows what it was given: behind the instructions that stay, each place has what the result has for which it stands.
+-- The result of a pass follows the given plan: after the instructions that stay, each place has the value of the result that it replaces.
 use Rattle.std.proofs.Common.{◌≡◌, ◌+◌, ℕ, suc, zero, List, [], ◌∷◌, ◌++◌, length, map, Bool, true, false, cond, Option, Some, None, refl, ap, sym, ◌∙◌, subst, append-nil, append_assoc, arith}
 use Rattle.std.specs.Prelude.{slice_get, get_or, position, ◌<◌, ◌||◌}
 use Rattle.std.specs.Option.{option_map, option_map_or, option_and_then}
@@ -6,6 +6,7 @@ use Rattle.std.proofs.lemmas.Option.{same_Some, slice_get_within}
 use Rattle.std.proofs.lemmas.List.{get_or_append_left}
 use Rattle.std.proofs.Math.Seq.{get_or-append_seam}
 use Rattle.std.proofs.lemmas.Bool.Decides.{Decides-eqb}
+use Rattle.cell_core.proofs.ListLemmas.{both_found, both_from, slice_get-append_found, slice_get-append_last}
 use Rattle.cell_core.specs.declared.cell.Cell.{Cell}
 use Rattle.cell_core.specs.declared.cell.Cell.TheVariants.{Nil}
 use Rattle.cell_core.specs.declared.operator.Op.{Op}
@@ -17,7 +18,7 @@ use Rattle.mal_emit.specs.Emitters.{Grown, grown_twice}
 use Rattle.mal_emit.specs.Machines.{Machine, arg_in, args_in, result, ran}
 use Rattle.mal_opt.specs.Live.{is_result, uses}
 use Rattle.mal_opt.specs.Passes.{Passed, Step, renamed, renamed_instr, keeping, replaced, constant_value, folding, sharing, dropping, passed, behind}
-use Rattle.mal_opt.proofs.Runs.{both_found, both_from, was_given, get_more, get_last, get_either, position_is, arg_more, args_more, result_from, result_more, ran_one_more, first_ran, ran_long, ran_at, with_none, long_snoc}
+use Rattle.mal_opt.proofs.Runs.{was_given, get_either, position_is, arg_more, args_more, result_from, result_more, ran_one_more, first_ran, ran_long, ran_at, with_none, long_snoc}
 
 -- ## Steps add instructions at the end
 
@@ -65,7 +66,7 @@ false_true e = cc
 -- ## Machines
 
 module _ {V : Type 0} (m : Machine V) (R : V → V → Type 0) (itself : (v : V) → R v v) (along : (u v w : V) → R u v → R v w → R u w) where
-  -- where one more instruction gives w behind what stays, what stands in its place has that
+  -- where one more instruction has the value w after those that stay, its replacement has that value
   pub record Lands (ws : List V) (w : V) (so after : Passed) : Type 0 where
     pub more : List V
     pub done : ran m [] after.instrs ≡ Some (ws ++ more)
@@ -85,7 +86,7 @@ module _ {V : Type 0} (m : Machine V) (R : V → V → Type 0) (itself : (v : V)
     place = Var (length so.instrs);
     placed = refl;
     value = w;
-    known = get_last ws w (length so.instrs) (sym (ran_long m so.instrs ws e));
+    known = slice_get-append_last ws w (length so.instrs) (sym (ran_long m so.instrs ws e));
     fits = itself w;
   }
 
@@ -108,7 +109,7 @@ module _ {V : Type 0} (m : Machine V) (R : V → V → Type 0) (itself : (v : V)
       by_value None g = h so ws w instr e f
       by_value (Some cell) g = replaced_lands so ws w (m.constant cell) (Const cell) e refl (folds ws instr cell w g f)
 
-  -- an equal instruction that stays gives the same
+  -- an equal instruction that stays has the same value
   pub equal_gives : (instrs : List Instr) (ws : List V) (instr : Instr) (n : ℕ) → ran m [] instrs ≡ Some ws → position (same_instr instr) instrs ≡ Some n
       → (v : V) × (slice_get ws n ≡ Some v) × (result m ws instr ≡ Some v)
   equal_gives instrs ws instr n e g =
@@ -202,7 +203,7 @@ module _ {V : Type 0} (m : Machine V) (R : V → V → Type 0) (itself : (v : V)
 
   -- ## Passes
 
-  -- an operator gives of finer arguments, renamed, something finer
+  -- an operator on finer arguments, renamed, has a finer result
   abbrev pub IsMonotone : Type 0
   IsMonotone = (operator : Op) (args : List Arg) (places : List Arg) (are those : List V) (v : V) → AreFine those are → m.apply operator args are ≡ Some v
       → (w : V) × (m.apply operator (map (renamed places) args) those ≡ Some w) × R w v

@@ -42,7 +42,7 @@ or_split false b e f g = g e
 false_true : false ≡ true → ⊥
 false_true e = cc
 
--- what uses a result uses what stands for it
+-- what uses a result uses its replacement
 arg_mapped : (places : List Arg) (n k : ℕ) → get_or places n (Var n) ≡ Var k → (arg : Arg) → is_result n arg ≡ true → is_result k (renamed places arg) ≡ true
 arg_mapped places n k e (Const cell) u = absurd (false_true u)
 arg_mapped places n k e (Var m) u = ap (is_result k) (ap (λ j. get_or places j (Var j)) (sym ((Decides-eqb n m).0 u)) ∙ e) ∙ (Decides-eqb k k).1 refl

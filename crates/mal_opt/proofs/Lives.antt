@@ -4,11 +4,11 @@ use Rattle.std.specs.Prelude.{◌||◌, ◌&&◌, get_or, slice_get}
 use Rattle.std.specs.Option.{option_map_or}
 use Rattle.std.proofs.lemmas.Bool.{and_parts, and_from}
 use Rattle.std.proofs.lemmas.Option.{same_Some, slice_get_within}
+use Rattle.cell_core.specs.Forms.{may_overflow}
 use Rattle.cell_core.specs.declared.operator.Instr.{Instr}
 use Rattle.cell_core.specs.declared.operator.Arg.{Arg}
 use Rattle.mal_meaning.specs.declared.plan.Out.{Out}
 use Rattle.mal_meaning.specs.declared.plan.Plan.{Plan}
-use Rattle.mal_check.specs.Pointwise.{may_overflow}
 use Rattle.mal_opt.specs.Live.{uses, is_shown, is_used, alive_from, is_alive, Leads, Shown, Overflows, Over}
 use Rattle.mal_opt.proofs.Runs.{with_none}
 
@@ -92,7 +92,7 @@ module _ (plan : Plan) where
   zero_plus : (n : ℕ) → 0 + n ≡ n
   zero_plus n = omega arith
 
-  -- with as many steps as there are instructions behind it
+  -- with as many steps as there are instructions after it
   leads_within : (fuel n : ℕ) → length plan.instrs - n ≤ fuel → is_alive plan n ≡ true → Leads plan n
   leads_within zero n most a =
       why_alive plan.out 0 plan.instrs n a (λ x at e. Overflows n x at e) (λ low s. Shown n low (ap (λ k. is_shown k plan.out) (sym (zero_plus n)) ∙ s))

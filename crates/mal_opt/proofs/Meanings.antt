@@ -5,6 +5,8 @@ use Rattle.std.specs.List.{list_all}
 use Rattle.std.specs.Option.{option_map, option_map_or, option_and_then}
 use Rattle.std.specs.Cmp.{first_so, second_so}
 use Rattle.std.proofs.lemmas.Option.{same_Some, slice_get_within, slice_get-get_or, get_or_from_slice_get, slice_get-map}
+use Rattle.cell_core.specs.Forms.{may_overflow}
+use Rattle.cell_core.proofs.ListLemmas.{both_found, both_from, slice_get-append_found, slice_get-append_middle}
 use Rattle.cell_core.specs.declared.cell.Cell.{Cell}
 use Rattle.cell_core.specs.declared.cell.Cell.TheVariants.{Nil}
 use Rattle.cell_core.specs.declared.operator.Op.{Op}
@@ -25,14 +27,13 @@ use Rattle.mal_meaning.specs.Meaning.{arg_value, arg_values, value_over, instr_v
 use Rattle.mal_meaning.specs.Output.{value_in, is_yes, is_shown as is_row_shown, unordered, arranged, output_rows}
 use Rattle.mal_meaning.specs.Runs.{run_from, rows_of_run}
 use Rattle.mal_check.specs.Checked.{is_known, passes, plan_fault}
-use Rattle.mal_check.specs.Pointwise.{may_overflow}
 use Rattle.mal_emit.specs.Emitters.{Grown}
 use Rattle.mal_emit.specs.Machines.{Machine, over, typing, arg_in, args_in, result, ran}
 use Rattle.mal_emit.proofs.MachineLemmas.{none_after}
 use Rattle.mal_emit.proofs.PlanLemmas.{ran_is}
 use Rattle.mal_opt.specs.Live.{is_result, uses, is_shown}
 use Rattle.mal_opt.specs.Passes.{Passed, Step, renamed, renamed_instr, renamed_out, keeping, replaced, as_cell, constant_value, folding, sharing, dropping, passed, nothing, plan_of, through}
-use Rattle.mal_opt.proofs.Runs.{both_found, both_from, was_given, get_more, get_front, ran_no_more, ran_long, result_from}
+use Rattle.mal_opt.proofs.Runs.{was_given, ran_no_more, ran_long, result_from}
 use Rattle.mal_opt.proofs.ConstantLemmas.{no_value}
 use Rattle.mal_opt.proofs.Checks.{IsFine, IsTyped, typed_from}
 use Rattle.mal_opt.proofs.Faults.{Fails, first_fault}
@@ -208,8 +209,8 @@ module _ (db : Db) where
     none_kept e =
         let f = first_fault db [] [] plan.instrs typed.types refl typed.ran_types e in
         let so : Passed = passed walk nothing f.before in
-        let there : (j : ℕ) (instr : Instr) → slice_get f.before j ≡ Some instr → slice_get plan.instrs j ≡ Some instr = λ j instr at. ap (λ is. slice_get is j) f.is_all ∙ get_more f.before (f.instr ∷ f.after) j instr at in
-        let at : slice_get plan.instrs (length f.before) ≡ Some f.instr = ap (λ is. slice_get is (length f.before)) f.is_all ∙ get_front f.before f.instr f.after in
+        let there : (j : ℕ) (instr : Instr) → slice_get f.before j ≡ Some instr → slice_get plan.instrs j ≡ Some instr = λ j instr at. ap (λ is. slice_get is j) f.is_all ∙ slice_get-append_found f.before (f.instr ∷ f.after) j instr at in
+        let at : slice_get plan.instrs (length f.before) ≡ Some f.instr = ap (λ is. slice_get is (length f.before)) f.is_all ∙ slice_get-append_middle f.before f.instr f.after in
         let h = all_follow (over db) Same itself along monotone alive step keeps.sound [] nothing (starts (over db) Same itself along alive) f.before f.found f.done (λ j instr e b. closed.used j instr (there j instr e) (ap alive (sym (from_none j)) ∙ b)) in
         let live : alive (length f.before) ≡ true = closed.faulting (length f.before) f.instr at f.overflows in
         let those = args_follow (over db) Same itself along alive f.found so h f.instr.args f.args f.given (closed.used (length f.before) f.instr at live) in

@@ -15,19 +15,14 @@ use Rattle.mal_opt.specs.Passes.{Passed, Step, behind, keeping, replaced, sharin
 pub one_passed : (step : Step) (so after all : Passed) (instr : Instr) (more : List Instr) → step so (renamed_instr so.places instr) ≡ after → passed step so (instr ∷ more) ≡ all → passed step after more ≡ all
 one_passed step so after all instr more e h = sym (ap (λ s. passed step s more) e) ∙ h
 
--- a list of one and others
-pub first_and_rest : {X : Type 0} (xs : List X) (x : X) → 1 ≤ length xs → x ≡ get_or xs 0 x → xs ≡ x ∷ take (length xs - 1) (drop 1 xs)
-first_and_rest [] x low e = absurd (omega (arith, low))
-first_and_rest (y ∷ ys) x low e = ap (λ z. z ∷ ys) (sym e) ∙ ap (λ zs. x ∷ zs) (sym (take_all (length (y ∷ ys) - 1) ys (omega arith)))
-
--- a pass behind one more instruction
+-- a pass after one more instruction
 pub pass_on : (step : Step) (instrs after rest more : List Instr) (places places' : List Arg) (item named : Instr) (place : Arg) (all : Passed)
     → rest ≡ item ∷ more → named ≡ renamed_instr places item → step (behind instrs places) named ≡ behind after (places ++ place ∷ []) → places' ≡ places ++ place ∷ []
     → passed step (behind instrs places) rest ≡ all → passed step (behind after places') more ≡ all
 pass_on step instrs after rest more places places' item named place all split is made pushed e =
     ap (λ ps. passed step (behind after ps) more) pushed ∙ sym (ap (λ s. passed step s more) (sym (ap (step (behind instrs places)) is) ∙ made)) ∙ sym (ap (passed step (behind instrs places)) split) ∙ e
 
--- the set has a member that passes, or the place is behind all
+-- the set has a member that passes, or the place is after all
 module _ {X : Type 0} (test : X → Bool) where
   one_less : (n m : ℕ) → nat_lt (1 + n) (suc m) ≡ nat_lt n m
   one_less n m = same_from_decides _ _ (Decides-ltb (1 + n) (suc m)) (Decides-like _ (λ e. omega (arith, e)) (λ e. omega (arith, e)) (Decides-ltb n m))

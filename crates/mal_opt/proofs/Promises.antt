@@ -6,6 +6,7 @@ use Rattle.std.specs.Option.{option_map_or}
 use Rattle.std.specs.Cmp.{first_so, second_so}
 use Rattle.std.proofs.lemmas.Option.{slice_get_within}
 use Rattle.std.proofs.lemmas.Bool.Decides.{Decides-eqb}
+use Rattle.cell_core.specs.Forms.{may_overflow}
 use Rattle.cell_core.specs.declared.operator.Arg.{Arg}
 use Rattle.cell_core.specs.declared.operator.Arg.TheVariants.{Const, Var}
 use Rattle.cell_core.specs.declared.operator.Instr.{Instr}
@@ -14,7 +15,6 @@ use Rattle.cell_core.specs.Kinds.{ValueType}
 use Rattle.mal_meaning.specs.declared.plan.Out.{Out}
 use Rattle.mal_meaning.specs.declared.plan.Plan.{Plan}
 use Rattle.mal_check.specs.Checked.{is_known, passes, plan_fault}
-use Rattle.mal_check.specs.Pointwise.{may_overflow}
 use Rattle.mal_check.specs.Runnable.{FitsDb}
 use Rattle.mal_emit.specs.Machines.{typing}
 use Rattle.mal_opt.specs.Live.{is_result, uses, is_shown, is_alive, Leads, Shown, Overflows, Over}

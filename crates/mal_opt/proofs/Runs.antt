@@ -1,9 +1,10 @@
--- Machines that run instructions: what stays known, and what a run of all tells of one.
+-- Machines that run instructions: what stays known, and what a run of all says of one.
 use Rattle.std.proofs.Common.{◌≡◌, ◌+◌, ℕ, suc, zero, List, [], ◌∷◌, ◌++◌, length, map, Bool, true, false, cond, Option, Some, None, refl, ap, sym, ◌∙◌, append-nil, append_assoc, arith, ltb-true}
 use Rattle.std.specs.Prelude.{slice_get, position, ◌<◌, not, nat_lt}
 use Rattle.std.specs.List.{position_or_len}
 use Rattle.std.specs.Option.{option_map, option_and_then}
 use Rattle.std.proofs.lemmas.Option.{same_Some}
+use Rattle.cell_core.proofs.ListLemmas.{both_found, both_from, slice_get-append_found, slice_get-append_middle}
 use Rattle.cell_core.specs.declared.operator.Arg.{Arg}
 use Rattle.cell_core.specs.declared.operator.Arg.TheVariants.{Const, Var}
 use Rattle.cell_core.specs.declared.operator.Instr.{Instr}
@@ -11,29 +12,10 @@ use Rattle.mal_emit.specs.Machines.{Machine, arg_in, args_in, result, ran}
 
 -- ## Options and lists
 
--- the parts of a first beside others
-pub both_found : {X : Type 0} (x : Option X) (xs : Option (List X)) (zs : List X) → option_and_then (λ y. option_map (λ ys. y ∷ ys) xs) x ≡ Some zs
-    → (y : X) × (ys : List X) × (x ≡ Some y) × (xs ≡ Some ys) × (y ∷ ys ≡ zs)
-both_found None xs zs e = cc
-both_found (Some y) None zs e = cc
-both_found (Some y) (Some ys) zs e = (y, ys, refl, refl, same_Some (y ∷ ys) zs e)
-
-pub both_from : {X : Type 0} {x : Option X} {xs : Option (List X)} (y : X) (ys : List X) → x ≡ Some y → xs ≡ Some ys → option_and_then (λ y. option_map (λ ys. y ∷ ys) xs) x ≡ Some (y ∷ ys)
-both_from {X} {x} {xs} y ys e f = ap (option_and_then (λ z. option_map (λ zs. z ∷ zs) xs)) e ∙ ap (option_map (λ zs. y ∷ zs)) f
-
 -- what a function that may fail was given
 pub was_given : {X Y : Type 0} (f : X → Option Y) (o : Option X) (y : Y) → option_and_then f o ≡ Some y → (x : X) × (o ≡ Some x) × (f x ≡ Some y)
 was_given f None y e = cc
 was_given f (Some x) y e = (x, refl, e)
-
-pub get_more : {X : Type 0} (xs ys : List X) (n : ℕ) (x : X) → slice_get xs n ≡ Some x → slice_get (xs ++ ys) n ≡ Some x
-get_more [] ys n x e = cc
-get_more (y ∷ xs) ys zero x e = e
-get_more (y ∷ xs) ys (suc n) x e = get_more xs ys n x e
-
-pub get_last : {X : Type 0} (xs : List X) (x : X) (n : ℕ) → n ≡ length xs → slice_get (xs ++ x ∷ []) n ≡ Some x
-get_last [] x n e = ap (slice_get (x ∷ [])) e
-get_last (y ∷ xs) x n e = ap (slice_get (y ∷ xs ++ x ∷ [])) e ∙ get_last xs x (length xs) refl
 
 -- an element of a longer list is one of before, or the last
 pub get_either : {X : Type 0} {P : Type 0} (xs : List X) (y : X) (n : ℕ) (x : X) → slice_get (xs ++ y ∷ []) n ≡ Some x
@@ -42,10 +24,6 @@ get_either [] y zero x e f g = g refl (same_Some y x e)
 get_either [] y (suc n) x e f g = cc
 get_either (z ∷ xs) y zero x e f g = f e
 get_either (z ∷ xs) y (suc n) x e f g = get_either xs y n x e f (λ h k. g (ap suc h) k)
-
-pub get_front : {X : Type 0} (xs : List X) (x : X) (ys : List X) → slice_get (xs ++ x ∷ ys) (length xs) ≡ Some x
-get_front [] x ys = refl
-get_front (y ∷ xs) x ys = get_front xs x ys
 
 pub long_snoc : {X : Type 0} (xs : List X) (x : X) (k : ℕ) → length (xs ++ x ∷ []) + k ≡ length xs + suc k
 long_snoc [] x k = omega arith
@@ -86,7 +64,7 @@ position_is {X} test xs n e = by_case (nat_lt (position_or_len test xs) (length 
 module _ {V : Type 0} (m : Machine V) where
   pub arg_more : (found more : List V) (arg : Arg) (v : V) → arg_in m found arg ≡ Some v → arg_in m (found ++ more) arg ≡ Some v
   arg_more found more (Const cell) v e = e
-  arg_more found more (Var n) v e = get_more found more n v e
+  arg_more found more (Var n) v e = slice_get-append_found found more n v e
 
   pub args_more : (found more : List V) (args : List Arg) (are : List V) → args_in m found args ≡ Some are → args_in m (found ++ more) args ≡ Some are
   args_more found more [] are e = e
@@ -139,7 +117,7 @@ module _ {V : Type 0} (m : Machine V) where
       → (v : V) × (result m found i ≡ Some v) × (ran m (found ++ v ∷ []) is ≡ Some all)
   first_ran found i is all e = was_given (λ v. ran m (found ++ v ∷ []) is) (result m found i) all e
 
-  -- as many as there are instructions, behind those that were there
+  -- as many as there are instructions, after those found before
   pub ran_grows : (found : List V) (instrs : List Instr) (all : List V) → ran m found instrs ≡ Some all → (new : List V) × (all ≡ found ++ new) × (length new ≡ length instrs)
   ran_grows found [] all e = ([], same_Some all found (sym e) ∙ sym (append-nil found), refl)
   ran_grows found (i ∷ is) all e =
@@ -150,7 +128,7 @@ module _ {V : Type 0} (m : Machine V) where
   pub ran_long : (instrs : List Instr) (all : List V) → ran m [] instrs ≡ Some all → length all ≡ length instrs
   ran_long instrs all e = let r = ran_grows [] instrs all e in ap length r.1 ∙ r.2
 
-  -- what one of the instructions gave
+  -- the result of one of the instructions
   pub ran_at : (found : List V) (instrs : List Instr) (all : List V) (k : ℕ) (instr : Instr) → ran m found instrs ≡ Some all → slice_get instrs k ≡ Some instr
       → (v : V) × (slice_get all (length found + k) ≡ Some v) × (result m all instr ≡ Some v)
   ran_at found [] all k instr e at = cc
@@ -160,7 +138,7 @@ module _ {V : Type 0} (m : Machine V) where
       let whole : all ≡ found ++ first.0 ∷ rest.0 = rest.1 ∙ append_assoc found (first.0 ∷ []) rest.0 in
       let same : i ≡ instr = same_Some i instr at in (
         first.0,
-        ap (slice_get all) (with_none (length found)) ∙ ap (λ vs. slice_get vs (length found)) whole ∙ get_front found first.0 rest.0,
+        ap (slice_get all) (with_none (length found)) ∙ ap (λ vs. slice_get vs (length found)) whole ∙ slice_get-append_middle found first.0 rest.0,
         ap (λ vs. result m vs instr) whole ∙ result_more found (first.0 ∷ rest.0) instr first.0 (ap (result m found) (sym same) ∙ first.1),
       )
   ran_at found (i ∷ is) all (suc k) instr e at =

@@ -3,13 +3,13 @@ use Rattle.std.proofs.Common.{◌≡◌, ◌+◌, ◌≤◌, ◌<◌, ℕ, suc, 
 use Rattle.std.specs.Prelude.{◌||◌, ◌&&◌, get_or, slice_index_or}
 use Rattle.std.proofs.lemmas.List.{reverse-append, get_or_append_left}
 use Rattle.std.proofs.Math.Seq.{get_or-append_seam}
+use Rattle.cell_core.specs.Forms.{may_overflow}
 use Rattle.cell_core.specs.declared.operator.Instr.{Instr}
 use Rattle.mal_meaning.specs.declared.plan.Out.{Out}
-use Rattle.mal_check.specs.Pointwise.{may_overflow}
 use Rattle.mal_opt.specs.Live.{uses, is_shown, is_used, alive_before, alive_from}
 use Rattle.mal_opt.proofs.FlagLemmas.{or_none}
 
--- of the results in front of what is done, those that the output or something alive behind them uses; what is alive, last first
+-- of the results before what is done, those that the output or a live instruction after them uses; the live ones, last first
 pub record IsSettled (out : Out) (instrs : List Instr) (used flags : List Bool) : Type 0 where
   pub short : length used ≤ length instrs
   pub told : reverse flags ≡ alive_from out (length used) (drop (length used) instrs)

@@ -7,6 +7,7 @@ use Rattle.std.specs.Option.{option_map, option_and_then}
 use Rattle.std.specs.Cmp.{first_so, second_so}
 use Rattle.std.specs.Ordering.{is_eq, is_ne, is_lt, is_le, is_gt, is_ge}
 use Rattle.std.proofs.lemmas.Option.{same_Some}
+use Rattle.cell_core.proofs.ListLemmas.{both_found, both_from}
 use Rattle.cell_core.specs.declared.cell.Cell.{Cell}
 use Rattle.cell_core.specs.declared.cell.Cell.TheVariants.{Text}
 use Rattle.cell_core.specs.declared.cell.Kind.{Kind}
@@ -19,16 +20,15 @@ use Rattle.cell_core.specs.declared.operator.Instr.{Instr}
 use Rattle.cell_core.specs.declared.operator.Value.{Value}
 use Rattle.cell_core.specs.declared.operator.Value.TheVariants.{Bat, One}
 use Rattle.cell_core.specs.declared.table.Db.{Db}
-use Rattle.cell_core.specs.Forms.{argument_count}
+use Rattle.cell_core.specs.Forms.{argument_count, may_overflow}
 use Rattle.cell_core.specs.Pairs.{Pairs, bats_in, shortest, row_at}
 use Rattle.cell_core.specs.Calc.{comparison, conjunction, disjunction, negation, nil_test, over_two, over_one, all_or_none, first_heads, calculated_at, calculated}
 use Rattle.cell_core.specs.Operators.{of_bat, of_bats, of_bat_and_cell, of_range, operate}
 use Rattle.cell_core.specs.Kinds.{ValueType, OneOf, BatOf, kind_of, named_kind, agrees, from_bat, from_bats, from_bat_and_cell, from_range, from_two, from_one, from_any, both_are, are_comparable, calculated_type, bind_type, result_type}
 use Rattle.mal_meaning.specs.Meaning.{bind_value, value_over}
 use Rattle.mal_check.specs.Checked.{type_over}
-use Rattle.mal_check.specs.Pointwise.{may_overflow}
 use Rattle.mal_emit.specs.Machines.{over, typing, counted_type, arg_in, args_in, result, ran}
-use Rattle.mal_opt.proofs.Runs.{both_found, both_from, was_given, first_ran, result_from}
+use Rattle.mal_opt.proofs.Runs.{was_given, first_ran, result_from}
 
 -- a scalar where the type is that of a scalar, and a BAT where it is that of a BAT
 abbrev pub has_shape : Value → ValueType → Bool

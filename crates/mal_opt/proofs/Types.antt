@@ -6,6 +6,7 @@ use Rattle.std.specs.Option.{option_map, option_map_or, option_and_then}
 use Rattle.std.specs.Cmp.{first_so, second_so}
 use Rattle.std.proofs.lemmas.Option.{same_Some}
 use Rattle.std.proofs.lemmas.Bool.{and_from}
+use Rattle.cell_core.proofs.ListLemmas.{both_found}
 use Rattle.cell_core.specs.declared.cell.Cell.{Cell}
 use Rattle.cell_core.specs.declared.cell.Cell.TheVariants.{Text, Nil}
 use Rattle.cell_core.specs.declared.cell.Kind.TheVariants as kind
@@ -31,7 +32,7 @@ use Rattle.mal_check.proofs.TypedResults.{typed_result}
 use Rattle.mal_emit.specs.Machines.{typing, counted_type, arg_in, args_in, result, ran}
 use Rattle.mal_opt.specs.Live.{is_result, uses, is_shown}
 use Rattle.mal_opt.specs.Passes.{Passed, Step, renamed, renamed_instr, renamed_out, keeping, replaced, constant_value, folding, sharing, dropping, passed, nothing, through}
-use Rattle.mal_opt.proofs.Runs.{both_found, was_given}
+use Rattle.mal_opt.proofs.Runs.{was_given}
 use Rattle.mal_opt.proofs.ConstantLemmas.{no_value}
 use Rattle.mal_opt.proofs.Checks.{IsFine, IsTyped}
 use Rattle.mal_opt.proofs.Finer.{IsFiner, finer, type_itself, type_along, AllFiner, result_finer, cell_finer_kind, finer_cases}

@@ -1,4 +1,4 @@
--- What optimisers promise, in words that don't say how they work.
+-- What optimisers promise, without saying how they work.
 use Rattle.std.specs.Prelude.{◌≡◌, ◌↔◌, ℕ, ◌<◌, length, slice_get, true, Some, None}
 use Rattle.cell_core.specs.declared.operator.Instr.{Instr}
 use Rattle.cell_core.specs.declared.table.Db.{Db}
@@ -8,7 +8,7 @@ use Rattle.mal_check.specs.Runnable.{FitsDb}
 use Rattle.mal_opt.specs.Live.{Leads, is_alive}
 use Rattle.mal_opt.specs.Passes.{constant_value}
 
--- both give the same rows over every database, or both overflow
+-- both have the same rows over every database, or both overflow
 abbrev pub MeanTheSame : Plan → Plan → Type 0
 MeanTheSame plan made = (db : Db) → plan_rows made db ≡ plan_rows plan db
 
@@ -28,6 +28,6 @@ AllDiffer plan = (m n : ℕ) (instr : Instr) → slice_get plan.instrs m ≡ Som
 abbrev pub AllLead : Plan → Type 0
 AllLead plan = (n : ℕ) → n < length plan.instrs → Leads plan n
 
--- alive are exactly the instructions from which a path leads there
+-- the live instructions are exactly those from which a path leads there
 abbrev pub AliveLead : Type 0
 AliveLead = (plan : Plan) (n : ℕ) → (is_alive plan n ≡ true) ↔ Leads plan n

@@ -2,12 +2,12 @@
 use Rattle.std.specs.Prelude.{◌≡◌, ℕ, suc, ◌==◌, ◌<◌, List, [], ◌∷◌, length, get_or, slice_get, Bool, true, false, ◌&&◌, ◌||◌, Some}
 use Rattle.std.specs.List.{list_any}
 use Rattle.std.specs.Option.{option_map_or}
+use Rattle.cell_core.specs.Forms.{may_overflow}
 use Rattle.cell_core.specs.declared.operator.Arg.{Arg}
 use Rattle.cell_core.specs.declared.operator.Arg.TheVariants.{Const, Var}
 use Rattle.cell_core.specs.declared.operator.Instr.{Instr}
 use Rattle.mal_meaning.specs.declared.plan.Out.{Out}
 use Rattle.mal_meaning.specs.declared.plan.Plan.{Plan}
-use Rattle.mal_check.specs.Pointwise.{may_overflow}
 
 -- the argument is the result with this number
 abbrev pub is_result : ℕ → Arg → Bool
@@ -26,7 +26,7 @@ abbrev pub is_used : ℕ → List Instr → List Bool → Bool
 is_used n (instr ∷ instrs) (alive ∷ others) = (alive && uses n instr.args) || is_used n instrs others
 is_used n _ _ = false
 
--- whether the instruction with this number is alive, in front of whether each of those behind it is
+-- whether the instruction with this number is alive, followed by whether each of those after it is
 abbrev pub alive_before : Out → ℕ → Instr → List Instr → List Bool → List Bool
 alive_before out n instr instrs others = (may_overflow instr.op || is_shown n out || is_used n instrs others) ∷ others
 

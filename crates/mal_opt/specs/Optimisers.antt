@@ -11,10 +11,10 @@ fold_constants plan = through (folding keeping) plan
 abbrev pub share_terms : Plan → Plan
 share_terms plan = through (sharing keeping) plan
 
--- each instruction that isn't alive goes
+-- each instruction that isn't alive is dropped
 abbrev pub drop_dead : Plan → Plan
 drop_dead plan = through (dropping (is_alive plan) keeping) plan
 
--- one pass that folds and then shares at each instruction; then the dead ones go
+-- one pass that folds and then shares at each instruction; then the dead ones are dropped
 abbrev pub optimise : Plan → Plan
 optimise plan = drop_dead (through (folding (sharing keeping)) plan)

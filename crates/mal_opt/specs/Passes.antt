@@ -1,4 +1,4 @@
--- A pass over the instructions of a plan, from the front: each is renamed, and then it stays or something stands in its place.
+-- A pass over the instructions of a plan, from the front: each is renamed, and then it stays or is replaced.
 use Rattle.std.specs.Prelude.{ℕ, List, [], ◌∷◌, ◌++◌, length, map, get_or, position, Bool, if◌then◌else◌, Option, Some, None}
 use Rattle.std.specs.Option.{option_map, option_map_or, option_and_then}
 use Rattle.cell_core.specs.declared.cell.Cell.{Cell}
@@ -16,7 +16,7 @@ use Rattle.mal_meaning.specs.Meaning.{arg_values}
 
 -- ## Names
 
--- the argument itself where it is a constant, and what stands in the place of a result
+-- the argument itself where it is a constant, and the replacement of a result
 abbrev pub renamed : List Arg → Arg → Arg
 renamed places (Const cell) = Const cell
 renamed places (Var n) = get_or places n (Var n)
@@ -34,7 +34,7 @@ renamed_out places out = record {
 
 -- ## Steps
 
--- the instructions that stay, and what stands in the place of each result so far
+-- the instructions that stay, and the replacement of each result so far
 pub record Passed : Type 0 where
   pub instrs : List Instr
   pub places : List Arg
@@ -50,7 +50,7 @@ behind instrs places = record { instrs = instrs; places = places }
 abbrev pub keeping : Step
 keeping so instr = behind (so.instrs ++ instr ∷ []) (so.places ++ Var (length so.instrs) ∷ [])
 
--- it goes, and this stands in its place
+-- it is dropped, and this replaces its result
 abbrev pub replaced : Passed → Arg → Passed
 replaced so arg = behind so.instrs (so.places ++ arg ∷ [])
 
@@ -71,7 +71,7 @@ folding otherwise so instr = option_map_or (λ cell. replaced so (Const cell)) (
 abbrev pub sharing : Step → Step
 sharing otherwise so instr = option_map_or (λ n. replaced so (Var n)) (position (same_instr instr) so.instrs) (otherwise so instr)
 
--- an instruction that isn't alive goes, and nothing is asked of its place; instructions are numbered from 0
+-- an instruction that isn't alive is dropped, and its place may be anything; instructions are numbered from 0
 abbrev pub dropping : (ℕ → Bool) → Step → Step
 dropping alive otherwise so instr = if alive (length so.places) then otherwise so instr else replaced so (Const Nil)
 
@@ -84,7 +84,7 @@ passed step so (instr ∷ instrs) = passed step (step so (renamed_instr so.place
 abbrev pub nothing : Passed
 nothing = behind [] []
 
--- the plan that a pass makes of these instructions, and of the output behind them
+-- the plan that a pass makes of these instructions, and of the output after them
 abbrev pub plan_of : Passed → Out → Plan
 plan_of so out = record { instrs = so.instrs; out = renamed_out so.places out }
 

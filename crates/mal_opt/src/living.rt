@@ -1,18 +1,11 @@
 //! Which instructions are alive.
 ghost use Rattle.std.specs.Prelude.{◌≡◌, ◌<◌, ℕ, ◌||◌, ◌&&◌, false, get_or, length, IfOk};
-ghost use Rattle.mal_check.specs.Pointwise as points;
+ghost use Rattle.cell_core.specs.Forms as forms;
 ghost use Rattle.mal_opt.specs.Live.{alive_from, is_result, is_shown, uses};
 
-use cell_core::{Arg, Instr, Memory, Op};
+use cell_core::{Arg, Instr, Memory};
 use mal_meaning::{Out, Plan};
 use std::alloc::Global;
-
-/// Whether an operator may overflow.
-fn may_overflow(op: Op) -> bool
-    ensures { result ≡ points.may_overflow op }
-{
-    matches!(op, Op::Plus | Op::Minus | Op::Times)
-}
 
 /// Notes that the result which an argument names is used.
 fn mark(used: &mut [bool], arg: &Arg)
@@ -39,7 +32,7 @@ fn mark_all(used: &mut [bool], args: &[Arg])
     }
 }
 
-/// Whether each of so many results is used by the output.
+/// Whether each of the first `count` results is used by the output.
 fn shown(alloc: Global, out: &Out, count: usize) -> Result<Vec<bool>, Memory>
     ensures len { IfOk result (λ used. length used.items ≡ count) }
     ensures flags { IfOk result (λ used. (n : ℕ) → n < count → get_or used.items n false ≡ is_shown n out.now) }
@@ -54,19 +47,19 @@ fn shown(alloc: Global, out: &Out, count: usize) -> Result<Vec<bool>, Memory>
 
 /// Whether an instruction is alive; where it is, the results that it uses are used.
 fn settle(used: &mut Vec<bool>, instr: &Instr, is_used: bool) -> bool
-    ensures alive { result ≡ (is_used || points.may_overflow instr.now.op) }
+    ensures alive { result ≡ (is_used || forms.may_overflow instr.now.op) }
     ensures len { length used.new.items ≡ length used.old.items }
     ensures flags { (n : ℕ) → n < length used.old.items → get_or used.new.items n false ≡ ((result && uses n instr.now.args) || get_or used.old.items n false) }
 {
-    if is_used || may_overflow(instr.op) {
+    if is_used || instr.op.may_overflow() {
         mark_all(used, instr.args.as_slice());
         return true;
     }
     false
 }
 
-/// Whether each instruction of a plan is alive, found from the back: it is so where it may overflow,
-/// or where the output or a later one that is alive uses its result.
+/// Whether each instruction of a plan is alive, found from the back: it is alive where it may
+/// overflow, or where the output or a later one that is alive uses its result.
 pub(crate) fn alive(alloc: Global, plan: &Plan) -> Result<Vec<bool>, Memory>
     ensures { IfOk result (λ flags. flags.items ≡ alive_from plan.now.out 0 plan.now.instrs) }
 {

@@ -65,8 +65,8 @@ fn folded_and_shared(alloc: Global, plan: &Plan) -> Result<Plan, Memory>
     Ok(Plan { instrs, out })
 }
 
-/// Keeps an instruction that is alive over what stands for its arguments, and answers what stands in
-/// its place; nothing is asked of the place of one that isn't.
+/// Keeps an instruction that is alive over the replacements of its arguments, and returns the
+/// replacement of its result; that of one that isn't alive may be anything.
 fn keep_alive(
     alloc: Global,
     is_alive: bool,
@@ -122,8 +122,8 @@ pub fn fold_constants(alloc: Global, plan: &Plan) -> Result<Plan, Memory>
     folded(alloc, plan)
 }
 
-/// Puts the first of equal instructions (same operator, same arguments) in place of the others, where
-/// arguments are compared once they are replaced. The plan has to be checked (`check_plan`).
+/// Puts the first of equal instructions (same operator, same arguments) in place of the others;
+/// arguments are compared after their replacement. The plan has to be checked (`check_plan`).
 pub fn share_terms(alloc: Global, plan: &Plan) -> Result<Plan, Memory>
     requires { plan_fault plan.now ≡ None }
     ensures plan { IfOk result (λ made. made ≡ optimisers.share_terms plan.now) }
@@ -135,8 +135,8 @@ pub fn share_terms(alloc: Global, plan: &Plan) -> Result<Plan, Memory>
     shared(alloc, plan)
 }
 
-/// Drops what isn't alive, and so keeps what is shown, what may overflow, and what these are made of.
-/// The plan has to be checked (`check_plan`).
+/// Drops what isn't alive, and so keeps what is shown, what may overflow, and what these use. The
+/// plan has to be checked (`check_plan`).
 pub fn drop_dead(alloc: Global, plan: &Plan) -> Result<Plan, Memory>
     requires { plan_fault plan.now ≡ None }
     ensures plan { IfOk result (λ made. made ≡ optimisers.drop_dead plan.now) }
@@ -148,8 +148,8 @@ pub fn drop_dead(alloc: Global, plan: &Plan) -> Result<Plan, Memory>
     dropped(alloc, plan)
 }
 
-/// Folds and then shares at each instruction, in one pass from the front, and then drops what is dead.
-/// The plan has to be checked (`check_plan`).
+/// Folds and then shares at each instruction, in one pass from the front, and then drops what is
+/// dead. The plan has to be checked (`check_plan`).
 pub fn optimise(alloc: Global, plan: &Plan) -> Result<Plan, Memory>
     requires { plan_fault plan.now ≡ None }
     ensures plan { IfOk result (λ made. made ≡ optimisers.optimise plan.now) }

@@ -1,4 +1,4 @@
-//! What stands in the place of results.
+//! Arguments and outputs whose results are replaced.
 ghost use Rattle.std.specs.Prelude.{◌≡◌, map, IfOk};
 ghost use Rattle.std.specs.Option.{option_map};
 ghost use Rattle.mal_opt.specs.Passes.{renamed, renamed_instr, renamed_out};
@@ -7,7 +7,7 @@ use cell_core::{Arg, Instr, Memory, Sequence};
 use mal_meaning::Out;
 use std::alloc::Global;
 
-/// What stands for an argument, where `places` has what stands for each result so far.
+/// The replacement of an argument, where `places` has that of each result so far.
 fn rename(places: &[Arg], arg: &Arg) -> Result<Arg, Memory>
     ensures { IfOk result (λ named. named ≡ renamed places.now arg.now) }
 {
@@ -31,7 +31,7 @@ fn rename_all(alloc: Global, places: &[Arg], args: &[Arg]) -> Result<Sequence<Ar
     Ok(Sequence::from_vec(named))
 }
 
-/// An instruction over what stands for its arguments.
+/// An instruction over the replacements of its arguments.
 pub(crate) fn rename_instr(alloc: Global, places: &[Arg], instr: &Instr) -> Result<Instr, Memory>
     ensures { IfOk result (λ named. named ≡ renamed_instr places.now instr.now) }
 {
@@ -39,7 +39,7 @@ pub(crate) fn rename_instr(alloc: Global, places: &[Arg], instr: &Instr) -> Resu
     Ok(Instr { op: instr.op, args })
 }
 
-/// What stands for the argument of `keep`, if there is one.
+/// The replacement of the argument of `keep`, if there is one.
 fn rename_keep(places: &[Arg], keep: &Option<Arg>) -> Result<Option<Arg>, Memory>
     ensures { IfOk result (λ named. named ≡ option_map (renamed places.now) keep.now) }
 {
@@ -49,7 +49,7 @@ fn rename_keep(places: &[Arg], keep: &Option<Arg>) -> Result<Option<Arg>, Memory
     })
 }
 
-/// An output over what stands for its arguments.
+/// An output over the replacements of its arguments.
 pub(crate) fn rename_out(alloc: Global, places: &[Arg], out: &Out) -> Result<Out, Memory>
     ensures { IfOk result (λ named. named ≡ renamed_out places.now out.now) }
 {

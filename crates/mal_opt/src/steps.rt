@@ -5,13 +5,13 @@ ghost use Rattle.cell_core.specs.declared.operator.Arg.TheVariants.{Var};
 ghost use Rattle.mal_opt.specs.Passes.{behind, keeping, folding, sharing};
 
 use crate::constant::constant_value;
-use crate::term::Term;
+use crate::term::HashedInstr;
 use cell_core::{Arg, Instr, Memory, Sequence};
 use indexmap::IndexSet;
 use std::alloc::Global;
 
-/// The result of the instruction with this number. A number past 32 bits is want of memory, since no
-/// argument holds it.
+/// The result of the instruction with this number. A number past 32 bits is want of memory, since
+/// no argument holds it.
 fn variable(number: usize) -> Result<Arg, Memory>
     ensures { IfOk result (λ arg. arg ≡ Var number) }
 {
@@ -21,7 +21,7 @@ fn variable(number: usize) -> Result<Arg, Memory>
     }
 }
 
-/// Keeps an instruction, and answers what stands in its place.
+/// Keeps an instruction, and returns the replacement of its result.
 pub(crate) fn keep(instrs: &mut Sequence<Instr>, instr: Instr) -> Result<Arg, Memory>
     ensures { IfOk result (λ place. (places : List ArgSeen) → keeping (behind instrs.old places) instr ≡ behind instrs.new (places ++ place ∷ [])) }
 {
@@ -30,7 +30,7 @@ pub(crate) fn keep(instrs: &mut Sequence<Instr>, instr: Instr) -> Result<Arg, Me
     Ok(place)
 }
 
-/// Folds an instruction, or keeps it, and answers what stands in its place.
+/// Folds an instruction, or keeps it, and returns the replacement of its result.
 pub(crate) fn fold(instrs: &mut Sequence<Instr>, instr: Instr) -> Result<Arg, Memory>
     ensures { IfOk result (λ place. (places : List ArgSeen) → folding keeping (behind instrs.old places) instr ≡ behind instrs.new (places ++ place ∷ [])) }
 {
@@ -40,17 +40,18 @@ pub(crate) fn fold(instrs: &mut Sequence<Instr>, instr: Instr) -> Result<Arg, Me
     }
 }
 
-/// Finds an equal instruction, or keeps this one, and answers what stands in its place.
+/// Finds an equal instruction, or keeps this one, and returns the replacement of its result.
 #[tactic(auto, using(crate::proofs::PassLemmas::shared_is))]
-pub(crate) fn share(terms: &mut IndexSet<Term>, instr: Instr) -> Result<Arg, Memory>
+pub(crate) fn share(terms: &mut IndexSet<HashedInstr>, instr: Instr) -> Result<Arg, Memory>
     ensures { IfOk result (λ place. (places : List ArgSeen) → sharing keeping (behind terms.old.keys places) instr ≡ behind terms.new.keys (places ++ place ∷ [])) }
 {
-    let (number, _) = terms.insert_full(Term::new(instr))?;
+    let (number, _) = terms.insert_full(HashedInstr::new(instr))?;
     variable(number)
 }
 
-/// Folds an instruction, or finds an equal one, or keeps it, and answers what stands in its place.
-pub(crate) fn fold_or_share(terms: &mut IndexSet<Term>, instr: Instr) -> Result<Arg, Memory>
+/// Folds an instruction, or finds an equal one, or keeps it, and returns the replacement of its
+/// result.
+pub(crate) fn fold_or_share(terms: &mut IndexSet<HashedInstr>, instr: Instr) -> Result<Arg, Memory>
     ensures { IfOk result (λ place. (places : List ArgSeen) → folding (sharing keeping) (behind terms.old.keys places) instr ≡ behind terms.new.keys (places ++ place ∷ [])) }
 {
     match constant_value(&instr) {
@@ -60,7 +61,10 @@ pub(crate) fn fold_or_share(terms: &mut IndexSet<Term>, instr: Instr) -> Result<
 }
 
 /// The members of a set, in order.
-pub(crate) fn instrs_of(alloc: Global, terms: IndexSet<Term>) -> Result<Sequence<Instr>, Memory>
+pub(crate) fn instrs_of(
+    alloc: Global,
+    terms: IndexSet<HashedInstr>,
+) -> Result<Sequence<Instr>, Memory>
     ensures { IfOk result (λ instrs. instrs ≡ terms.keys) }
 {
     let mut terms = terms;

@@ -6,13 +6,13 @@ use cell_core::{Arg, Cell, Instr, Op};
 use std::hash::{Hash, Hasher};
 use std::marker::Model;
 
-/// An instruction that stands in a set. Contracts see it as the instruction.
+/// An instruction as a member of a set. Contracts see it as the instruction.
 #[derive(Drop)]
-pub(crate) struct Term {
+pub(crate) struct HashedInstr {
     instr: Instr,
 }
 
-impl Model for Term {
+impl Model for HashedInstr {
     ghost use Rattle.cell_core.specs.declared.operator.Instr.{Instr};
 
     ghost Value = { Instr };
@@ -20,24 +20,23 @@ impl Model for Term {
     ghost view = { λ t. t.instr };
 }
 
-impl Term {
+impl HashedInstr {
     /// The instruction as a member of a set.
-    pub(crate) fn new(instr: Instr) -> Term
+    pub(crate) fn new(instr: Instr) -> HashedInstr
         ensures { result ≡ instr }
     {
-        Term { instr }
+        HashedInstr { instr }
     }
 
-    /// The instruction.
     pub(crate) fn into_instr(self) -> Instr
         ensures { result ≡ self }
     {
-        let Term { instr } = self;
+        let HashedInstr { instr } = self;
         instr
     }
 }
 
-impl PartialEq for Term {
+impl PartialEq for HashedInstr {
     ghost use Rattle.std.specs.Cmp;
     ghost use Rattle.cell_core.specs.SameInstr.{same_instr, same_instr_equivalence};
 
@@ -45,18 +44,18 @@ impl PartialEq for Term {
 
     ghost laws = { Cmp.partial_equiv_from_equiv same_instr_equivalence };
 
-    fn eq(&self, other: &Term) -> bool {
+    fn eq(&self, other: &HashedInstr) -> bool {
         self.instr == other.instr
     }
 }
 
-impl Eq for Term {
+impl Eq for HashedInstr {
     ghost use Rattle.cell_core.specs.SameInstr.{same_instr_equivalence};
 
     ghost laws = { same_instr_equivalence };
 }
 
-impl Hash for Term {
+impl Hash for HashedInstr {
     ghost use Rattle.std.specs.Prelude.{◌++◌};
     ghost use Rattle.std.proofs.Common.{ap};
     ghost use Rattle.cell_core.specs.SameInstr.{same_instr_decides};
@@ -72,7 +71,7 @@ impl Hash for Term {
     }
 }
 
-/// Parts the arguments to a hasher, one after the other.
+/// Feeds the arguments to a hasher, one after the other.
 fn feed_args<H: Hasher>(args: &[Arg], state: &mut H)
     ensures { state.new ≡ fold H.write state.old (fed_args ⟦<Cell as Hash>⟧.hash_input args.now) }
 {
@@ -82,7 +81,6 @@ fn feed_args<H: Hasher>(args: &[Arg], state: &mut H)
     }
 }
 
-/// Parts an argument to a hasher.
 fn feed_arg<H: Hasher>(arg: &Arg, state: &mut H)
     ensures { state.new ≡ fold H.write state.old (fed_arg ⟦<Cell as Hash>⟧.hash_input arg.now) }
 {

@@ -1,19 +1,18 @@
 -- The canonical text of a plan: each instruction and each part of the output has a line, indented by four spaces.
-use Rattle.std.specs.Prelude.{ℕ, ◌+◌, List, [], ◌∷◌, ◌++◌, length, map, flat_map, Bool, true, false, ◌&&◌, if◌then◌else◌, Option, Some, None, codes, decimal, slice_index_or}
+use Rattle.std.specs.Prelude.{ℕ, ◌+◌, List, [], ◌∷◌, ◌++◌, length, map, flat_map, Bool, ◌&&◌, if◌then◌else◌, Option, Some, None, codes, decimal}
 use Rattle.std.specs.Fmt.{signed_decimal}
 use Rattle.std.specs.List.{list_any}
 use Rattle.cell_core.specs.Day.{day_text}
-use Rattle.cell_core.specs.Forms.{form_of}
+pub use Rattle.cell_core.specs.Forms.{is_bat, is_bat_result as instr_gives_bat}
+use Rattle.cell_core.specs.Forms.{is_calc}
 use Rattle.cell_core.specs.declared.cell.Cell.{Cell}
 use Rattle.cell_core.specs.declared.cell.Cell.TheVariants as cell
-use Rattle.cell_core.specs.declared.form.Form.{Form}
-use Rattle.cell_core.specs.declared.form.Form.TheVariants as form
 use Rattle.cell_core.specs.declared.operator.Arg.{Arg}
 use Rattle.cell_core.specs.declared.operator.Arg.TheVariants.{Const, Var}
 use Rattle.cell_core.specs.declared.operator.Instr.{Instr}
 use Rattle.cell_core.specs.declared.operator.Op.{Op}
 use Rattle.mal_meaning.specs.declared.plan.Plan.{Plan}
-use Rattle.mal_tokens.specs.Operators.{function_word, module_word, is_calc}
+use Rattle.mal_tokens.specs.Operators.{function_word, module_word}
 use Rattle.mal_tokens.specs.Tokens.{bit_word, spelled}
 
 -- ## Arguments
@@ -39,7 +38,7 @@ abbrev pub arg_text : Arg → List ℕ
 arg_text (Const c) = constant_text c
 arg_text (Var n) = variable n
 
--- arguments, each behind a comma and a space
+-- arguments, each after a comma and a space
 abbrev pub further_text : List Arg → List ℕ
 further_text args = flat_map (λ more. codes ", " ++ arg_text more) args
 
@@ -54,22 +53,6 @@ ending = codes ");" ++ 10 ∷ []
 
 -- ## Instructions
 
--- the argument is a BAT, where this is known of the results so far
-abbrev pub is_bat : List Bool → Arg → Bool
-is_bat bats (Const c) = false
-is_bat bats (Var n) = slice_index_or bats n false
-
--- an operator of this form gives a BAT: aggregates of all tails give scalars, and functions of cells
--- give a BAT where an argument is one
-abbrev pub gives_bat : Form → Bool → Bool
-gives_bat form.Total taken = false
-gives_bat form.TwoCells taken = taken
-gives_bat form.OneCell taken = taken
-gives_bat other taken = true
-
-abbrev pub instr_gives_bat : List Bool → Instr → Bool
-instr_gives_bat bats instr = gives_bat (form_of instr.op) (list_any (is_bat bats) instr.args)
-
 -- `batcalc` stands for `calc` where an argument is a BAT
 abbrev pub module_of : Bool → Op → List ℕ
 module_of taken operator = if is_calc operator && taken then codes "batcalc" else module_word operator
@@ -78,7 +61,7 @@ module_of taken operator = if is_calc operator && taken then codes "batcalc" els
 abbrev pub start_text : ℕ → List ℕ
 start_text n = codes "    " ++ variable n ++ codes " := "
 
--- the line of the instruction behind those of which this is known
+-- the line of the instruction after those of which this is known
 abbrev pub line_text : List Bool → Instr → List ℕ
 line_text bats instr =
     start_text (length bats) ++ module_of (list_any (is_bat bats) instr.args) instr.op ++ codes "." ++ function_word instr.op ++ codes "(" ++ args_text instr.args ++ ending

@@ -1,8 +1,8 @@
 //! The canonical text of a plan.
 //!
-//! It stands on `mal_tokens` for the words of the operators, on `mal_meaning` for the plan and on
-//! `mal_check` for its faults. It promises that `print_mal` gives exactly the canonical text of a plan
-//! without a fault. Memory running out is the only answer that may come instead.
+//! It uses `mal_tokens` for the words of the operators, `mal_meaning` for the plan and `mal_check`
+//! for its faults. It promises that `print_mal` returns exactly the canonical text of a plan
+//! without a fault. `Memory` is the only other answer.
 #![tactic(auto)]
 
 mod print;

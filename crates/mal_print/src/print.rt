@@ -1,17 +1,17 @@
 ghost use Rattle.std.specs.Prelude.{◌≡◌, ℕ, ◌+◌, ◌^◌, ◌<◌, List, [], ◌∷◌, ◌++◌, Some, None, length, flat_map, decimal, IfOk, OnOk};
 ghost use Rattle.cell_core.specs.declared.operator.Instr.{Instr as InstrSeen};
 ghost use Rattle.std.specs.Fmt.{signed_decimal};
-ghost use Rattle.std.specs.List.{list_any};
 ghost use Rattle.cell_core.specs.Day.{day_text};
 ghost use Rattle.mal_check.specs.Checked.{plan_fault};
+ghost use Rattle.cell_core.specs.Forms.{is_bat_result};
 ghost use Rattle.mal_print.specs.Canon as canon;
 ghost use Rattle.mal_tokens.specs.Tokens.{bit_word, spelled};
 
-use cell_core::{Arg, Cell, Form, Instr, Memory};
+use cell_core::{Arg, Cell, Instr, Memory, takes_bat};
 use cell_text::write_cell;
 use itoa::{Buffer, Integer};
 use mal_meaning::Plan;
-use mal_tokens::{function_word, is_calc, module_word};
+use mal_tokens::{function_word, module_word};
 use std::alloc::Global;
 
 /// The canonical text of a plan without a fault.
@@ -100,7 +100,6 @@ fn write_day(day: i32, out: &mut Vec<u8>) -> Result<(), Memory>
     write_cell(&Cell::Day(day), out)
 }
 
-/// Appends a constant.
 fn write_constant(alloc: Global, cell: &Cell, out: &mut Vec<u8>) -> Result<(), Memory>
     ensures { OnOk result (out.new.items ≡ out.old.items ++ canon.constant_text cell.now) }
 {
@@ -135,7 +134,6 @@ fn write_variable(number: u64, out: &mut Vec<u8>) -> Result<(), Memory>
     write_number(number + 1, out)
 }
 
-/// Appends an argument.
 fn write_arg(alloc: Global, arg: &Arg, out: &mut Vec<u8>) -> Result<(), Memory>
     ensures { OnOk result (out.new.items ≡ out.old.items ++ canon.arg_text arg.now) }
 {
@@ -158,7 +156,7 @@ fn write_args(alloc: Global, args: &[Arg], out: &mut Vec<u8>) -> Result<(), Memo
     }
 }
 
-/// Appends arguments, each behind a comma and a space.
+/// Appends arguments, each after a comma and a space.
 fn write_further(alloc: Global, args: &[Arg], out: &mut Vec<u8>) -> Result<(), Memory>
     ensures { OnOk result (out.new.items ≡ out.old.items ++ canon.further_text args.now) }
 {
@@ -171,42 +169,7 @@ fn write_further(alloc: Global, args: &[Arg], out: &mut Vec<u8>) -> Result<(), M
     Ok(())
 }
 
-/// Whether an argument is a BAT.
-fn is_bat(bats: &[bool], arg: &Arg) -> bool
-    ensures { result ≡ canon.is_bat bats.now arg.now }
-{
-    match arg {
-        Arg::Const(_) => false,
-        Arg::Var(number) => bats.get(*number as usize).copied().unwrap_or(false),
-    }
-}
-
-/// Whether one of the arguments is a BAT.
-fn takes_bat(bats: &[bool], args: &[Arg]) -> bool
-    ensures { result ≡ list_any (canon.is_bat bats.now) args.now }
-{
-    let mut rest = args;
-    'args: while let [arg, more @ ..] = rest {
-        if is_bat(bats, arg) {
-            return true;
-        }
-        rest = more;
-    }
-    false
-}
-
-/// Whether an operator of this form gives a BAT.
-fn gives_bat(form: Form, takes_bat: bool) -> bool
-    ensures { result ≡ canon.gives_bat form takes_bat }
-{
-    match form {
-        Form::Total => false,
-        Form::TwoCells | Form::OneCell => takes_bat,
-        _ => true,
-    }
-}
-
-/// Appends the line of an instruction, and tells whether its result is a BAT.
+/// Appends the line of an instruction, and returns whether its result is a BAT.
 fn write_line(
     alloc: Global,
     bats: &[bool],
@@ -214,7 +177,7 @@ fn write_line(
     out: &mut Vec<u8>,
 ) -> Result<bool, Memory>
     ensures text { OnOk result (out.new.items ≡ out.old.items ++ canon.line_text bats.now instr.now) }
-    ensures bat { IfOk result (λ bat. bat ≡ canon.instr_gives_bat bats.now instr.now) }
+    ensures bat { IfOk result (λ bat. bat ≡ is_bat_result bats.now instr.now) }
 {
     let takes_bat = takes_bat(bats, instr.args.as_slice());
     write_start(bats.len(), out)?;
@@ -224,7 +187,7 @@ fn write_line(
     write_bytes(b"(", out)?;
     write_args(alloc, instr.args.as_slice(), out)?;
     write_bytes(b");\n", out)?;
-    Ok(gives_bat(instr.op.form(), takes_bat))
+    Ok(instr.op.form().gives_bat(takes_bat))
 }
 
 /// Appends the variable that the instruction with this number assigns.
@@ -241,7 +204,7 @@ fn write_start(number: usize, out: &mut Vec<u8>) -> Result<(), Memory>
 fn write_module(takes_bat: bool, instr: &Instr, out: &mut Vec<u8>) -> Result<(), Memory>
     ensures { OnOk result (out.new.items ≡ out.old.items ++ canon.module_of takes_bat instr.now.op) }
 {
-    if is_calc(instr.op) && takes_bat {
+    if instr.op.is_calc() && takes_bat {
         write_bytes(b"batcalc", out)
     } else {
         write_bytes(module_word(instr.op).as_bytes(), out)
@@ -319,7 +282,7 @@ fn write_limit(limit: Option<u64>, out: &mut Vec<u8>) -> Result<(), Memory>
     }
 }
 
-/// Appends a limit to so many rows.
+/// Appends a limit of this many rows.
 fn write_count(number: u64, out: &mut Vec<u8>) -> Result<(), Memory>
     ensures { OnOk result (out.new.items ≡ out.old.items ++ canon.limit_text (Some number)) }
 {

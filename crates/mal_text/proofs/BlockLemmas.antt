@@ -3,12 +3,12 @@ use Rattle.std.proofs.Common.{◌≡◌, ℕ, ◌+◌, ◌<◌, ◌≤◌, arith
 use Rattle.std.specs.Prelude.{bytes_eq, slice_get}
 use Rattle.std.specs.Cmp.Lexicographic.{bytes_decides}
 use Rattle.mal_text.specs.declared.block.Block.{Block}
-use Rattle.mal_text.specs.declared.block.Key.{Key}
+use Rattle.mal_text.specs.declared.block.OrderKey.{OrderKey}
 use Rattle.mal_text.specs.declared.block.Line.{Line}
 use Rattle.mal_text.specs.declared.block.Term.{Term}
 use Rattle.mal_tokens.specs.declared.token.Mark.TheVariants as mark
-use Rattle.mal_tokens.specs.declared.token.Token.{Token}
-use Rattle.mal_tokens.specs.declared.token.Token.TheVariants.{Name, Digits, Text, Mark}
+use Rattle.mal_tokens.specs.declared.token.MalToken.{MalToken}
+use Rattle.mal_tokens.specs.declared.token.MalToken.TheVariants.{Name, Digits, Text, Mark}
 use Rattle.mal_text.specs.Blocks.{write_each, write_term, write_terms, write_closing, write_line, write_call, write_keep, write_key, write_limit, write_output, write_named, write_void, write_out, write_block}
 use Rattle.text_bytes.specs.Found.{then_read}
 use Rattle.mal_tokens.specs.Tokens.{bit_word}
@@ -19,10 +19,10 @@ use Rattle.mal_text.proofs.TermLemmas.{term_found, terms_found, term_told, terms
 
 -- ## Instructions
 
-abbrev write_path : List ℕ × List ℕ → List Token → List Token
+abbrev write_path : List ℕ × List ℕ → List MalToken → List MalToken
 write_path p rest = Name p.0 ∷ Mark mark.Dot ∷ Name p.1 ∷ Mark mark.Open ∷ rest
 
-path_found : (ts : List Token) (p : List ℕ × List ℕ) (rest : List Token) → path ts ≡ Some (p, rest) → write_path p rest ≡ ts
+path_found : (ts : List MalToken) (p : List ℕ × List ℕ) (rest : List MalToken) → path ts ≡ Some (p, rest) → write_path p rest ≡ ts
 unfolding path
 path_found ts p rest h =
     let (home, one, h1) = then_found (name ts) _ (p, rest) h in
@@ -35,7 +35,7 @@ path_found ts p rest h =
     ∙ ap (λ r. Name home.0 ∷ r) (skip_mark_found mark.Dot home.1 a two)
     ∙ name_found ts home.0 home.1 one)
 
-path_told : (p : List ℕ × List ℕ) (rest : List Token) → path (write_path p rest) ≡ Some (p, rest)
+path_told : (p : List ℕ × List ℕ) (rest : List MalToken) → path (write_path p rest) ≡ Some (p, rest)
 unfolding path
 path_told p rest =
     then_told _ _ _ (Some (p, rest)) (name_told p.0 _)
@@ -43,7 +43,7 @@ path_told p rest =
     (then_told _ _ _ (Some (p, rest)) (name_told p.1 _)
     (then_told _ _ _ (Some (p, rest)) (skip_mark_told mark.Open rest) refl)))
 
-line_found : (ts : List Token) (l : Line) (rest : List Token) → line ts ≡ Some (l, rest) → write_line l rest ≡ ts
+line_found : (ts : List MalToken) (l : Line) (rest : List MalToken) → line ts ≡ Some (l, rest) → write_line l rest ≡ ts
 unfolding line
 line_found ts l rest h =
     let (variable, one, h1) = then_found (name ts) _ (l, rest) h in
@@ -59,7 +59,7 @@ line_found ts l rest h =
     ∙ ap (λ r. Name variable.0 ∷ r) (skip_mark_found mark.Assign variable.1 a two)
     ∙ name_found ts variable.0 variable.1 one)
 
-line_told : (l : Line) (rest : List Token) → line (write_line l rest) ≡ Some (l, rest)
+line_told : (l : Line) (rest : List MalToken) → line (write_line l rest) ≡ Some (l, rest)
 unfolding line
 line_told l rest =
     then_told _ _ _ (Some (l, rest)) (name_told l.name _)
@@ -81,10 +81,10 @@ bit_found word b h = at_true (bytes_eq word (codes "true")) refl h
     at_true true e h = let same : true ≡ b = value_found true b h in ap bit_word (sym same) ∙ sym ((bytes_decides word (codes "true")).0 e)
     at_true false e h = at_false (bytes_eq word (codes "false")) refl h
 
-abbrev write_bit : Bool → List Token → List Token
+abbrev write_bit : Bool → List MalToken → List MalToken
 write_bit b rest = Name (bit_word b) ∷ rest
 
-bit_is_found : (ts : List Token) (b : Bool) (rest : List Token) → bit ts ≡ Some (b, rest) → Name (bit_word b) ∷ rest ≡ ts
+bit_is_found : (ts : List MalToken) (b : Bool) (rest : List MalToken) → bit ts ≡ Some (b, rest) → Name (bit_word b) ∷ rest ≡ ts
 unfolding bit
 bit_is_found ts b rest h =
     let (word, one, h1) = then_found (name ts) _ (b, rest) h in
@@ -92,12 +92,12 @@ bit_is_found ts b rest h =
     moved write_bit found b word.1 rest ts last
     (ap (λ w. Name w ∷ word.1) (bit_found word.0 found two) ∙ name_found ts word.0 word.1 one)
 
-bit_told : (b : Bool) (rest : List Token) → bit (Name (bit_word b) ∷ rest) ≡ Some (b, rest)
+bit_told : (b : Bool) (rest : List MalToken) → bit (Name (bit_word b) ∷ rest) ≡ Some (b, rest)
 unfolding bit
 bit_told true rest = then_told _ _ _ (Some (true, rest)) (name_told (codes "true") rest) refl
 bit_told false rest = then_told _ _ _ (Some (false, rest)) (name_told (codes "false") rest) refl
 
-key_found : (ts : List Token) (k : Key) (rest : List Token) → key ts ≡ Some (k, rest) → write_key k rest ≡ ts
+key_found : (ts : List MalToken) (k : OrderKey) (rest : List MalToken) → key ts ≡ Some (k, rest) → write_key k rest ≡ ts
 unfolding key
 key_found ts k rest h =
     let (a, one, h1) = then_found (opening (codes "order") ts) _ (k, rest) h in
@@ -105,7 +105,7 @@ key_found ts k rest h =
     let (b, three, h3) = then_found (skip_mark mark.Comma place.1) _ (k, rest) h2 in
     let (ascending, four, h4) = then_found (bit b) _ (k, rest) h3 in
     let (c, five, last) = then_found (closing ascending.1) _ (k, rest) h4 in
-    let made : Key = record { place = place.0; ascending = ascending.0 } in
+    let made : OrderKey = record { place = place.0; ascending = ascending.0 } in
     moved write_key made k c rest ts last
     (ap (λ r. write_call (codes "order") (Digits place.0 ∷ Mark mark.Comma ∷ Name (bit_word ascending.0) ∷ r)) (closing_found ascending.1 c five)
     ∙ ap (λ r. write_call (codes "order") (Digits place.0 ∷ Mark mark.Comma ∷ r)) (bit_is_found b ascending.0 ascending.1 four)
@@ -113,7 +113,7 @@ key_found ts k rest h =
     ∙ ap (λ r. write_call (codes "order") r) (digits_found a place.0 place.1 two)
     ∙ opening_found (codes "order") ts a one)
 
-key_told : (k : Key) (rest : List Token) → key (write_key k rest) ≡ Some (k, rest)
+key_told : (k : OrderKey) (rest : List MalToken) → key (write_key k rest) ≡ Some (k, rest)
 unfolding key
 key_told k rest =
     then_told _ _ _ (Some (k, rest)) (opening_told (codes "order") _)
@@ -124,7 +124,7 @@ key_told k rest =
 
 -- ## The frame
 
-named_found : (word : List ℕ) (ts : List Token) (found : List ℕ) (rest : List Token) → named word ts ≡ Some (found, rest) → write_named word found rest ≡ ts
+named_found : (word : List ℕ) (ts : List MalToken) (found : List ℕ) (rest : List MalToken) → named word ts ≡ Some (found, rest) → write_named word found rest ≡ ts
 unfolding named
 named_found word ts found rest h =
     let (a, one, h1) = then_found (skip_word word ts) _ (found, rest) h in
@@ -135,14 +135,14 @@ named_found word ts found rest h =
     ∙ ap (λ r. Name word ∷ r) (skip_word_found (codes "user") a b two)
     ∙ skip_word_found word ts a one
 
-named_told : (word found : List ℕ) (rest : List Token) → named word (write_named word found rest) ≡ Some (found, rest)
+named_told : (word found : List ℕ) (rest : List MalToken) → named word (write_named word found rest) ≡ Some (found, rest)
 unfolding named
 named_told word found rest =
     then_told _ _ _ (Some (found, rest)) (skip_word_told word _)
     (then_told _ _ _ (Some (found, rest)) (skip_word_told (codes "user") _)
     (then_told _ _ _ (Some (found, rest)) (skip_mark_told mark.Dot _) (name_told found rest)))
 
-void_found : (ts rest : List Token) → void ts ≡ Some rest → write_void rest ≡ ts
+void_found : (ts rest : List MalToken) → void ts ≡ Some rest → write_void rest ≡ ts
 unfolding void
 void_found ts rest h =
     let (a, one, h1) = then_found (skip_mark mark.Open ts) _ rest h in
@@ -155,7 +155,7 @@ void_found ts rest h =
     ∙ ap (λ r. Mark mark.Open ∷ r) (skip_mark_found mark.Close a b two)
     ∙ skip_mark_found mark.Open ts a one
 
-void_told : (rest : List Token) → void (write_void rest) ≡ Some rest
+void_told : (rest : List MalToken) → void (write_void rest) ≡ Some rest
 unfolding void
 void_told rest =
     then_told _ _ _ (Some rest) (skip_mark_told mark.Open _)
@@ -163,7 +163,7 @@ void_told rest =
     (then_told _ _ _ (Some rest) (skip_mark_told mark.Colon _)
     (then_told _ _ _ (Some rest) (skip_word_told (codes "void") _) (skip_mark_told mark.Semicolon rest))))
 
-header_found : (ts : List Token) (found : List ℕ) (rest : List Token) → header ts ≡ Some (found, rest) → write_named (codes "function") found (write_void rest) ≡ ts
+header_found : (ts : List MalToken) (found : List ℕ) (rest : List MalToken) → header ts ≡ Some (found, rest) → write_named (codes "function") found (write_void rest) ≡ ts
 unfolding header
 header_found ts found rest h =
     let (first, one, h1) = then_found (named (codes "function") ts) _ (found, rest) h in
@@ -171,20 +171,20 @@ header_found ts found rest h =
     moved (λ n r. write_named (codes "function") n (write_void r)) first.0 found r rest ts last
     (ap (write_named (codes "function") first.0) (void_found first.1 r two) ∙ named_found (codes "function") ts first.0 first.1 one)
 
-header_told : (found : List ℕ) (rest : List Token) → header (write_named (codes "function") found (write_void rest)) ≡ Some (found, rest)
+header_told : (found : List ℕ) (rest : List MalToken) → header (write_named (codes "function") found (write_void rest)) ≡ Some (found, rest)
 unfolding header
 header_told found rest =
     then_told _ _ _ (Some (found, rest)) (named_told (codes "function") found _)
     (then_told _ _ _ (Some (found, rest)) (void_told rest) refl)
 
-abbrev write_end : List ℕ → List Token
+abbrev write_end : List ℕ → List MalToken
 write_end found = write_named (codes "end") found (Mark mark.Semicolon ∷ [])
 
-nothing_found : (ts rest : List Token) → nothing_left ts ≡ Some rest → ts ≡ []
+nothing_found : (ts rest : List MalToken) → nothing_left ts ≡ Some rest → ts ≡ []
 nothing_found [] rest h = refl
 nothing_found (t ∷ ts) rest h = cc
 
-ending_found : (word : List ℕ) (ts rest : List Token) → ending word ts ≡ Some rest → write_end word ≡ ts
+ending_found : (word : List ℕ) (ts rest : List MalToken) → ending word ts ≡ Some rest → write_end word ≡ ts
 unfolding ending
 ending_found word ts rest h =
     let (found, one, h1) = then_found (named (codes "end") ts) _ rest h in
@@ -204,28 +204,28 @@ ending_told word =
 
 -- ## The parts of an output
 
-keep_found : (ts : List Token) (o : Option Term) (rest : List Token) → optional (codes "keep") term_of ts ≡ Some (o, rest) → write_keep o rest ≡ ts
+keep_found : (ts : List MalToken) (o : Option Term) (rest : List MalToken) → optional (codes "keep") term_of ts ≡ Some (o, rest) → write_keep o rest ≡ ts
 keep_found ts o rest h = at (optional_found (codes "keep") term_of ts o rest h)
   where
     at : Called (codes "keep") term_of ts o rest → write_keep o rest ≡ ts
     at (inl f) = ap (λ o. write_keep o rest) f.0 ∙ f.1
     at (inr f) = ap (λ o. write_keep o rest) f.2 ∙ ap (write_call (codes "keep")) (term_found f.1 f.0 (write_closing rest) f.3) ∙ f.4
 
-limit_found : (ts : List Token) (o : Option (List ℕ)) (rest : List Token) → optional (codes "limit") digits ts ≡ Some (o, rest) → write_limit o rest ≡ ts
+limit_found : (ts : List MalToken) (o : Option (List ℕ)) (rest : List MalToken) → optional (codes "limit") digits ts ≡ Some (o, rest) → write_limit o rest ≡ ts
 limit_found ts o rest h = at (optional_found (codes "limit") digits ts o rest h)
   where
     at : Called (codes "limit") digits ts o rest → write_limit o rest ≡ ts
     at (inl f) = ap (λ o. write_limit o rest) f.0 ∙ f.1
     at (inr f) = ap (λ o. write_limit o rest) f.2 ∙ ap (write_call (codes "limit")) (digits_found f.1 f.0 (write_closing rest) f.3) ∙ f.4
 
-output_found : (ts : List Token) (o : Option (List Term)) (rest : List Token) → optional (codes "output") terms ts ≡ Some (o, rest) → write_output o rest ≡ ts
+output_found : (ts : List MalToken) (o : Option (List Term)) (rest : List MalToken) → optional (codes "output") terms ts ≡ Some (o, rest) → write_output o rest ≡ ts
 output_found ts o rest h = at (optional_found (codes "output") terms ts o rest h)
   where
     at : Called (codes "output") terms ts o rest → write_output o rest ≡ ts
     at (inl f) = ap (λ o. write_output o rest) f.0 ∙ f.1
     at (inr f) = ap (λ o. write_output o rest) f.2 ∙ ap (write_call (codes "output")) (terms_found f.1 f.0 (write_closing rest) f.3) ∙ f.4
 
--- what may stand behind each part
+-- what may follow each part
 module _ (end : List ℕ) where
   no_output : goes_call (codes "output") (write_end end) ≡ false
   unfolding is_word
@@ -242,14 +242,14 @@ module _ (end : List ℕ) where
   no_key None (Some ts) = refl
   no_key (Some n) output = refl
 
-  no_keep : (order : List Key) (limit : Option (List ℕ)) (output : Option (List Term)) → goes_call (codes "keep") (write_each write_key order (write_limit limit (write_output output (write_end end)))) ≡ false
+  no_keep : (order : List OrderKey) (limit : Option (List ℕ)) (output : Option (List Term)) → goes_call (codes "keep") (write_each write_key order (write_limit limit (write_output output (write_end end)))) ≡ false
   unfolding is_word
   no_keep [] None None = refl
   no_keep [] None (Some ts) = refl
   no_keep [] (Some n) output = refl
   no_keep (k ∷ order) limit output = refl
 
-  no_line : (keep : Option Term) (order : List Key) (limit : Option (List ℕ)) (output : Option (List Term)) → goes_line (write_keep keep (write_each write_key order (write_limit limit (write_output output (write_end end))))) ≡ false
+  no_line : (keep : Option Term) (order : List OrderKey) (limit : Option (List ℕ)) (output : Option (List Term)) → goes_line (write_keep keep (write_each write_key order (write_limit limit (write_output output (write_end end))))) ≡ false
   unfolding is_mark
   no_line None [] None None = refl
   no_line None [] None (Some ts) = refl
@@ -257,48 +257,48 @@ module _ (end : List ℕ) where
   no_line None (k ∷ order) limit output = refl
   no_line (Some t) order limit output = refl
 
-keep_told : (o : Option Term) (rest : List Token) → goes_call (codes "keep") rest ≡ false → optional (codes "keep") term_of (write_keep o rest) ≡ Some (o, rest)
+keep_told : (o : Option Term) (rest : List MalToken) → goes_call (codes "keep") rest ≡ false → optional (codes "keep") term_of (write_keep o rest) ≡ Some (o, rest)
 keep_told None rest stop = optional_none (codes "keep") term_of rest stop
 keep_told (Some t) rest stop = optional_some (codes "keep") term_of t (write_term t (write_closing rest)) rest (term_told t (write_closing rest) (close_ends _))
 
-limit_told : (o : Option (List ℕ)) (rest : List Token) → goes_call (codes "limit") rest ≡ false → optional (codes "limit") digits (write_limit o rest) ≡ Some (o, rest)
+limit_told : (o : Option (List ℕ)) (rest : List MalToken) → goes_call (codes "limit") rest ≡ false → optional (codes "limit") digits (write_limit o rest) ≡ Some (o, rest)
 limit_told None rest stop = optional_none (codes "limit") digits rest stop
 limit_told (Some n) rest stop = optional_some (codes "limit") digits n (Digits n ∷ write_closing rest) rest (digits_told n (write_closing rest))
 
-output_told : (o : Option (List Term)) (rest : List Token) → goes_call (codes "output") rest ≡ false → optional (codes "output") terms (write_output o rest) ≡ Some (o, rest)
+output_told : (o : Option (List Term)) (rest : List MalToken) → goes_call (codes "output") rest ≡ false → optional (codes "output") terms (write_output o rest) ≡ Some (o, rest)
 output_told None rest stop = optional_none (codes "output") terms rest stop
 output_told (Some ts) rest stop = optional_some (codes "output") terms ts (write_terms ts (write_closing rest)) rest (terms_told ts _)
 
 -- ## Lists
 
-abbrev Anywhere : List Token → Type 0
+abbrev Anywhere : List MalToken → Type 0
 Anywhere ts = Unit {0}
 
-line_longer : (l : Line) (rest : List Token) → length rest < length (write_line l rest)
+line_longer : (l : Line) (rest : List MalToken) → length rest < length (write_line l rest)
 line_longer l rest = let more = terms_longer l.args (write_closing rest) in omega (arith, more)
 
-key_longer : (k : Key) (rest : List Token) → length rest < length (write_key k rest)
+key_longer : (k : OrderKey) (rest : List MalToken) → length rest < length (write_key k rest)
 key_longer k rest = omega arith
 
-lines_found : (ts : List Token) (ls : List Line) (rest : List Token) → lines ts ≡ Some (ls, rest) → write_each write_line ls rest ≡ ts
+lines_found : (ts : List MalToken) (ls : List Line) (rest : List MalToken) → lines ts ≡ Some (ls, rest) → write_each write_line ls rest ≡ ts
 unfolding lines
 lines_found ts ls rest h =
     let (zs, is, text) = repeated_found goes_line line write_line line_found (length ts) [] ts ls rest h in
     ap (λ l. write_each write_line l rest) is ∙ text
 
-lines_told : (ls : List Line) (rest : List Token) → goes_line rest ≡ false → lines (write_each write_line ls rest) ≡ Some (ls, rest)
+lines_told : (ls : List Line) (rest : List MalToken) → goes_line rest ≡ false → lines (write_each write_line ls rest) ≡ Some (ls, rest)
 unfolding lines
 lines_told ls rest stop =
     let longer = each_longer goes_line line write_line line_longer ls rest in
     repeated_told goes_line line write_line Anywhere (λ x r e. line_told x r) (λ x r. mark_told mark.Assign) (λ x r. tt) ls (length (write_each write_line ls rest)) [] rest tt stop (omega (arith, longer))
 
-keys_found : (ts : List Token) (ks : List Key) (rest : List Token) → keys ts ≡ Some (ks, rest) → write_each write_key ks rest ≡ ts
+keys_found : (ts : List MalToken) (ks : List OrderKey) (rest : List MalToken) → keys ts ≡ Some (ks, rest) → write_each write_key ks rest ≡ ts
 unfolding keys
 keys_found ts ks rest h =
     let (zs, is, text) = repeated_found (goes_call (codes "order")) key write_key key_found (length ts) [] ts ks rest h in
     ap (λ l. write_each write_key l rest) is ∙ text
 
-keys_told : (ks : List Key) (rest : List Token) → goes_call (codes "order") rest ≡ false → keys (write_each write_key ks rest) ≡ Some (ks, rest)
+keys_told : (ks : List OrderKey) (rest : List MalToken) → goes_call (codes "order") rest ≡ false → keys (write_each write_key ks rest) ≡ Some (ks, rest)
 unfolding keys
 keys_told ks rest stop =
     let longer = each_longer (goes_call (codes "order")) key write_key key_longer ks rest in
@@ -306,7 +306,7 @@ keys_told ks rest stop =
 
 -- ## Blocks
 
-pub block_found : (ts : List Token) (b : Block) (rest : List Token) → block ts ≡ Some (b, rest) → write_block b ≡ ts
+pub block_found : (ts : List MalToken) (b : Block) (rest : List MalToken) → block ts ≡ Some (b, rest) → write_block b ≡ ts
 unfolding block
 block_found ts b rest h =
     let (first, one, h1) = then_found (header ts) _ (b, rest) h in
@@ -317,7 +317,7 @@ block_found ts b rest h =
     let (output, six, h6) = then_found (optional (codes "output") terms limit.1) _ (b, rest) h5 in
     let (r, seven, last) = then_found (ending first.0 output.1) _ (b, rest) h6 in
     let made : Block = record { name = first.0; lines = ls.0; keep = keep.0; order = order.0; limit = limit.0; output = output.0 } in
-    let start : List Token → List Token = λ r. write_named (codes "function") first.0 (write_void r) in
+    let start : List MalToken → List MalToken = λ r. write_named (codes "function") first.0 (write_void r) in
     moved (λ b r. write_block b) made b r rest ts last
     (ap (λ r. start (write_each write_line ls.0 (write_keep keep.0 (write_each write_key order.0 (write_limit limit.0 (write_output output.0 r)))))) (ending_found first.0 output.1 r seven)
     ∙ ap (λ r. start (write_each write_line ls.0 (write_keep keep.0 (write_each write_key order.0 (write_limit limit.0 r))))) (output_found limit.1 output.0 output.1 six)

@@ -8,17 +8,17 @@ use Rattle.mal_text.specs.Reader.{Found, block}
 use Rattle.mal_text.specs.Reads.{Derives}
 use Rattle.mal_tokens.specs.Tokens.{AreTokens}
 use Rattle.mal_text.specs.declared.block.Block.{Block}
-use Rattle.mal_tokens.specs.declared.token.Token.{Token}
+use Rattle.mal_tokens.specs.declared.token.MalToken.{MalToken}
 use Rattle.mal_text.proofs.BlockLemmas.{block_found, block_told}
 use Rattle.text_bytes.proofs.FoundLemmas.{value_found, pair_found}
 use Rattle.mal_tokens.proofs.TokensRead.{one_list_of}
 
 -- the block that is read of a text's tokens is written in them
-pub block_read : (text : List ℕ) (ts : List Token) (b : Block) (rest : List Token) → AreTokens text ts → block ts ≡ Some (b, rest) → AreTokens text (write_block b)
+pub block_read : (text : List ℕ) (ts : List MalToken) (b : Block) (rest : List MalToken) → AreTokens text ts → block ts ≡ Some (b, rest) → AreTokens text (write_block b)
 block_read text ts b rest tokens found = subst (AreTokens text) (sym (block_found ts b rest found)) tokens
 
 -- a text from whose tokens no block is read has none
-pub no_block : (text : List ℕ) (ts : List Token) → AreTokens text ts → block ts ≡ None → (b : Block) → AreTokens text (write_block b) → ⊥
+pub no_block : (text : List ℕ) (ts : List MalToken) → AreTokens text ts → block ts ≡ None → (b : Block) → AreTokens text (write_block b) → ⊥
 no_block text ts tokens none b are =
     let same : ts ≡ write_block b = one_list_of text ts (write_block b) tokens are in
     let both : ◌≡◌ {A = Found Block} None (Some (b, [])) = sym none ∙ ap block same ∙ block_told b in

@@ -4,6 +4,6 @@ use Rattle.mal_meaning.specs.declared.plan.Plan.{Plan}
 use Rattle.mal_text.specs.Reads.{Derives}
 use Rattle.mal_text.specs.declared.block.Block.{Block}
 
--- the grammar derives a text from one block at most, which stands for one plan at most
+-- the grammar derives a text from at most one block, which stands for at most one plan
 abbrev pub OneReading : Type 0
 OneReading = (text : List ℕ) (a b : Block) (p q : Plan) → Derives text a p → Derives text b q → (a ≡ b) × (p ≡ q)

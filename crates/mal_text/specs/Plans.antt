@@ -16,7 +16,7 @@ use Rattle.mal_meaning.specs.declared.plan.Plan.{Plan}
 use Rattle.text_bytes.specs.Days.{day_named}
 use Rattle.mal_tokens.specs.Operators.{op_of}
 use Rattle.mal_text.specs.declared.block.Block.{Block}
-use Rattle.mal_text.specs.declared.block.Key.{Key}
+use Rattle.mal_text.specs.declared.block.OrderKey.{OrderKey}
 use Rattle.mal_text.specs.declared.block.Line.{Line}
 use Rattle.mal_text.specs.declared.block.Term.{Term}
 use Rattle.mal_text.specs.declared.block.Term.TheVariants as term
@@ -73,7 +73,7 @@ args_of names terms = all_or_none (map (arg_of names) terms)
 
 -- ## Instructions
 
--- the first function that no operator has, as it is written
+-- the first function that isn't an operator's, as it is written
 abbrev pub unknown_op : List Line → Option (List ℕ)
 unknown_op [] = None
 unknown_op (l ∷ lines) = if is_some (op_of l.of_module l.function) then unknown_op lines else Some (l.of_module ++ 46 ∷ l.function)
@@ -95,11 +95,11 @@ keep_of names None = Some None
 keep_of names (Some t) = option_map Some (arg_of names t)
 
 -- places are written from 1 on, and counted from 0
-abbrev pub key_of : Key → Option (ℕ × Bool)
+abbrev pub key_of : OrderKey → Option (ℕ × Bool)
 key_of k =
     then_some (nat_le 1 (digits_value 10 k.place) && nat_le (digits_value 10 k.place) (2 ^ 32)) (digits_value 10 k.place - 1, k.ascending)
 
-abbrev pub order_of : List Key → Option (List (ℕ × Bool))
+abbrev pub order_of : List OrderKey → Option (List (ℕ × Bool))
 order_of keys = all_or_none (map key_of keys)
 
 abbrev pub limit_of : Option (List ℕ) → Option (Option ℕ)

@@ -1,57 +1,57 @@
--- What the functions that read tokens compute, on plain lists: a definition for each. The public clauses
--- don't speak of these: proofs/ shows that they read exactly what the grammar writes.
+-- What the functions that read tokens compute, on plain lists: a definition for each. No public
+-- clause cites these; proofs/ shows that they read exactly what the grammar writes.
 use Rattle.std.specs.Prelude.{ℕ, zero, suc, List, [], ◌∷◌, ◌++◌, length, Bool, true, false, bytes_eq, codes, if◌then◌else◌, Option, Some, None, slice_get}
 use denote.Enum.Bare.{sameb}
 use Rattle.text_bytes.specs.Found.{then_read}
 use Rattle.mal_tokens.specs.contracts.token.Mark.{the_type as the_marks}
 use Rattle.mal_text.specs.declared.block.Block.{Block}
-use Rattle.mal_text.specs.declared.block.Key.{Key}
+use Rattle.mal_text.specs.declared.block.OrderKey.{OrderKey}
 use Rattle.mal_text.specs.declared.block.Line.{Line}
 use Rattle.mal_text.specs.declared.block.Term.{Term}
 use Rattle.mal_text.specs.declared.block.Term.TheVariants as term
 use Rattle.mal_tokens.specs.declared.token.Mark.{Mark as MarkSeen}
 use Rattle.mal_tokens.specs.declared.token.Mark.TheVariants as mark
-use Rattle.mal_tokens.specs.declared.token.Token.{Token}
-use Rattle.mal_tokens.specs.declared.token.Token.TheVariants.{Name, Digits, Text, Mark}
+use Rattle.mal_tokens.specs.declared.token.MalToken.{MalToken}
+use Rattle.mal_tokens.specs.declared.token.MalToken.TheVariants.{Name, Digits, Text, Mark}
 
--- what a reader finds: a value and the tokens behind it
+-- what a reader finds: a value and the tokens after it
 abbrev pub Found : Type 0 → Type 0
-Found X = Option (X × List Token)
+Found X = Option (X × List MalToken)
 
 abbrev pub Parser : Type 0 → Type 0
-Parser X = List Token → Found X
+Parser X = List MalToken → Found X
 
--- the first of the tokens, and those behind it
-abbrev pub first_token : List Token → Option Token
+-- the first of the tokens, and those after it
+abbrev pub first_token : List MalToken → Option MalToken
 first_token [] = None
 first_token (t ∷ tokens) = Some t
 
-abbrev pub after_first : List Token → List Token
+abbrev pub after_first : List MalToken → List MalToken
 after_first [] = []
 after_first (t ∷ tokens) = tokens
 
 -- ## Tokens
 
-abbrev pub name_in : Option Token → Option (List ℕ)
+abbrev pub name_in : Option MalToken → Option (List ℕ)
 name_in (Some (Name word)) = Some word
 name_in other = None
 
-abbrev pub digits_in : Option Token → Option (List ℕ)
+abbrev pub digits_in : Option MalToken → Option (List ℕ)
 digits_in (Some (Digits digits)) = Some digits
 digits_in other = None
 
 -- the token is the word
-unfoldable pub is_word : List ℕ → Option Token → Bool
+unfoldable pub is_word : List ℕ → Option MalToken → Bool
 is_word word (Some (Name found)) = bytes_eq found word
 is_word word other = false
 
 -- the token is the mark
-unfoldable pub is_mark : MarkSeen → Option Token → Bool
+unfoldable pub is_mark : MarkSeen → Option MalToken → Bool
 is_mark m (Some (Mark found)) = sameb the_marks found m
 is_mark m other = false
 
 -- the digits are a single 0
-unfoldable pub is_zero : Option Token → Bool
+unfoldable pub is_zero : Option MalToken → Bool
 is_zero (Some (Digits digits)) = bytes_eq digits (codes "0")
 is_zero other = false
 
@@ -59,11 +59,11 @@ is_zero other = false
 abbrev pub bit_named : List ℕ → Option Bool
 bit_named word = if bytes_eq word (codes "true") then Some true else (if bytes_eq word (codes "false") then Some false else None)
 
--- ## Parts that have to stand somewhere
+-- ## Required parts
 
--- what has to stand here, and the tokens behind it
+-- what has to come next, and the tokens after it
 abbrev pub Skip : Type 0
-Skip = List Token → Option (List Token)
+Skip = List MalToken → Option (List MalToken)
 
 unfoldable pub skip_word : List ℕ → Skip
 skip_word word tokens = if is_word word (first_token tokens) then Some (after_first tokens) else None
@@ -85,8 +85,8 @@ digits tokens = then_read (digits_in (first_token tokens)) (λ found. Some (foun
 unfoldable pub closing : Skip
 closing tokens = then_read (skip_mark mark.Close tokens) (skip_mark mark.Semicolon)
 
--- parts one behind the other, in so many steps, as long as the tokens go on with one
-unfoldable pub repeated : {X : Type 0} → (List Token → Bool) → Parser X → ℕ → List X → Parser (List X)
+-- parts one after the other, in so many steps, as long as the tokens go on with one
+unfoldable pub repeated : {X : Type 0} → (List MalToken → Bool) → Parser X → ℕ → List X → Parser (List X)
 repeated goes part zero xs tokens = Some (xs, tokens)
 repeated goes part (suc n) xs tokens =
     if goes tokens then then_read (part tokens) (λ found. repeated goes part n (xs ++ found.0 ∷ []) found.1) else Some (xs, tokens)
@@ -116,7 +116,7 @@ unfoldable pub negative_behind : Parser Term
 negative_behind tokens = then_read (digits tokens) (λ found. number_behind true found.0 found.1)
 
 -- the argument that begins with the token
-abbrev pub term_at : Option Token → Parser Term
+abbrev pub term_at : Option MalToken → Parser Term
 term_at (Some (Name word)) rest = Some (term.Name word, rest)
 term_at (Some (Text text)) rest = text_behind text rest
 term_at (Some (Digits found)) rest = digits_behind found rest
@@ -126,8 +126,8 @@ term_at other rest = None
 unfoldable pub term_of : Parser Term
 term_of tokens = term_at (first_token tokens) (after_first tokens)
 
--- an argument behind a comma
-abbrev pub goes_further : List Token → Bool
+-- an argument after a comma
+abbrev pub goes_further : List MalToken → Bool
 goes_further tokens = is_mark mark.Comma (first_token tokens)
 
 unfoldable pub further : Parser Term
@@ -141,8 +141,8 @@ terms tokens =
 
 -- ## Instructions
 
--- an instruction stands here: its second token is `:=`
-abbrev pub goes_line : List Token → Bool
+-- an instruction comes next: its second token is `:=`
+abbrev pub goes_line : List MalToken → Bool
 goes_line tokens = is_mark mark.Assign (slice_get tokens 1)
 
 -- module "." function "("
@@ -159,8 +159,8 @@ line tokens =
 
 -- ## The output
 
--- a call of this name of `sql` stands here, if any does
-abbrev pub goes_call : List ℕ → List Token → Bool
+-- the call that comes next, if any, is that of this name of `sql`
+abbrev pub goes_call : List ℕ → List MalToken → Bool
 goes_call word tokens = is_word word (slice_get tokens 2)
 
 -- sql "." name "("
@@ -168,7 +168,7 @@ unfoldable pub opening : List ℕ → Skip
 opening word tokens =
     then_read (skip_word (codes "sql") tokens) (λ rest. then_read (skip_mark mark.Dot rest) (λ rest. then_read (skip_word word rest) (skip_mark mark.Open)))
 
--- a call with one part, which may be left out
+-- a call with one part, which is optional
 unfoldable pub optional : {X : Type 0} → List ℕ → Parser X → Parser (Option X)
 optional word part tokens =
     if goes_call word tokens
@@ -180,7 +180,7 @@ unfoldable pub bit : Parser Bool
 bit tokens = then_read (name tokens) (λ word. then_read (bit_named word.0) (λ found. Some (found, word.1)))
 
 -- sql.order(digits, bit);
-unfoldable pub key : Parser Key
+unfoldable pub key : Parser OrderKey
 key tokens =
     then_read (opening (codes "order") tokens) (λ rest. then_read (digits rest) (λ place. then_read (skip_mark mark.Comma place.1) (λ rest.
     then_read (bit rest) (λ ascending. then_read (closing ascending.1) (λ rest. Some (record { place = place.0; ascending = ascending.0 }, rest))))))
@@ -204,7 +204,7 @@ header tokens = then_read (named (codes "function") tokens) (λ found. then_read
 unfoldable pub lines : Parser (List Line)
 lines tokens = repeated goes_line line (length tokens) [] tokens
 
-unfoldable pub keys : Parser (List Key)
+unfoldable pub keys : Parser (List OrderKey)
 keys tokens = repeated (goes_call (codes "order")) key (length tokens) [] tokens
 
 -- no token is left

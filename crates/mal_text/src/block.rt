@@ -8,15 +8,15 @@ pub enum Term {
     Text(Word),
     /// The text of a day.
     Date(Word),
-    /// A number of 64 bits: whether `-` stands before it, and its digits.
+    /// A number of 64 bits: whether `-` comes before it, and its digits.
     Int(bool, Word),
-    /// A number of 128 bits: whether `-` stands before it, and its digits.
+    /// A number of 128 bits: whether `-` comes before it, and its digits.
     Huge(bool, Word),
     /// The digits of an object identifier.
     Oid(Word),
 }
 
-// By a call of its own, so that proofs needn't go through its forms where one is let go.
+// By a call of its own, so that proofs needn't go through its forms where one is dropped.
 impl Drop for Term {
     fn drop(self) {
         match self {
@@ -42,7 +42,7 @@ pub struct Line {
     pub args: Sequence<Term>,
 }
 
-// By a call of its own, so that proofs needn't go through its forms where one is let go.
+// By a call of its own, so that proofs needn't go through its forms where one is dropped.
 impl Drop for Line {
     fn drop(self) {
         let Line {
@@ -55,17 +55,17 @@ impl Drop for Line {
 }
 
 /// A key of the order as it is written.
-pub struct Key {
+pub struct OrderKey {
     /// The digits of a place among the columns, counted from 1.
     pub place: Word,
     /// Whether it is ascending.
     pub ascending: bool,
 }
 
-// By a call of its own, so that proofs needn't go through its forms where one is let go.
-impl Drop for Key {
+// By a call of its own, so that proofs needn't go through its forms where one is dropped.
+impl Drop for OrderKey {
     fn drop(self) {
-        let Key {
+        let OrderKey {
             place: _,
             ascending: _,
         } = self;
@@ -81,14 +81,14 @@ pub struct Block {
     /// The argument of `sql.keep`.
     pub keep: Option<Term>,
     /// The keys of the order.
-    pub order: Sequence<Key>,
+    pub order: Sequence<OrderKey>,
     /// The digits of the limit.
     pub limit: Option<Word>,
     /// The arguments of `sql.output`.
     pub output: Option<Sequence<Term>>,
 }
 
-// By a call of its own, so that proofs needn't go through its forms where one is let go.
+// By a call of its own, so that proofs needn't go through its forms where one is dropped.
 impl Drop for Block {
     fn drop(self) {
         let Block {

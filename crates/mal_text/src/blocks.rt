@@ -1,17 +1,17 @@
 ghost use Rattle.std.specs.Prelude.{◌≡◌, codes, Some, None, IfOk, OnOk, IsErrOf};
 ghost use Rattle.mal_text.specs.Reader as reader;
 
-use crate::block::{Block, Key, Line, Term};
-use crate::cursor::{Cursor, is_mark, is_word};
+use crate::block::{Block, Line, OrderKey, Term};
+use crate::cursor::{MalCursor, is_mark, is_word};
 use crate::error::BlockError;
-use crate::terms::{Part, repeated, term, terms};
+use crate::terms::{Repeatable, repeated, term, terms};
 use cell_core::{Sequence, Word};
 use mal_tokens::Mark;
 use std::alloc::Global;
 
 /// A block, which all the tokens are.
 #[tactic(auto, unfolding(crate::specs::Reader::block))]
-pub(crate) fn block(alloc: Global, tokens: &mut Cursor<'_>) -> Result<Block, BlockError>
+pub(crate) fn block(alloc: Global, tokens: &mut MalCursor<'_>) -> Result<Block, BlockError>
     ensures found { IfOk result (λ block. reader.block tokens.old.rest.now ≡ Some (block, tokens.new.rest.now)) }
     ensures none { IsErrOf result BlockError.NoBlock → reader.block tokens.old.rest.now ≡ None }
 {
@@ -34,7 +34,7 @@ pub(crate) fn block(alloc: Global, tokens: &mut Cursor<'_>) -> Result<Block, Blo
 
 /// `function user.NAME():void;`
 #[tactic(auto, unfolding(crate::specs::Reader::header))]
-fn header(tokens: &mut Cursor<'_>) -> Result<Word, BlockError>
+fn header(tokens: &mut MalCursor<'_>) -> Result<Word, BlockError>
     ensures found { IfOk result (λ name. reader.header tokens.old.rest.now ≡ Some (name, tokens.new.rest.now)) }
     ensures none { IsErrOf result BlockError.NoBlock → reader.header tokens.old.rest.now ≡ None }
 {
@@ -45,7 +45,7 @@ fn header(tokens: &mut Cursor<'_>) -> Result<Word, BlockError>
 
 /// A word, `user.` and a name.
 #[tactic(auto, unfolding(crate::specs::Reader::named))]
-fn named(word: &str, tokens: &mut Cursor<'_>) -> Result<Word, BlockError>
+fn named(word: &str, tokens: &mut MalCursor<'_>) -> Result<Word, BlockError>
     ensures found { IfOk result (λ name. reader.named word.now tokens.old.rest.now ≡ Some (name, tokens.new.rest.now)) }
     ensures none { IsErrOf result BlockError.NoBlock → reader.named word.now tokens.old.rest.now ≡ None }
 {
@@ -57,7 +57,7 @@ fn named(word: &str, tokens: &mut Cursor<'_>) -> Result<Word, BlockError>
 
 /// `():void;`
 #[tactic(auto, unfolding(crate::specs::Reader::void))]
-fn void(tokens: &mut Cursor<'_>) -> Result<(), BlockError>
+fn void(tokens: &mut MalCursor<'_>) -> Result<(), BlockError>
     ensures found { OnOk result (reader.void tokens.old.rest.now ≡ Some tokens.new.rest.now) }
     ensures none { IsErrOf result BlockError.NoBlock → reader.void tokens.old.rest.now ≡ None }
 {
@@ -68,9 +68,9 @@ fn void(tokens: &mut Cursor<'_>) -> Result<(), BlockError>
     tokens.mark(Mark::Semicolon)
 }
 
-/// `end user.NAME;` of this name, with nothing behind it.
+/// `end user.NAME;` of this name, with nothing after it.
 #[tactic(auto, unfolding(crate::specs::Reader::ending))]
-fn ending(name: &Word, tokens: &mut Cursor<'_>) -> Result<(), BlockError>
+fn ending(name: &Word, tokens: &mut MalCursor<'_>) -> Result<(), BlockError>
     ensures found { OnOk result (reader.ending name.now tokens.old.rest.now ≡ Some tokens.new.rest.now) }
     ensures none { IsErrOf result BlockError.NoBlock → reader.ending name.now tokens.old.rest.now ≡ None }
 {
@@ -84,7 +84,7 @@ fn ending(name: &Word, tokens: &mut Cursor<'_>) -> Result<(), BlockError>
 
 /// The instructions.
 #[tactic(auto, unfolding(crate::specs::Reader::lines))]
-fn lines(alloc: Global, tokens: &mut Cursor<'_>) -> Result<Sequence<Line>, BlockError>
+fn lines(alloc: Global, tokens: &mut MalCursor<'_>) -> Result<Sequence<Line>, BlockError>
     ensures found { IfOk result (λ lines. reader.lines tokens.old.rest.now ≡ Some (lines, tokens.new.rest.now)) }
     ensures none { IsErrOf result BlockError.NoBlock → reader.lines tokens.old.rest.now ≡ None }
 {
@@ -93,7 +93,7 @@ fn lines(alloc: Global, tokens: &mut Cursor<'_>) -> Result<Sequence<Line>, Block
 
 /// The keys of the order.
 #[tactic(auto, unfolding(crate::specs::Reader::keys))]
-fn keys(alloc: Global, tokens: &mut Cursor<'_>) -> Result<Sequence<Key>, BlockError>
+fn keys(alloc: Global, tokens: &mut MalCursor<'_>) -> Result<Sequence<OrderKey>, BlockError>
     ensures found { IfOk result (λ keys. reader.keys tokens.old.rest.now ≡ Some (keys, tokens.new.rest.now)) }
     ensures none { IsErrOf result BlockError.NoBlock → reader.keys tokens.old.rest.now ≡ None }
 {
@@ -101,17 +101,17 @@ fn keys(alloc: Global, tokens: &mut Cursor<'_>) -> Result<Sequence<Key>, BlockEr
 }
 
 /// An instruction: `VAR := module.function(arguments);`
-impl Part for Line {
+impl Repeatable for Line {
     ghost goes = { reader.goes_line };
 
     ghost reader = { reader.line };
 
-    fn goes(tokens: &Cursor<'_>) -> bool {
+    fn goes(tokens: &MalCursor<'_>) -> bool {
         is_mark(tokens.ahead(1), Mark::Assign)
     }
 
     #[tactic(auto, unfolding(crate::specs::Reader::line))]
-    fn read(alloc: Global, tokens: &mut Cursor<'_>) -> Result<Line, BlockError> {
+    fn read(alloc: Global, tokens: &mut MalCursor<'_>) -> Result<Line, BlockError> {
         let name = tokens.name()?;
         tokens.mark(Mark::Assign)?;
         let (of_module, function) = path(tokens)?;
@@ -128,7 +128,7 @@ impl Part for Line {
 
 /// `module.function(`
 #[tactic(auto, unfolding(crate::specs::Reader::path))]
-fn path(tokens: &mut Cursor<'_>) -> Result<(Word, Word), BlockError>
+fn path(tokens: &mut MalCursor<'_>) -> Result<(Word, Word), BlockError>
     ensures found { IfOk result (λ path. reader.path tokens.old.rest.now ≡ Some (path, tokens.new.rest.now)) }
     ensures none { IsErrOf result BlockError.NoBlock → reader.path tokens.old.rest.now ≡ None }
 {
@@ -140,29 +140,29 @@ fn path(tokens: &mut Cursor<'_>) -> Result<(Word, Word), BlockError>
 }
 
 /// A key of the order: `sql.order(place, bit);`
-impl Part for Key {
+impl Repeatable for OrderKey {
     ghost goes = { reader.goes_call (codes "order") };
 
     ghost reader = { reader.key };
 
-    fn goes(tokens: &Cursor<'_>) -> bool {
+    fn goes(tokens: &MalCursor<'_>) -> bool {
         goes_call("order", tokens)
     }
 
     #[tactic(auto, unfolding(crate::specs::Reader::key))]
-    fn read(_alloc: Global, tokens: &mut Cursor<'_>) -> Result<Key, BlockError> {
+    fn read(_alloc: Global, tokens: &mut MalCursor<'_>) -> Result<OrderKey, BlockError> {
         opening("order", tokens)?;
         let place = tokens.digits()?;
         tokens.mark(Mark::Comma)?;
         let ascending = bit(tokens)?;
         tokens.closing()?;
-        Ok(Key { place, ascending })
+        Ok(OrderKey { place, ascending })
     }
 }
 
 /// `true` or `false`
 #[tactic(auto, unfolding(crate::specs::Reader::bit))]
-fn bit(tokens: &mut Cursor<'_>) -> Result<bool, BlockError>
+fn bit(tokens: &mut MalCursor<'_>) -> Result<bool, BlockError>
     ensures found { IfOk result (λ found. reader.bit tokens.old.rest.now ≡ Some (found, tokens.new.rest.now)) }
     ensures none { IsErrOf result BlockError.NoBlock → reader.bit tokens.old.rest.now ≡ None }
 {
@@ -186,8 +186,8 @@ pub(crate) fn bit_named(word: &str) -> Option<bool>
     }
 }
 
-/// Whether a call of this name of `sql` stands here, if any does.
-fn goes_call(name: &str, tokens: &Cursor<'_>) -> bool
+/// Whether the call that comes next, if any, is that of this name of `sql`.
+fn goes_call(name: &str, tokens: &MalCursor<'_>) -> bool
     ensures { result ≡ reader.goes_call name.now tokens.now.rest.now }
 {
     is_word(tokens.ahead(2), name)
@@ -195,7 +195,7 @@ fn goes_call(name: &str, tokens: &Cursor<'_>) -> bool
 
 /// `sql.NAME(`
 #[tactic(auto, unfolding(crate::specs::Reader::opening))]
-fn opening(name: &str, tokens: &mut Cursor<'_>) -> Result<(), BlockError>
+fn opening(name: &str, tokens: &mut MalCursor<'_>) -> Result<(), BlockError>
     ensures found { OnOk result (reader.opening name.now tokens.old.rest.now ≡ Some tokens.new.rest.now) }
     ensures none { IsErrOf result BlockError.NoBlock → reader.opening name.now tokens.old.rest.now ≡ None }
 {
@@ -205,9 +205,9 @@ fn opening(name: &str, tokens: &mut Cursor<'_>) -> Result<(), BlockError>
     tokens.mark(Mark::Open)
 }
 
-/// The argument of `sql.keep`, where it stands here.
+/// The argument of `sql.keep`, where it comes next.
 #[tactic(auto, unfolding(crate::specs::Reader::optional))]
-fn keep(tokens: &mut Cursor<'_>) -> Result<Option<Term>, BlockError>
+fn keep(tokens: &mut MalCursor<'_>) -> Result<Option<Term>, BlockError>
     ensures found { IfOk result (λ found. reader.optional (codes "keep") reader.term_of tokens.old.rest.now ≡ Some (found, tokens.new.rest.now)) }
     ensures none { IsErrOf result BlockError.NoBlock → reader.optional (codes "keep") reader.term_of tokens.old.rest.now ≡ None }
 {
@@ -220,9 +220,9 @@ fn keep(tokens: &mut Cursor<'_>) -> Result<Option<Term>, BlockError>
     Ok(Some(found))
 }
 
-/// The digits of `sql.limit`, where it stands here.
+/// The digits of `sql.limit`, where it comes next.
 #[tactic(auto, unfolding(crate::specs::Reader::optional))]
-fn limit(tokens: &mut Cursor<'_>) -> Result<Option<Word>, BlockError>
+fn limit(tokens: &mut MalCursor<'_>) -> Result<Option<Word>, BlockError>
     ensures found { IfOk result (λ found. reader.optional (codes "limit") reader.digits tokens.old.rest.now ≡ Some (found, tokens.new.rest.now)) }
     ensures none { IsErrOf result BlockError.NoBlock → reader.optional (codes "limit") reader.digits tokens.old.rest.now ≡ None }
 {
@@ -235,9 +235,9 @@ fn limit(tokens: &mut Cursor<'_>) -> Result<Option<Word>, BlockError>
     Ok(Some(found))
 }
 
-/// The arguments of `sql.output`, where it stands here.
+/// The arguments of `sql.output`, where it comes next.
 #[tactic(auto, unfolding(crate::specs::Reader::optional))]
-fn output(alloc: Global, tokens: &mut Cursor<'_>) -> Result<Option<Sequence<Term>>, BlockError>
+fn output(alloc: Global, tokens: &mut MalCursor<'_>) -> Result<Option<Sequence<Term>>, BlockError>
     ensures found { IfOk result (λ found. reader.optional (codes "output") reader.terms tokens.old.rest.now ≡ Some (found, tokens.new.rest.now)) }
     ensures none { IsErrOf result BlockError.NoBlock → reader.optional (codes "output") reader.terms tokens.old.rest.now ≡ None }
 {

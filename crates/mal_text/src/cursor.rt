@@ -4,21 +4,21 @@ ghost use Rattle.mal_text.specs.Reader.{first_token, after_first};
 
 use crate::error::BlockError;
 use cell_core::Word;
-use mal_tokens::{Mark, Token};
+use mal_tokens::{MalToken, Mark};
 
 /// The tokens that are still to be read.
 #[derive(Drop)]
-pub(crate) struct Cursor<'a> {
+pub(crate) struct MalCursor<'a> {
     /// They, in order.
-    pub(crate) rest: &'a [Token],
+    pub(crate) rest: &'a [MalToken],
 }
 
-impl<'a> Cursor<'a> {
+impl<'a> MalCursor<'a> {
     /// A cursor before the first of the tokens.
-    pub(crate) fn new(tokens: &'a [Token]) -> Cursor<'a>
+    pub(crate) fn new(tokens: &'a [MalToken]) -> MalCursor<'a>
         ensures { result.rest.now ≡ tokens.entry.now }
     {
-        Cursor { rest: tokens }
+        MalCursor { rest: tokens }
     }
 
     /// How many tokens are left.
@@ -29,7 +29,7 @@ impl<'a> Cursor<'a> {
     }
 
     /// The next token, which stays.
-    pub(crate) fn peek(&self) -> Option<&'a Token>
+    pub(crate) fn peek(&self) -> Option<&'a MalToken>
         ensures { option_copied result ≡ first_token self.now.rest.now }
     {
         match self.rest {
@@ -38,14 +38,14 @@ impl<'a> Cursor<'a> {
         }
     }
 
-    /// The token behind so many others.
-    pub(crate) fn ahead(&self, place: usize) -> Option<&'a Token>
+    /// The token after so many others.
+    pub(crate) fn ahead(&self, place: usize) -> Option<&'a MalToken>
         ensures { option_copied result ≡ slice_get self.now.rest.now place }
     {
         self.rest.get(place)
     }
 
-    /// Leaves the next token behind.
+    /// Skips the next token.
     pub(crate) fn advance(&mut self)
         ensures { self.new.rest.now ≡ after_first self.old.rest.now }
     {
@@ -55,7 +55,7 @@ impl<'a> Cursor<'a> {
     }
 
     /// Takes the next token.
-    pub(crate) fn next(&mut self) -> Option<&'a Token>
+    pub(crate) fn next(&mut self) -> Option<&'a MalToken>
         ensures token { option_copied result ≡ first_token self.old.rest.now }
         ensures rest { self.new.rest.now ≡ after_first self.old.rest.now }
     {
@@ -64,7 +64,7 @@ impl<'a> Cursor<'a> {
         token
     }
 
-    /// Takes a word that has to stand here.
+    /// Takes a word that has to come next.
     #[tactic(auto, unfolding(crate::specs::Reader::skip_word))]
     pub(crate) fn word(&mut self, word: &str) -> Result<(), BlockError>
         ensures found { OnOk result (reader.skip_word word.now self.old.rest.now ≡ Some self.new.rest.now) }
@@ -76,7 +76,7 @@ impl<'a> Cursor<'a> {
         Ok(())
     }
 
-    /// Takes a mark that has to stand here.
+    /// Takes a mark that has to come next.
     #[tactic(auto, unfolding(crate::specs::Reader::skip_mark))]
     pub(crate) fn mark(&mut self, mark: Mark) -> Result<(), BlockError>
         ensures found { OnOk result (reader.skip_mark mark self.old.rest.now ≡ Some self.new.rest.now) }
@@ -88,7 +88,7 @@ impl<'a> Cursor<'a> {
         Ok(())
     }
 
-    /// Takes a single `0` that has to stand here.
+    /// Takes a single `0` that has to come next.
     #[tactic(auto, unfolding(crate::specs::Reader::skip_zero))]
     pub(crate) fn zero(&mut self) -> Result<(), BlockError>
         ensures found { OnOk result (reader.skip_zero self.old.rest.now ≡ Some self.new.rest.now) }
@@ -124,7 +124,7 @@ impl<'a> Cursor<'a> {
         Ok(digits.share()?)
     }
 
-    /// Takes `)` and `;`, which have to stand here.
+    /// Takes `)` and `;`, which have to come next.
     #[tactic(auto, unfolding(crate::specs::Reader::closing))]
     pub(crate) fn closing(&mut self) -> Result<(), BlockError>
         ensures found { OnOk result (reader.closing self.old.rest.now ≡ Some self.new.rest.now) }
@@ -135,7 +135,7 @@ impl<'a> Cursor<'a> {
         Ok(())
     }
 
-    /// Passes only where no token is left.
+    /// Fails where a token is left.
     pub(crate) fn end(&self) -> Result<(), BlockError>
         ensures found { OnOk result (reader.nothing_left self.now.rest.now ≡ Some self.now.rest.now) }
         ensures none { IsErrOf result BlockError.NoBlock → reader.nothing_left self.now.rest.now ≡ None }
@@ -148,54 +148,54 @@ impl<'a> Cursor<'a> {
 }
 
 /// The word that the token is.
-fn name<'a>(token: Option<&'a Token>) -> Option<&'a Word>
+fn name<'a>(token: Option<&'a MalToken>) -> Option<&'a Word>
     ensures { option_copied result ≡ reader.name_in (option_copied token.entry) }
 {
     match token {
-        Some(Token::Name(word)) => Some(word),
+        Some(MalToken::Name(word)) => Some(word),
         _ => None,
     }
 }
 
 /// The digits that the token is.
-fn digits<'a>(token: Option<&'a Token>) -> Option<&'a Word>
+fn digits<'a>(token: Option<&'a MalToken>) -> Option<&'a Word>
     ensures { option_copied result ≡ reader.digits_in (option_copied token.entry) }
 {
     match token {
-        Some(Token::Digits(digits)) => Some(digits),
+        Some(MalToken::Digits(digits)) => Some(digits),
         _ => None,
     }
 }
 
 /// Whether the token is the word.
 #[tactic(auto, unfolding(crate::specs::Reader::is_word))]
-pub(crate) fn is_word(token: Option<&Token>, word: &str) -> bool
+pub(crate) fn is_word(token: Option<&MalToken>, word: &str) -> bool
     ensures { result ≡ reader.is_word word.now (option_copied token.entry) }
 {
     match token {
-        Some(Token::Name(found)) => found.text() == word,
+        Some(MalToken::Name(found)) => found.text() == word,
         _ => false,
     }
 }
 
 /// Whether the token is the mark.
 #[tactic(auto, unfolding(crate::specs::Reader::is_mark))]
-pub(crate) fn is_mark(token: Option<&Token>, mark: Mark) -> bool
+pub(crate) fn is_mark(token: Option<&MalToken>, mark: Mark) -> bool
     ensures { result ≡ reader.is_mark mark (option_copied token.entry) }
 {
     match token {
-        Some(Token::Mark(found)) => *found == mark,
+        Some(MalToken::Mark(found)) => *found == mark,
         _ => false,
     }
 }
 
 /// Whether the token is the single digit 0.
 #[tactic(auto, unfolding(crate::specs::Reader::is_zero))]
-fn is_zero(token: Option<&Token>) -> bool
+fn is_zero(token: Option<&MalToken>) -> bool
     ensures { result ≡ reader.is_zero (option_copied token.entry) }
 {
     match token {
-        Some(Token::Digits(digits)) => digits.text() == "0",
+        Some(MalToken::Digits(digits)) => digits.text() == "0",
         _ => false,
     }
 }

@@ -40,7 +40,7 @@ pub enum MalError {
     /// The grammar derives no block from it.
     #[error("no block")]
     NoBlock,
-    /// This function, the first of them, is none of an operator.
+    /// This function, the first such one, is no operator's.
     #[error("an unknown function")]
     UnknownOp(Word),
     /// The plan has this fault.

@@ -5,7 +5,7 @@ ghost use Rattle.mal_text.specs.Plans as plans;
 
 use text_bytes::number_128;
 
-/// The number of 64 bits that digits write behind a sign, where it fits.
+/// The number of 64 bits that digits write after a sign, where it fits.
 pub(crate) fn int(negative: bool, digits: &str) -> Option<i64>
     ensures { result ≡ plans.signed (2 ^ 63) negative (digits_value 10 digits.now) }
 {
@@ -28,7 +28,7 @@ fn signed_64(negative: bool, number: u128) -> Option<i64>
     }
 }
 
-/// The number of 128 bits that digits write behind a sign, where it fits.
+/// The number of 128 bits that digits write after a sign, where it fits.
 pub(crate) fn huge(negative: bool, digits: &str) -> Option<i128>
     ensures { result ≡ plans.signed (2 ^ 127) negative (digits_value 10 digits.now) }
 {
@@ -48,7 +48,7 @@ fn signed_128(negative: bool, number: u128) -> Option<i128>
     }
 }
 
-/// The number below 2^64 that digits write, if it is.
+/// The number that digits write, where it is below 2^64.
 pub(crate) fn small(digits: &str) -> Option<u64>
     ensures { result ≡ plans.below (2 ^ 64) (digits_value 10 digits.now) }
 {

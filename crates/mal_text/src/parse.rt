@@ -8,20 +8,22 @@ ghost use Rattle.mal_text.specs.Reader as reader;
 
 use crate::block::{Block, Line};
 use crate::blocks::block;
-use crate::cursor::Cursor;
+use crate::cursor::MalCursor;
 use crate::error::{BlockError, MalError};
 use crate::plans::plan;
 use cell_core::{Memory, Word, word_of};
 use mal_check::{PlanError, check_plan};
 use mal_meaning::Plan;
-use mal_tokens::{TokensError, operator, tokens};
+use mal_tokens::{MalTokensError, operator, tokens};
 use std::alloc::Global;
 
-/// The plan that a text reads as, or why it is refused: it is no block; or else a function is none of an
-/// operator, of which the first is named as it is written; or else the plan has a fault.
+/// The plan that a text reads as, or why it is refused. The reasons in order: it is no block; a
+/// function is no operator's, and the first such one is named as it is written; the plan has a
+/// fault.
 ///
-/// A name that no instruction assigns stands for the variable with the number of instructions, and so is
-/// a fault where it is used. Where the number of an instruction doesn't fit 32 bits, that is want of memory.
+/// A name that no instruction assigns stands for the variable with the number of instructions, and
+/// so is a fault where it is used. Where the number of an instruction doesn't fit 32 bits, the call
+/// fails with `Memory`.
 #[tactic(auto, using(crate::proofs::MalLaws::no_plan))]
 pub fn parse_mal(alloc: Global, text: &str) -> Result<Plan, MalError>
     ensures read { IfOk result (λ plan. ReadsAs text.now plan) }
@@ -54,15 +56,15 @@ fn read_block(alloc: Global, text: &str) -> Result<Block, BlockError>
 {
     let tokens = match tokens(alloc, text) {
         Ok(tokens) => tokens,
-        Err(TokensError::Syntax) => return Err(BlockError::NoBlock),
-        Err(TokensError::Memory) => return Err(BlockError::Memory),
+        Err(MalTokensError::Syntax) => return Err(BlockError::NoBlock),
+        Err(MalTokensError::Memory) => return Err(BlockError::Memory),
     };
-    let mut rest = Cursor::new(tokens.as_slice());
+    let mut rest = MalCursor::new(tokens.as_slice());
     let found = block(alloc, &mut rest)?;
     Ok(found)
 }
 
-/// The first function that no operator has, as it is written.
+/// The first function that isn't an operator's, as it is written.
 fn unknown(alloc: Global, lines: &[Line]) -> Result<Option<Word>, Memory>
     ensures { IfOk result (λ word. word ≡ unknown_op lines.now) }
 {

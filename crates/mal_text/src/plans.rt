@@ -4,7 +4,7 @@ ghost use Rattle.mal_meaning.specs.declared.plan.Plan.{Plan as PlanSeen};
 ghost use Rattle.mal_text.specs.Plans as plans;
 ghost use Rattle.mal_text.specs.Plans.{StandsFor};
 
-use crate::block::{Block, Key, Line, Term};
+use crate::block::{Block, Line, OrderKey, Term};
 use crate::error::BlockError;
 use crate::numbers::{huge, int, small};
 use cell_core::{Arg, Cell, Instr, Memory, Op, Sequence, Word};
@@ -51,7 +51,7 @@ fn names(alloc: Global, lines: &[Line]) -> Result<IndexSet<Word>, BlockError>
     Ok(names)
 }
 
-/// Adds a name that isn't there.
+/// Adds a name that isn't among them.
 fn add_name(names: &mut IndexSet<Word>, name: &Word) -> Result<(), BlockError>
     ensures added { OnOk result (names.new.keys ≡ names.old.keys ++ name.now ∷ []) }
     ensures absent { OnOk result (list_any (bytes_eq name.now) names.old.keys ≡ false) }
@@ -64,7 +64,7 @@ fn add_name(names: &mut IndexSet<Word>, name: &Word) -> Result<(), BlockError>
     Ok(())
 }
 
-/// The number of the instruction that assigns a name, or that of all instructions.
+/// The number of the instruction that assigns a name, or the number of instructions.
 fn place(names: &IndexSet<Word>, name: &Word) -> usize
     ensures { result ≡ plans.place_of names.now.keys name.now }
 {
@@ -187,7 +187,7 @@ fn keep(names: &IndexSet<Word>, keep: &Option<Term>) -> Result<Option<Arg>, Bloc
 }
 
 /// The key that is written, its place counted from 0.
-fn key(key: &Key) -> Option<(u32, bool)>
+fn key(key: &OrderKey) -> Option<(u32, bool)>
     ensures { result ≡ plans.key_of key.now }
 {
     match number_128(key.place.text()) {
@@ -197,7 +197,7 @@ fn key(key: &Key) -> Option<(u32, bool)>
 }
 
 /// The keys of the order.
-fn order(alloc: Global, keys: &[Key]) -> Result<Sequence<(u32, bool)>, BlockError>
+fn order(alloc: Global, keys: &[OrderKey]) -> Result<Sequence<(u32, bool)>, BlockError>
     ensures found { IfOk result (λ order. plans.order_of keys.now ≡ Some order) }
     ensures none { IsErrOf result BlockError.NoBlock → plans.order_of keys.now ≡ None }
 {
@@ -227,7 +227,7 @@ fn limit(limit: &Option<Word>) -> Result<Option<u64>, BlockError>
     }
 }
 
-/// The columns of an output, of which there are none where it isn't written.
+/// The columns of an output; none where it isn't written.
 fn cols(
     alloc: Global,
     names: &IndexSet<Word>,

@@ -1,36 +1,36 @@
 ghost use Rattle.std.specs.Prelude.{◌≡◌, List, Bool, Some, None, length, IfOk, IsErrOf};
 ghost use Rattle.mal_text.specs.Reader as reader;
 ghost use Rattle.mal_text.specs.Reader.{first_token, after_first, Parser};
-ghost use Rattle.mal_tokens.specs.declared.token.Token.{Token as TokenSeen};
+ghost use Rattle.mal_tokens.specs.declared.token.MalToken.{MalToken as TokenSeen};
 ghost use Rattle.mal_tokens.specs.declared.token.Mark.TheVariants as mark;
 
 use crate::block::Term;
-use crate::cursor::{Cursor, is_mark};
+use crate::cursor::{MalCursor, is_mark};
 use crate::error::BlockError;
 use cell_core::{Sequence, Word};
-use mal_tokens::{Mark, Token};
+use mal_tokens::{MalToken, Mark};
 use std::alloc::Global;
 
-/// What stands one behind the other.
-pub(crate) trait Part: Drop + Sized {
+/// What can be repeated, one after the other.
+pub(crate) trait Repeatable: Drop + Sized {
     ghost goes: { List TokenSeen → Bool };
 
     ghost reader: { Parser Self };
 
-    /// Whether one stands here.
-    fn goes(tokens: &Cursor<'_>) -> bool
+    /// Whether one comes next.
+    fn goes(tokens: &MalCursor<'_>) -> bool
         ensures { result ≡ goes tokens.now.rest.now };
 
     /// Reads one.
-    fn read(alloc: Global, tokens: &mut Cursor<'_>) -> Result<Self, BlockError>
+    fn read(alloc: Global, tokens: &mut MalCursor<'_>) -> Result<Self, BlockError>
         ensures found { IfOk result (λ part. reader tokens.old.rest.now ≡ Some (part, tokens.new.rest.now)) }
         ensures none { IsErrOf result BlockError.NoBlock → reader tokens.old.rest.now ≡ None };
 }
 
-/// Adds parts as long as one stands here.
-pub(crate) fn repeated<P: Part>(
+/// Adds parts as long as one comes next.
+pub(crate) fn repeated<P: Repeatable>(
     alloc: Global,
-    tokens: &mut Cursor<'_>,
+    tokens: &mut MalCursor<'_>,
     first: Sequence<P>,
 ) -> Result<Sequence<P>, BlockError>
     ensures found { IfOk result (λ parts. reader.repeated P.goes P.reader (length tokens.old.rest.now) first tokens.old.rest.now
@@ -49,18 +49,18 @@ pub(crate) fn repeated<P: Part>(
     Ok(parts)
 }
 
-/// An argument behind a comma.
-impl Part for Term {
+/// An argument after a comma.
+impl Repeatable for Term {
     ghost goes = { reader.goes_further };
 
     ghost reader = { reader.further };
 
-    fn goes(tokens: &Cursor<'_>) -> bool {
+    fn goes(tokens: &MalCursor<'_>) -> bool {
         is_mark(tokens.peek(), Mark::Comma)
     }
 
     #[tactic(auto, unfolding(crate::specs::Reader::further))]
-    fn read(_alloc: Global, tokens: &mut Cursor<'_>) -> Result<Term, BlockError> {
+    fn read(_alloc: Global, tokens: &mut MalCursor<'_>) -> Result<Term, BlockError> {
         tokens.mark(Mark::Comma)?;
         term(tokens)
     }
@@ -68,7 +68,7 @@ impl Part for Term {
 
 /// Arguments up to a `)`, with commas between them.
 #[tactic(auto, unfolding(crate::specs::Reader::terms))]
-pub(crate) fn terms(alloc: Global, tokens: &mut Cursor<'_>) -> Result<Sequence<Term>, BlockError>
+pub(crate) fn terms(alloc: Global, tokens: &mut MalCursor<'_>) -> Result<Sequence<Term>, BlockError>
     ensures found { IfOk result (λ terms. reader.terms tokens.old.rest.now ≡ Some (terms, tokens.new.rest.now)) }
     ensures none { IsErrOf result BlockError.NoBlock → reader.terms tokens.old.rest.now ≡ None }
 {
@@ -83,22 +83,22 @@ pub(crate) fn terms(alloc: Global, tokens: &mut Cursor<'_>) -> Result<Sequence<T
 
 /// An argument.
 #[tactic(auto, unfolding(crate::specs::Reader::term_of))]
-pub(crate) fn term(tokens: &mut Cursor<'_>) -> Result<Term, BlockError>
+pub(crate) fn term(tokens: &mut MalCursor<'_>) -> Result<Term, BlockError>
     ensures found { IfOk result (λ term. reader.term_of tokens.old.rest.now ≡ Some (term, tokens.new.rest.now)) }
     ensures none { IsErrOf result BlockError.NoBlock → reader.term_of tokens.old.rest.now ≡ None }
 {
     match tokens.next() {
-        Some(Token::Name(word)) => Ok(Term::Name(word.share()?)),
-        Some(Token::Text(text)) => text_behind(text, tokens),
-        Some(Token::Digits(digits)) => digits_behind(digits, tokens),
-        Some(Token::Mark(Mark::Minus)) => negative_behind(tokens),
+        Some(MalToken::Name(word)) => Ok(Term::Name(word.share()?)),
+        Some(MalToken::Text(text)) => text_behind(text, tokens),
+        Some(MalToken::Digits(digits)) => digits_behind(digits, tokens),
+        Some(MalToken::Mark(Mark::Minus)) => negative_behind(tokens),
         _ => Err(BlockError::NoBlock),
     }
 }
 
 /// What follows a text: `:` and `date`, or nothing of it.
 #[tactic(auto, unfolding(crate::specs::Reader::text_behind))]
-fn text_behind(text: &Word, tokens: &mut Cursor<'_>) -> Result<Term, BlockError>
+fn text_behind(text: &Word, tokens: &mut MalCursor<'_>) -> Result<Term, BlockError>
     ensures found { IfOk result (λ term. reader.text_behind text.now tokens.old.rest.now ≡ Some (term, tokens.new.rest.now)) }
     ensures none { IsErrOf result BlockError.NoBlock → reader.text_behind text.now tokens.old.rest.now ≡ None }
 {
@@ -112,7 +112,11 @@ fn text_behind(text: &Word, tokens: &mut Cursor<'_>) -> Result<Term, BlockError>
 
 /// What follows the digits of a number: `:` and `hge`, or nothing of it.
 #[tactic(auto, unfolding(crate::specs::Reader::number_behind))]
-fn number_behind(negative: bool, digits: &Word, tokens: &mut Cursor<'_>) -> Result<Term, BlockError>
+fn number_behind(
+    negative: bool,
+    digits: &Word,
+    tokens: &mut MalCursor<'_>,
+) -> Result<Term, BlockError>
     ensures found { IfOk result (λ term. reader.number_behind negative digits.now tokens.old.rest.now ≡ Some (term, tokens.new.rest.now)) }
     ensures none { IsErrOf result BlockError.NoBlock → reader.number_behind negative digits.now tokens.old.rest.now ≡ None }
 {
@@ -126,7 +130,7 @@ fn number_behind(negative: bool, digits: &Word, tokens: &mut Cursor<'_>) -> Resu
 
 /// What follows digits without a sign: `@` and `0`, or what may follow those of a number.
 #[tactic(auto, unfolding(crate::specs::Reader::digits_behind))]
-fn digits_behind(digits: &Word, tokens: &mut Cursor<'_>) -> Result<Term, BlockError>
+fn digits_behind(digits: &Word, tokens: &mut MalCursor<'_>) -> Result<Term, BlockError>
     ensures found { IfOk result (λ term. reader.digits_behind digits.now tokens.old.rest.now ≡ Some (term, tokens.new.rest.now)) }
     ensures none { IsErrOf result BlockError.NoBlock → reader.digits_behind digits.now tokens.old.rest.now ≡ None }
 {
@@ -140,7 +144,7 @@ fn digits_behind(digits: &Word, tokens: &mut Cursor<'_>) -> Result<Term, BlockEr
 
 /// What follows a `-`.
 #[tactic(auto, unfolding(crate::specs::Reader::negative_behind))]
-fn negative_behind(tokens: &mut Cursor<'_>) -> Result<Term, BlockError>
+fn negative_behind(tokens: &mut MalCursor<'_>) -> Result<Term, BlockError>
     ensures found { IfOk result (λ term. reader.negative_behind tokens.old.rest.now ≡ Some (term, tokens.new.rest.now)) }
     ensures none { IsErrOf result BlockError.NoBlock → reader.negative_behind tokens.old.rest.now ≡ None }
 {

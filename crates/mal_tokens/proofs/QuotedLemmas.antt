@@ -1,4 +1,4 @@
--- Texts in quotes: what is read stands there, and what stands there is read.
+-- Texts in quotes: what is read is there, and what is there is read.
 use Rattle.std.proofs.Common.{◌≡◌, ℕ, suc, ◌<◌, ◌+◌, List, [], ◌∷◌, ◌++◌, length, drop, Bool, true, false, not, ◌||◌, cond, Some, None, refl, ap, sym, ◌∙◌, arith, subst, ⊎_elim, append_assoc}
 use Rattle.std.specs.Prelude.{◌==◌, flat_map}
 use Rattle.std.specs.Str.{IsUtf8}
@@ -20,16 +20,16 @@ spelled_other b p q r =
 add_one : (n : ℕ) → n + 1 ≡ suc n
 add_one n = omega arith
 
--- ## What is read stands there
+-- ## What is read is there
 
--- the text and its closing quote stand at the front; behind a backslash that stands open, that is part of it
+-- the text and its closing quote are at the front; after an open backslash, that is part of it
 pub record IsQuoted (escaped : Bool) (bs text : List ℕ) (n : ℕ) : Type 0 where
   pub text_is : flat_map spelled text ++ 34 ∷ drop n bs ≡ cond escaped (92 ∷ bs) bs
 
 abbrev Stands : Bool → List ℕ → List ℕ × ℕ → Type 0
 Stands escaped bs p = IsQuoted escaped bs p.0 p.1
 
--- what holds of the three bytes behind a backslash
+-- what holds of the three bytes that may follow a backslash
 three_cases : (P : ℕ → Type 0) → P 92 → P 34 → P 110 → (b : ℕ) → ((b == 92) || (b == 34) || (b == 110)) ≡ true → P b
 three_cases P backslash quote letter b h =
     ⊎_elim (λ left. ⊎_elim (here 92 backslash) (here 34 quote) (or_cases (b == 92) (b == 34) left)) (here 110 letter) (or_cases ((b == 92) || (b == 34)) (b == 110) h)
@@ -89,7 +89,7 @@ quoted_sound (b ∷ bs) false p h = by_quote (quoted_sound bs) (b == 34) refl h
     by_quote more true e h = subst (Stands false (b ∷ bs)) (value_found ([], 1) p h) (the_quote b bs e)
     by_quote more false e h = by_end more (b == 10) refl e h
 
--- ## What stands there is read
+-- ## What is there is read
 
 at_other : (b : ℕ) (bs : List ℕ) → (b == 92) ≡ false → (b == 34) ≡ false → (b == 10) ≡ false → quoted_at false (b ∷ bs) ≡ joined (b ∷ []) (quoted_at false bs)
 at_other b bs x y z =

@@ -1,4 +1,4 @@
--- The reader of tokens gives exactly the tokens into which a text is cut.
+-- The reader of tokens returns exactly the tokens into which a text is cut.
 use Rattle.std.proofs.Common.{◌≡◌, ℕ, zero, suc, ◌+◌, List, [], ◌∷◌, ◌++◌, length, take, drop, Bool, true, false, not, ◌&&◌, cond, Option, Some, None, refl, ap, sym, ◌∙◌, subst, append_assoc, append-nil}
 use Rattle.std.specs.Prelude.{◌==◌, flat_map}
 use Rattle.std.specs.List.{list_all, prefix_len, AllByRecursion}
@@ -10,8 +10,8 @@ use Rattle.mal_tokens.specs.Tokens.{Part, write_part, written, Fits, AllFit, tok
 use Rattle.mal_tokens.specs.Tokens.Part.{Blank, Comment, Letters, Number, Quoted, Sign}
 use Rattle.mal_tokens.specs.declared.token.Mark.{Mark}
 use Rattle.mal_tokens.specs.declared.token.Mark.TheVariants as mark
-use Rattle.mal_tokens.specs.declared.token.Token.{Token}
-use Rattle.mal_tokens.specs.declared.token.Token.TheVariants as token
+use Rattle.mal_tokens.specs.declared.token.MalToken.{MalToken}
+use Rattle.mal_tokens.specs.declared.token.MalToken.TheVariants as token
 use Rattle.mal_tokens.specs.declared.token.TheConstants.{MARKS}
 use Rattle.mal_tokens.specs.Bytes.{Found, part_at, mark_at, digits_at, word_at, quoted_at, text_part, mark_part, mark_of, first_mark, tokens_after, listed}
 use Rattle.text_bytes.specs.Found.{then_read}
@@ -43,7 +43,7 @@ mark_sound b m h =
 -- ## What is read is a cut
 
 -- the part that is read fits, and has the token
-record IsPart (b : ℕ) (bs : List ℕ) (found : Option Token × ℕ) : Type 0 where
+record IsPart (b : ℕ) (bs : List ℕ) (found : Option MalToken × ℕ) : Type 0 where
   part : Part
   written_is : write_part part (drop found.1 bs) ≡ b ∷ bs
   fits : Fits part (drop found.1 bs)
@@ -171,11 +171,11 @@ module _ (b : ℕ) (bs : List ℕ) where
   at_letter true e = word_part e
   at_letter false e = at_digit (is_digit b) refl
 
-  part_sound : (found : Option Token × ℕ) → part_at b bs ≡ Some found → IsPart b bs found
+  part_sound : (found : Option MalToken × ℕ) → part_at b bs ≡ Some found → IsPart b bs found
   part_sound found e = subst (FoundPart b bs) e (at_letter (is_letter b) refl)
 
 -- the tokens that are read are those of a cut
-cut_sound : (bs : List ℕ) (skip : ℕ) (ts : List Token) → tokens_after skip bs ≡ Some ts → AreTokens (drop skip bs) ts
+cut_sound : (bs : List ℕ) (skip : ℕ) (ts : List MalToken) → tokens_after skip bs ≡ Some ts → AreTokens (drop skip bs) ts
 cut_sound [] zero ts h = record { parts = []; text_is = refl; fit = tt; tokens_are = value_found [] ts h }
 cut_sound [] (suc skip) ts h = record { parts = []; text_is = refl; fit = tt; tokens_are = value_found [] ts h }
 cut_sound (b ∷ bs) (suc skip) ts h = cut_sound bs skip ts h
@@ -194,7 +194,7 @@ cut_sound (b ∷ bs) zero ts h =
           ∙ value_found (with_token p.0 more) ts last;
     }
 
-pub tokens_sound : (text : List ℕ) (ts : List Token) → tokens_after 0 text ≡ Some ts → AreTokens text ts
+pub tokens_sound : (text : List ℕ) (ts : List MalToken) → tokens_after 0 text ≡ Some ts → AreTokens text ts
 tokens_sound text ts h = cut_sound text 0 ts h
 
 -- ## A cut is read
@@ -313,43 +313,43 @@ parts_read (part ∷ parts) fit = step (part_read part (written parts) fit.0) (p
         ∙ ap (λ o. then_read o (λ ts. Some (with_token (token_of part) ts))) (skip_drop read.size read.after ∙ ap (tokens_after 0) read.rest_is ∙ more)
 
 -- the tokens of a cut are those that are read
-pub tokens_complete : (text : List ℕ) (ts : List Token) → AreTokens text ts → tokens_after 0 text ≡ Some ts
+pub tokens_complete : (text : List ℕ) (ts : List MalToken) → AreTokens text ts → tokens_after 0 text ≡ Some ts
 tokens_complete text ts cut = ap (tokens_after 0) (sym cut.text_is) ∙ parts_read cut.parts cut.fit ∙ ap Some cut.tokens_are
 
-pub no_tokens : (text : List ℕ) → tokens_after 0 text ≡ None → (ts : List Token) → AreTokens text ts → ⊥
+pub no_tokens : (text : List ℕ) → tokens_after 0 text ≡ None → (ts : List MalToken) → AreTokens text ts → ⊥
 no_tokens text none ts cut = let both : None ≡ Some ts = sym none ∙ tokens_complete text ts cut in cc
 
 -- a text has one list of tokens at most
-pub one_list_of : (text : List ℕ) (a b : List Token) → AreTokens text a → AreTokens text b → a ≡ b
+pub one_list_of : (text : List ℕ) (a b : List MalToken) → AreTokens text a → AreTokens text b → a ≡ b
 one_list_of text a b one other = value_found a b (sym (tokens_complete text a one) ∙ tokens_complete text b other)
 
 -- ## The loop over the parts
 
--- what is told of the rest is told behind the tokens so far
-abbrev pub Continues : Option (List Token) → List Token → List ℕ → Type 0
+-- the tokens of the rest follow the tokens so far
+abbrev pub Continues : Option (List MalToken) → List MalToken → List ℕ → Type 0
 Continues whole tokens rest = whole ≡ then_read (tokens_after 0 rest) (λ more. Some (tokens ++ more))
 
 pub tokens_start : (bs : List ℕ) → Continues (tokens_after 0 bs) [] bs
 tokens_start bs = elim (tokens_after 0 bs) as (λ o. o ≡ then_read o (λ more. Some ([] ++ more))) [ None ↦ refl | Some ts ↦ refl ]
 
-pub tokens_end : (whole : Option (List Token)) (tokens : List Token) → Continues whole tokens [] → whole ≡ Some tokens
+pub tokens_end : (whole : Option (List MalToken)) (tokens : List MalToken) → Continues whole tokens [] → whole ≡ Some tokens
 tokens_end whole tokens told = told ∙ ap Some (append-nil tokens)
 
-module _ (whole : Option (List Token)) (tokens : List Token) (b : ℕ) (bs : List ℕ) (told : Continues whole tokens (b ∷ bs)) where
-  pub tokens_step : (new : List Token) (n : ℕ) (t : Option Token) → part_at b bs ≡ Some (t, n) → new ≡ tokens ++ listed t → Continues whole new (drop n bs)
+module _ (whole : Option (List MalToken)) (tokens : List MalToken) (b : ℕ) (bs : List ℕ) (told : Continues whole tokens (b ∷ bs)) where
+  pub tokens_step : (new : List MalToken) (n : ℕ) (t : Option MalToken) → part_at b bs ≡ Some (t, n) → new ≡ tokens ++ listed t → Continues whole new (drop n bs)
   tokens_step new n t part added =
       told
       ∙ ap (λ o. then_read (then_read o (λ part. then_read (tokens_after part.1 bs) (λ more. Some (with_token part.0 more)))) (λ more. Some (tokens ++ more))) part
       ∙ inner (tokens_after n bs)
       ∙ ap (λ o. then_read o (λ more. Some (new ++ more))) (skip_drop n bs)
     where
-      joined : (more : List Token) → tokens ++ with_token t more ≡ new ++ more
+      joined : (more : List MalToken) → tokens ++ with_token t more ≡ new ++ more
       joined more = elim t as (λ t. new ≡ tokens ++ listed t → tokens ++ with_token t more ≡ new ++ more) [
         | None ↦ λ e. sym (ap (λ ts. ts ++ more) (e ∙ append-nil tokens))
         | Some t ↦ λ e. sym (ap (λ ts. ts ++ more) e ∙ append_assoc tokens _ more)
       ] added
 
-      inner : (o : Option (List Token)) → then_read (then_read o (λ more. Some (with_token t more))) (λ more. Some (tokens ++ more)) ≡ then_read o (λ more. Some (new ++ more))
+      inner : (o : Option (List MalToken)) → then_read (then_read o (λ more. Some (with_token t more))) (λ more. Some (tokens ++ more)) ≡ then_read o (λ more. Some (new ++ more))
       inner None = refl
       inner (Some more) = ap Some (joined more)
 

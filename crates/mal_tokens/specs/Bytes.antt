@@ -1,5 +1,5 @@
 -- What the private functions on bytes compute: a definition for each, on plain lists. The public clauses
--- don't speak of these: proofs/ shows that they are the definition of tokens.
+-- don't use these: proofs/ shows that they are the definition of tokens.
 use Rattle.std.specs.Prelude.{ℕ, zero, suc, List, [], ◌∷◌, take, Bool, true, false, not, ◌&&◌, ◌||◌, ◌==◌, if◌then◌else◌, Option, Some, None}
 use Rattle.std.specs.List.{prefix_len}
 use Rattle.text_bytes.specs.Classes.{is_blank, is_letter, is_digit, is_word_byte, is_in_line, begins_with}
@@ -7,18 +7,18 @@ use Rattle.mal_tokens.specs.Tokens.{with_token}
 use Rattle.text_bytes.specs.Found.{then_read, joined}
 use Rattle.mal_tokens.specs.declared.token.Mark.{Mark}
 use Rattle.mal_tokens.specs.declared.token.Mark.TheVariants as mark
-use Rattle.mal_tokens.specs.declared.token.Token.{Token}
-use Rattle.mal_tokens.specs.declared.token.Token.TheVariants as token
+use Rattle.mal_tokens.specs.declared.token.MalToken.{MalToken}
+use Rattle.mal_tokens.specs.declared.token.MalToken.TheVariants as token
 use Rattle.mal_tokens.specs.declared.token.TheConstants.{MARKS}
 
 -- ## Texts in quotes
 
--- the byte that is kept of one in quotes, behind a backslash or not
+-- the byte that is kept of one in quotes, after a backslash or not
 abbrev pub kept_byte : Bool → ℕ → List ℕ
 kept_byte true b = (if b == 110 then 10 else b) ∷ []
 kept_byte false b = if b == 92 then [] else b ∷ []
 
--- a backslash stands open behind the byte
+-- a backslash is open after the byte
 abbrev pub is_open : Bool → ℕ → Bool
 is_open true b = false
 is_open false b = b == 92
@@ -28,7 +28,7 @@ abbrev pub is_refused : Bool → ℕ → Bool
 is_refused true b = not ((b == 92) || (b == 34) || (b == 110))
 is_refused false b = b == 10
 
--- what stands before the closing quote, and how many bytes that takes, the quote too
+-- the text before the closing quote, and how many bytes that takes, the quote too
 abbrev pub quoted_at : Bool → List ℕ → Option (List ℕ × ℕ)
 quoted_at escaped [] = None
 quoted_at escaped (b ∷ bs) =
@@ -39,7 +39,7 @@ quoted_at escaped (b ∷ bs) =
 
 -- a part: its token, where it has one, and how many bytes follow its first
 abbrev pub Found : Type 0
-Found = Option (Option Token × ℕ)
+Found = Option (Option MalToken × ℕ)
 
 -- the mark of the first entry with this byte
 abbrev pub first_mark : ℕ → List (ℕ × Mark) → Option Mark
@@ -82,12 +82,12 @@ part_at b bs =
 -- ## Tokens
 
 -- the token, where there is one
-abbrev pub listed : Option Token → List Token
+abbrev pub listed : Option MalToken → List MalToken
 listed None = []
 listed (Some t) = t ∷ []
 
 -- the tokens of bytes, of which `skip` belong to the part before
-abbrev pub tokens_after : ℕ → List ℕ → Option (List Token)
+abbrev pub tokens_after : ℕ → List ℕ → Option (List MalToken)
 tokens_after skip [] = Some []
 tokens_after (suc skip) (b ∷ bs) = tokens_after skip bs
 tokens_after zero (b ∷ bs) =

@@ -1,10 +1,8 @@
 -- The words of the operators: each is called by a module and a function.
-use Rattle.std.specs.Prelude.{ℕ, List, Bool, true, false, ◌&&◌, ◌||◌, bytes_eq, codes, Option}
+use Rattle.std.specs.Prelude.{ℕ, List, Bool, ◌&&◌, ◌||◌, bytes_eq, codes, Option}
 use Rattle.std.specs.List.{find}
 use Rattle.cell_core.specs.Places.{operators}
-use Rattle.cell_core.specs.Forms.{form_of}
-use Rattle.cell_core.specs.declared.form.Form.{Form}
-use Rattle.cell_core.specs.declared.form.Form.TheVariants as form
+use Rattle.cell_core.specs.Forms.{is_calc}
 use Rattle.cell_core.specs.declared.operator.Op.{Op}
 use Rattle.cell_core.specs.declared.operator.Op.TheVariants as op
 
@@ -82,15 +80,6 @@ module_word op.And = codes "calc"
 module_word op.Or = codes "calc"
 module_word op.Not = codes "calc"
 module_word op.IsNil = codes "calc"
-
--- a function of cells, which takes scalars as well as BATs
-abbrev pub is_calc_form : Form → Bool
-is_calc_form form.TwoCells = true
-is_calc_form form.OneCell = true
-is_calc_form other = false
-
-abbrev pub is_calc : Op → Bool
-is_calc operator = is_calc_form (form_of operator)
 
 -- the words call the operator; `calc` and `batcalc` call the same functions
 abbrev pub is_called : List ℕ → List ℕ → Op → Bool

@@ -1,12 +1,12 @@
--- The tokens of MAL text. A cut of the text into parts is told as plain data: how each part is written,
--- and what may follow it.
+-- The tokens of MAL text. A cut of the text into parts is plain data: how each part is written, and
+-- what may follow it.
 use Rattle.std.specs.Prelude.{◌≡◌, ℕ, ◌==◌, List, [], ◌∷◌, ◌++◌, flat_map, Bool, true, false, not, ◌&&◌, if◌then◌else◌, codes, Option, Some, None, IsTrue}
 use Rattle.std.specs.List.{list_all}
 use Rattle.text_bytes.specs.Classes.{is_blank, is_letter, is_digit, is_word_byte, is_in_line, begins, begins_with}
 use Rattle.mal_tokens.specs.declared.token.Mark.{Mark}
 use Rattle.mal_tokens.specs.declared.token.Mark.TheVariants as mark
-use Rattle.mal_tokens.specs.declared.token.Token.{Token}
-use Rattle.mal_tokens.specs.declared.token.Token.TheVariants as token
+use Rattle.mal_tokens.specs.declared.token.MalToken.{MalToken}
+use Rattle.mal_tokens.specs.declared.token.MalToken.TheVariants as token
 
 -- how a text is cut: blanks, `#` comments, words, digits, texts in quotes, marks
 pub data Part : Type 0 where
@@ -57,7 +57,7 @@ abbrev pub ends_mark : Mark → List ℕ → Bool
 ends_mark mark.Colon rest = not (begins_with 61 rest)
 ends_mark other rest = true
 
--- a part may stand before the rest: each is as long as it can be
+-- a part may come before the rest: each is as long as it can be
 abbrev pub Fits : Part → List ℕ → Type 0
 Fits (Blank b) rest = IsTrue (is_blank b)
 Fits (Comment bs) rest = IsTrue (list_all is_in_line bs && not (begins is_in_line rest))
@@ -71,7 +71,7 @@ AllFit [] = Unit {0}
 AllFit (part ∷ parts) = Fits part (written parts) × AllFit parts
 
 -- the token of a part, where it has one
-abbrev pub token_of : Part → Option Token
+abbrev pub token_of : Part → Option MalToken
 token_of (Blank b) = None
 token_of (Comment bs) = None
 token_of (Letters b bs) = Some (token.Name (b ∷ bs))
@@ -79,17 +79,17 @@ token_of (Number b bs) = Some (token.Digits (b ∷ bs))
 token_of (Quoted bs) = Some (token.Text bs)
 token_of (Sign m) = Some (token.Mark m)
 
--- the tokens behind a token, if it is one
-abbrev pub with_token : Option Token → List Token → List Token
+-- the tokens after a token, where there is one
+abbrev pub with_token : Option MalToken → List MalToken → List MalToken
 with_token None tokens = tokens
 with_token (Some t) tokens = t ∷ tokens
 
-abbrev pub tokens_of : List Part → List Token
+abbrev pub tokens_of : List Part → List MalToken
 tokens_of [] = []
 tokens_of (part ∷ parts) = with_token (token_of part) (tokens_of parts)
 
 -- the text is cut into these tokens
-pub record AreTokens (text : List ℕ) (tokens : List Token) : Type 0 where
+pub record AreTokens (text : List ℕ) (tokens : List MalToken) : Type 0 where
   pub parts : List Part
   pub text_is : written parts ≡ text
   pub fit : AllFit parts

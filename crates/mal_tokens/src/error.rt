@@ -6,8 +6,9 @@ use thiserror::Error;
 
 /// Why a text has no tokens.
 #[derive(Clone, Copy, Debug, PartialEq, Eq, Drop, Error)]
-pub enum TokensError {
-    /// A character begins no token, a text in quotes isn't closed, or a byte stands where none may in it.
+pub enum MalTokensError {
+    /// A character begins no token, a text in quotes isn't closed, or it has a byte that isn't
+    /// allowed.
     #[error("no tokens")]
     Syntax,
     /// Memory ran out.
@@ -15,22 +16,22 @@ pub enum TokensError {
     Memory,
 }
 
-impl From<Memory> for TokensError {
-    ghost use Rattle.mal_tokens.specs.declared.error.TokensError.TheVariants.{Memory as TokensMemory};
+impl From<Memory> for MalTokensError {
+    ghost use Rattle.mal_tokens.specs.declared.error.MalTokensError.TheVariants.{Memory as TokensMemory};
 
     ghost from_gives = { λ _ e. e ≡ TokensMemory };
 
-    fn from(_e: Memory) -> TokensError {
-        TokensError::Memory
+    fn from(_e: Memory) -> MalTokensError {
+        MalTokensError::Memory
     }
 }
 
-impl<T: Drop> From<AllocFailed<T>> for TokensError {
-    ghost use Rattle.mal_tokens.specs.declared.error.TokensError.TheVariants.{Memory as TokensMemory};
+impl<T: Drop> From<AllocFailed<T>> for MalTokensError {
+    ghost use Rattle.mal_tokens.specs.declared.error.MalTokensError.TheVariants.{Memory as TokensMemory};
 
     ghost from_gives = { λ _ e. e ≡ TokensMemory };
 
-    fn from(_e: AllocFailed<T>) -> TokensError {
-        TokensError::Memory
+    fn from(_e: AllocFailed<T>) -> MalTokensError {
+        MalTokensError::Memory
     }
 }

@@ -3,7 +3,7 @@ ghost use Rattle.std.specs.List.{find};
 ghost use Rattle.cell_core.specs.Places.{operators};
 ghost use Rattle.mal_tokens.specs.Operators as words;
 
-use cell_core::{Form, Op};
+use cell_core::Op;
 
 /// The operators, in the order of their table.
 pub const OPERATORS: [Op; 35] = [
@@ -69,17 +69,8 @@ fn find_operator(operators: &[Op], home: &str, function: &str) -> Option<Op>
 fn is_called(home: &str, function: &str, op: Op) -> bool
     ensures { result ≡ words.is_called home.now function.now op }
 {
-    function == function_word(op) && (home == module_word(op) || (is_calc(op) && home == "batcalc"))
-}
-
-/// Whether the operator is a function of cells, which takes scalars as well as BATs.
-pub fn is_calc(op: Op) -> bool
-    ensures { result ≡ words.is_calc op }
-{
-    match op.form() {
-        Form::TwoCells | Form::OneCell => true,
-        _ => false,
-    }
+    function == function_word(op)
+        && (home == module_word(op) || (op.is_calc() && home == "batcalc"))
 }
 
 /// The name of an operator's function.

@@ -3,9 +3,9 @@ ghost use Rattle.std.specs.List.{list_all};
 ghost use Rattle.text_bytes.specs.Classes as classes;
 ghost use Rattle.mal_tokens.specs.Bytes as reader;
 
-use crate::error::TokensError;
+use crate::error::MalTokensError;
 use crate::quoted::quoted;
-use crate::token::{MARKS, Mark, Token};
+use crate::token::{MARKS, MalToken, Mark};
 use cell_core::{Memory, Word, word_of};
 use std::alloc::Global;
 use text_bytes::{
@@ -17,11 +17,11 @@ pub(crate) fn part(
     alloc: Global,
     first: u8,
     after: &[u8],
-) -> Result<(Option<Token>, usize), TokensError>
+) -> Result<(Option<MalToken>, usize), MalTokensError>
     requires { (before : List ℕ) × IsUtf8 (before ++ first ∷ after.now) }
     ensures part { IfOk result (λ part. reader.part_at first after.now ≡ Some (part.0, part.1)) }
     ensures within { IfOk result (λ part. part.1 ≤ length after.now) }
-    ensures none { IsErrOf result TokensError.Syntax → reader.part_at first after.now ≡ None }
+    ensures none { IsErrOf result MalTokensError.Syntax → reader.part_at first after.now ≡ None }
 {
     if is_letter(first) {
         word(alloc, first, after)
@@ -31,53 +31,55 @@ pub(crate) fn part(
         Ok((None, 0))
     } else if first == b'"' {
         let (text, length) = quoted(alloc, after)?;
-        Ok((Some(Token::Text(text)), length))
+        Ok((Some(MalToken::Text(text)), length))
     } else {
         mark(first, after)
     }
 }
 
-/// A word.
 #[tactic(auto, using(text_bytes::proofs::ByteLemmas::word_front))]
-fn word(alloc: Global, first: u8, after: &[u8]) -> Result<(Option<Token>, usize), TokensError>
+fn word(alloc: Global, first: u8, after: &[u8]) -> Result<(Option<MalToken>, usize), MalTokensError>
     requires { classes.is_letter first ≡ true }
     ensures part { IfOk result (λ part. reader.word_at first after.now ≡ Some (part.0, part.1)) }
     ensures within { IfOk result (λ part. part.1 ≤ length after.now) }
-    ensures err { IsErrOf result TokensError.Syntax → ⊥ }
+    ensures err { IsErrOf result MalTokensError.Syntax → ⊥ }
 {
     let length = word_length(after);
     let word = ascii_word(alloc, first, &after[..length])?;
-    Ok((Some(Token::Name(word)), length))
+    Ok((Some(MalToken::Name(word)), length))
 }
 
-/// Digits.
 #[tactic(auto, using(text_bytes::proofs::ByteLemmas::digits_front_word))]
-fn digits(alloc: Global, first: u8, after: &[u8]) -> Result<(Option<Token>, usize), TokensError>
+fn digits(
+    alloc: Global,
+    first: u8,
+    after: &[u8],
+) -> Result<(Option<MalToken>, usize), MalTokensError>
     requires { classes.is_digit first ≡ true }
     ensures part { IfOk result (λ part. reader.digits_at first after.now ≡ Some (part.0, part.1)) }
     ensures within { IfOk result (λ part. part.1 ≤ length after.now) }
-    ensures err { IsErrOf result TokensError.Syntax → ⊥ }
+    ensures err { IsErrOf result MalTokensError.Syntax → ⊥ }
 {
     let length = digits_length(after);
     let digits = ascii_word(alloc, first, &after[..length])?;
-    Ok((Some(Token::Digits(digits)), length))
+    Ok((Some(MalToken::Digits(digits)), length))
 }
 
 /// A comment or a mark.
-fn mark(first: u8, after: &[u8]) -> Result<(Option<Token>, usize), TokensError>
+fn mark(first: u8, after: &[u8]) -> Result<(Option<MalToken>, usize), MalTokensError>
     ensures part { IfOk result (λ part. reader.mark_at first after.now ≡ Some (part.0, part.1)) }
     ensures within { IfOk result (λ part. part.1 ≤ length after.now) }
-    ensures none { IsErrOf result TokensError.Syntax → reader.mark_at first after.now ≡ None }
+    ensures none { IsErrOf result MalTokensError.Syntax → reader.mark_at first after.now ≡ None }
 {
     if first == b'#' {
         return Ok((None, line_length(after)));
     }
     if first == b':' && begins_with(b'=', after) {
-        return Ok((Some(Token::Mark(Mark::Assign)), 1));
+        return Ok((Some(MalToken::Mark(Mark::Assign)), 1));
     }
     match mark_of(first) {
-        Some(mark) => Ok((Some(Token::Mark(mark)), 0)),
-        None => Err(TokensError::Syntax),
+        Some(mark) => Ok((Some(MalToken::Mark(mark)), 0)),
+        None => Err(MalTokensError::Syntax),
     }
 }
 

@@ -3,16 +3,16 @@ ghost use Rattle.mal_tokens.specs.Bytes as reader;
 ghost use Rattle.mal_tokens.specs.Laws.{HasNoTokens};
 ghost use Rattle.mal_tokens.specs.Tokens.{AreTokens};
 
-use crate::error::TokensError;
+use crate::error::MalTokensError;
 use crate::part::part;
-use crate::token::Token;
+use crate::token::MalToken;
 use cell_core::{Memory, Sequence};
 use std::alloc::Global;
 
 /// The tokens of a text, in order.
-pub fn tokens(alloc: Global, text: &str) -> Result<Sequence<Token>, TokensError>
+pub fn tokens(alloc: Global, text: &str) -> Result<Sequence<MalToken>, MalTokensError>
     ensures tokens { IfOk result (λ tokens. AreTokens text.now tokens) }
-    ensures none { IsErrOf result TokensError.Syntax → HasNoTokens text.now }
+    ensures none { IsErrOf result MalTokensError.Syntax → HasNoTokens text.now }
 {
     match read_tokens(alloc, text) {
         Ok(tokens) => Ok(tokens),
@@ -20,9 +20,9 @@ pub fn tokens(alloc: Global, text: &str) -> Result<Sequence<Token>, TokensError>
     }
 }
 
-fn read_tokens(alloc: Global, text: &str) -> Result<Sequence<Token>, TokensError>
+fn read_tokens(alloc: Global, text: &str) -> Result<Sequence<MalToken>, MalTokensError>
     ensures tokens { IfOk result (λ tokens. reader.tokens_after 0 text.now ≡ Some tokens) }
-    ensures none { IsErrOf result TokensError.Syntax → reader.tokens_after 0 text.now ≡ None }
+    ensures none { IsErrOf result MalTokensError.Syntax → reader.tokens_after 0 text.now ≡ None }
 {
     let mut tokens = Sequence::new(alloc);
     let mut rest = text.as_bytes();
@@ -35,7 +35,7 @@ fn read_tokens(alloc: Global, text: &str) -> Result<Sequence<Token>, TokensError
 }
 
 /// Adds the token, where there is one.
-fn keep(tokens: &mut Sequence<Token>, token: Option<Token>) -> Result<(), Memory>
+fn keep(tokens: &mut Sequence<MalToken>, token: Option<MalToken>) -> Result<(), Memory>
     ensures { OnOk result (tokens.new ≡ tokens.old ++ reader.listed token) }
 {
     if let Some(token) = token {

@@ -1,7 +1,7 @@
 use cell_core::Word;
 
 /// A token of MAL text.
-pub enum Token {
+pub enum MalToken {
     /// A word, with its case kept.
     Name(Word),
     /// Decimal digits.
@@ -12,11 +12,11 @@ pub enum Token {
     Mark(Mark),
 }
 
-// By a call of its own, so that proofs needn't go through its forms where one is let go.
-impl Drop for Token {
+// By a call of its own, so that proofs needn't go through its forms where one is dropped.
+impl Drop for MalToken {
     fn drop(self) {
         match self {
-            Token::Name(_) | Token::Digits(_) | Token::Text(_) | Token::Mark(_) => {}
+            MalToken::Name(_) | MalToken::Digits(_) | MalToken::Text(_) | MalToken::Mark(_) => {}
         }
     }
 }

@@ -182,7 +182,7 @@ module _ {P : Type 0} where
 
   -- ## The heads of groups
 
-  -- an element stands at its place
+  -- an element is at its place
   abbrev StandsAt : List Cell → (P → Cell) → ℕ × P → Type 0
   StandsAt cells v e = (e.0 < length cells) × (get_or cells e.0 Nil ≡ v e.1)
 

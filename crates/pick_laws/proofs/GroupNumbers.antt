@@ -129,7 +129,7 @@ module _ {P Y : Type 0} (rel : P → P → Bool) (eq : IsEquivalence rel) (f : P
       by_case true e others = others
       by_case false e others = (ap (λ b. slice_index_or (map f (cond b (x ∷ filter (λ p. rel p q) xs) (filter (λ p. rel p q) xs))) 0 d) e ∙ a.0, others)
 
-  -- the first element of a group is the one that stands for it
+  -- the first element of a group is the one that represents it
   pub firsts_first : (ps : List P) → AllByRecursion (IsFirst ps) (distinct rel ps)
   firsts_first [] = tt
   firsts_first (x ∷ xs) = (ap (λ b. slice_index_or (map f (cond b (x ∷ filter (λ p. rel p x) xs) (filter (λ p. rel p x) xs))) 0 d) (eq.refl x), later x xs (distinct rel xs) (firsts_first xs))

@@ -90,7 +90,7 @@ gathered_from m cells (i ∷ places) h =
     ap (λ found. map (λ q. (Oid m, q.1)) found ++ joined (numbered_from (m + 1) (map Oid places)) (numbered cells)) (one_found 0 i i cells (sym (zero-add i)) h.0)
     ∙ ap (λ r. (Oid m, get_or cells i Nil) ∷ r) (gathered_from (m + 1) cells places h.1)
 
--- a join of counted oids with counted cells gives the cells at these places
+-- a join of counted oids with counted cells yields the cells at these places
 pub gathered : (cells : List Cell) (places : List ℕ) → AllByRecursion (IsBelow (length cells)) places
     → joined (numbered (map Oid places)) (numbered cells) ≡ numbered (map (λ i. get_or cells i Nil) places)
 gathered cells places h = gathered_from 0 cells places h

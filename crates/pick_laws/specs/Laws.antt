@@ -1,4 +1,4 @@
--- What operators give of columns that have a cell for each pick.
+-- What operators make of columns that have a cell for each pick.
 use Rattle.std.specs.Prelude.{◌≡◌, ℕ, ◌<◌, List, ◌∷◌, length, map, filter, Bool, true, not, ◌&&◌, ◌||◌, Option, get_or, unwrap_or}
 use Rattle.std.specs.List.{AllByRecursion, range_with_len}
 use Rattle.std.specs.Option.{option_map}
@@ -12,14 +12,14 @@ use Rattle.pick_laws.specs.Picks.{IsBelow, row_numbers, cell_in, beside, oids, s
 use Rattle.pick_laws.specs.Shapes.{Shape, any_each, as_value, cells_at, each_or_none}
 use Rattle.pick_laws.specs.Numbers.{Agrees, alike, firsts, number_oids, new_number, derived_number, numbers_from, all_same}
 
--- what places of columns give
+-- how the cells at places are gathered
 pub record PlacesAreGathered (P Y : Type 0) : Type 0 where
   -- the heads of any BAT, counted
   pub counting : (b : Pairs) → reversed (marked (Oid 0) b) ≡ numbered (heads_of b)
   -- a join with the oids of places takes the cells at these places
   pub gather : (cells : List Cell) (places : List ℕ) → AllByRecursion (IsBelow (length cells)) places
       → joined (numbered (map Oid places)) (numbered cells) ≡ numbered (map (λ i. get_or cells i Nil) places)
-  -- the same where each pick stands as often as it spreads
+  -- the same where each pick occurs as often as it spreads
   pub spreading : (h : P → List Y) (g : P → Cell) (picks : List P)
       → joined (numbered (map Oid (spread_places h 0 picks))) (numbered (map g picks)) ≡ numbered (map (λ (q : P × Y). g q.0) (spread h picks))
 
@@ -51,16 +51,16 @@ pub record ShapesStay (P : Type 0) : Type 0 where
   -- the picks whose cell is true, counted, take what each column has for them
   pub keep : (a g : P → Cell) (picks : List P)
       → joined (numbered (heads_of (selected (Bit true) (Bit true) true true (numbered (map a picks))))) (numbered (map g picks)) ≡ numbered (map g (filter (λ p. is_true (a p)) picks))
-  -- a function of cells gives a cell for each pick, or overflows where it does for one
+  -- a function of cells returns a cell for each pick, or overflows where it does for one
   pub functions : (f : List Cell → Option Cell) (shapes : List (Shape P)) → any_each shapes ≡ true → (picks : List P)
       → calculated f (map (as_value picks) shapes) ≡ option_map (as_value picks) (each_or_none (λ p. f (cells_at shapes p)) picks)
   -- a scalar beside each pick
   pub project : (c : Cell) (g : P → Cell) (picks : List P) → projected c (numbered (map g picks)) ≡ numbered (map (λ p. c) picks)
-  -- shown as columns they give a row for each pick
+  -- shown as columns they make a row for each pick
   pub output : (shapes : List (Shape P)) (picks : List P) → any_each shapes ≡ true
       → rows_of (map (as_value picks) shapes) (unwrap_or (shortest (map (as_value picks) shapes)) 1) ≡ map (cells_at shapes) picks
 
--- what grouping gives
+-- the results of grouping
 pub record GroupsAreNumbered (P : Type 0) : Type 0 where
   pub new : (v : P → Cell) (picks : List P) → grouped (numbered (map v picks)) ≡ number_oids (new_number v picks) picks
   pub derive : (n : P → ℕ) (v : P → Cell) (picks : List P) → derived (number_oids n picks) (numbered (map v picks)) ≡ number_oids (derived_number n v picks) picks

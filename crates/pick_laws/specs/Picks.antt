@@ -24,7 +24,7 @@ row_numbers rows = range_with_len 0 (length rows)
 abbrev pub cell_in : List (List Cell) → ℕ → ℕ → Cell
 cell_in rows place k = slice_index_or (get_or rows k []) place Nil
 
--- the oid of each row beside what a function gives of its number
+-- the oid of each row beside the value of a function at its number
 abbrev pub beside : (ℕ → Cell) → List ℕ → Pairs
 beside f ks = map (λ k. (Oid k, f k)) ks
 

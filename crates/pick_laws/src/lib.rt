@@ -1,10 +1,10 @@
-//! What the operators of plans give of columns that have one cell for each pick.
+//! What the operators of plans make of columns that have one cell for each pick.
 //!
-//! Behind the candidates of a query each column of a plan is such a column: a list of picks, each with
-//! its place, and a cell for each. Joins and cross products spread picks to more picks, conditions keep
-//! some of them, functions of cells are computed pick by pick, and groups leave the first pick of each.
-//! No plan and no SQL stands here: both translators rest on these laws. The public calls state them and
-//! run nothing.
+//! After the candidates of a query each column of a plan is such a column: a list of picks, each
+//! with its place, and a cell for each. Joins and cross products spread picks to more picks,
+//! conditions keep some of them, functions of cells are computed pick by pick, and groups leave the
+//! first pick of each. Neither plans nor SQL occur here: both translators use these laws. The
+//! public calls state them and run nothing.
 #![tactic(auto)]
 
 ghost use Rattle.pick_laws.specs.Laws.{GroupsAreNumbered, PicksSpread, PlacesAreGathered, RowsAreKept, ShapesStay};
@@ -25,7 +25,7 @@ pub fn rows_are_kept()
     ensures { RowsAreKept }
 {}
 
-/// Keeping, computing, spreading a scalar and showing rows: each gives a cell for each pick again.
+/// Keeping, computing, spreading a scalar and showing rows: each yields a cell for each pick again.
 pub fn shapes_stay<P>()
     ensures { ShapesStay P }
 {}

@@ -8,18 +8,18 @@ use Rattle.mal_opt.specs.Optimisers.{optimise}
 use Rattle.rows_to_mal.specs.Conjuncts.{Scope}
 use Rattle.rows_to_mal.specs.Rows.{statement_scope}
 use Rattle.group_to_mal.specs.QueryPlan.{query_plan}
-use Rattle.sql_semantics.specs.Answer.{answer, answer_of_stmt, query_of}
-use Rattle.sql_semantics.specs.Valid.{IsValid}
+use Rattle.sql_definitions.specs.Answer.{answer, answer_of_stmt, query_of}
+use Rattle.sql_definitions.specs.Valid.{IsValid}
 use Rattle.mal_meaning.specs.Meaning.{plan_rows}
 use Rattle.rows_to_mal.specs.Laws.{HoldsTables}
-use Rattle.sql_semantics.specs.declared.source.Source.{Source}
+use Rattle.sql_definitions.specs.declared.source.Source.{Source}
 use Rattle.plan_queries.specs.Plans.{optimised_plan, plan_over, refusal_over, sources_over}
 use Rattle.sql_tree.specs.Tree.{QueryTree}
 use Rattle.sql_tree.specs.Tree.StmtTree.{Select, ExplainSelect}
-use Rattle.sql_semantics.specs.Check.{check_refusal, sources_named, tables_of}
-use Rattle.sql_semantics.specs.Sources.{schema_of}
-use Rattle.sql_semantics.specs.declared.refusal.Refusal.{Refusal}
-use Rattle.sql_semantics.specs.declared.source.Schema.{Schema}
+use Rattle.sql_definitions.specs.Check.{check_refusal, sources_named, tables_of}
+use Rattle.sql_definitions.specs.Sources.{schema_of}
+use Rattle.sql_definitions.specs.declared.refusal.Refusal.{Refusal}
+use Rattle.sql_definitions.specs.declared.source.Schema.{Schema}
 use Rattle.sql_tree.specs.Tree.{StmtTree}
 
 -- what was found of the statement over the database's schema

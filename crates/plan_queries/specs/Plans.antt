@@ -3,10 +3,10 @@ use Rattle.std.specs.Prelude.{List, Option}
 use Rattle.cell_core.specs.declared.table.Db.{Db}
 use Rattle.sql_tree.specs.Tree.{QueryTree, StmtTree}
 use Rattle.sql_tree.specs.Tree.StmtTree.{Select}
-use Rattle.sql_semantics.specs.Check.{check_refusal, sources_named, tables_of}
-use Rattle.sql_semantics.specs.Sources.{schema_of}
-use Rattle.sql_semantics.specs.declared.refusal.Refusal.{Refusal}
-use Rattle.sql_semantics.specs.declared.source.Source.{Source}
+use Rattle.sql_definitions.specs.Check.{check_refusal, sources_named, tables_of}
+use Rattle.sql_definitions.specs.Sources.{schema_of}
+use Rattle.sql_definitions.specs.declared.refusal.Refusal.{Refusal}
+use Rattle.sql_definitions.specs.declared.source.Source.{Source}
 use Rattle.mal_meaning.specs.declared.plan.Plan.{Plan}
 use Rattle.mal_opt.specs.Optimisers.{optimise}
 use Rattle.rows_to_mal.specs.Conjuncts.{Scope}

@@ -126,7 +126,7 @@ kept_absent p id (e ∷ es) none =
     kept_absent p id es other.1
     ∙ sym (ap (λ b. cond ((b || false) && p e) (e ∷ filter (λ (e : PoolEntry). is_one_of (id ∷ []) e.id && p e) es) (filter (λ (e : PoolEntry). is_one_of (id ∷ []) e.id && p e) es)) other.0)
 
--- those behind have other ids
+-- later entries have other ids
 behind : (from next : ℕ) (es : List PoolEntry) (id : ℕ) → id < from → Rises from next (faces es) → None ≡ entry_of_id id es
 behind from next es id low up = none_there es id (λ k d within is. let more = first_up from next es k d up within in omega (arith, more, is, low))
 

@@ -2,7 +2,7 @@
 use Rattle.std.proofs.Common.{◌≡◌, ℕ, zero, suc, ◌<◌, List, [], ◌∷◌, refl, arith, length, slice_index_or}
 use Rattle.std.specs.List.{AllByRecursion}
 
--- whatever stands behind the end
+-- whatever is past the end
 pub read_any : {X : Type 0} (xs : List X) (k : ℕ) (d e : X) → k < length xs → slice_index_or xs k d ≡ slice_index_or xs k e
 read_any [] k d e low = absurd (omega arith)
 read_any (x ∷ xs) zero d e low = refl

@@ -1,4 +1,4 @@
--- The shapes that have numbers, and their credits, once a shape has one.
+-- The shapes with numbers, and their credits, once a shape has a number.
 use Rattle.std.specs.Prelude.{ℕ, List, [], ◌∷◌, ◌++◌}
 use Rattle.std.specs.Option.{option_map_or}
 use Rattle.lineage_key.specs.declared.shape.Shape.{Shape}

@@ -1,4 +1,4 @@
--- What is asked of the entries of a pool before they are found by their ids, used, or pay back.
+-- What is required of the entries of a pool before they are found by their ids, used, or pay back.
 use Rattle.std.specs.Prelude.{ℕ, ◌+◌, ◌^◌, ◌≤◌, ◌<◌, List, length, count_by}
 use Rattle.std.specs.List.{AllByRecursion}
 use Rattle.evict_admit.specs.Credits.{Credits}

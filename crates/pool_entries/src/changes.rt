@@ -1,4 +1,4 @@
-//! Entries that are used, held and let go, and their bytes.
+//! Uses and pins of entries, and their bytes.
 ghost use Rattle.std.specs.Prelude.{◌≡◌, ◌<◌, ◌^◌, [], ◌∷◌, map};
 ghost use Rattle.std.specs.List.{AllByRecursion};
 ghost use Rattle.std.specs.Vec.{vec_capacity};
@@ -22,7 +22,7 @@ pub fn total_bytes(entries: &[PoolEntry]) -> u64
     total
 }
 
-/// The entry with this id is used.
+/// Notes a use of the entry with this id.
 pub fn use_id(entries: &mut Vec<PoolEntry>, id: u64, who: Who, now: u64)
     requires rising { HaveRisingIds entries.old.items }
     requires usable { AllByRecursion CanUse entries.old.items }
@@ -35,7 +35,7 @@ pub fn use_id(entries: &mut Vec<PoolEntry>, id: u64, who: Who, now: u64)
     }
 }
 
-/// A session holds the entry with this id.
+/// Notes that a session holds the entry with this id.
 pub fn pin_id(entries: &mut Vec<PoolEntry>, id: u64, who: Who)
     requires session { who.session < 17 }
     requires rising { HaveRisingIds entries.old.items }
@@ -48,7 +48,7 @@ pub fn pin_id(entries: &mut Vec<PoolEntry>, id: u64, who: Who)
     }
 }
 
-/// A session holds none of the entries any more.
+/// Notes that a session no longer holds any entry.
 pub fn unpin_all(entries: &mut Vec<PoolEntry>, session: u32)
     requires { session < 17 }
     ensures entries { entries.new.items ≡ map (unpinned session) entries.old.items }

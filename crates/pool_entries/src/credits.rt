@@ -19,7 +19,7 @@ pub fn is_spent(ledger: &Ledger, shape: u32) -> bool
     shape > 0 && ledger.credit(shape) == 0
 }
 
-/// One credit is paid, where shapes have credits.
+/// Pays one credit, where shapes have credits.
 pub fn pay(ledger: &mut Ledger, shape: u32)
     requires last { shape ≤ length ledger.old.each }
     requires first { 0 < length ledger.old.each → 0 < shape }
@@ -32,7 +32,7 @@ pub fn pay(ledger: &mut Ledger, shape: u32)
     }
 }
 
-/// One credit more for a shape, where shapes have credits.
+/// Pays one credit back to a shape, where shapes have credits.
 fn pay_back(ledger: &mut Ledger, shape: u32)
     requires last { shape ≤ length ledger.old.each }
     requires first { 0 < length ledger.old.each → 0 < shape }
@@ -45,7 +45,7 @@ fn pay_back(ledger: &mut Ledger, shape: u32)
     }
 }
 
-/// The entry's credit is paid back, where it is to be.
+/// Pays the entry's credit back, if it is to be paid back.
 pub fn pay_back_if(ledger: &mut Ledger, entry: &PoolEntry, pays: bool)
     requires unpaid { pays ≡ true → entry.now.is_paid ≡ false }
     requires owed { IsOwed ledger.old (entry.now ∷ []) }
@@ -58,7 +58,7 @@ pub fn pay_back_if(ledger: &mut Ledger, entry: &PoolEntry, pays: bool)
     }
 }
 
-/// The entry with this id pays its credit back, where its use does.
+/// Pays back the credit of the entry with this id, where this use does so.
 pub fn pay_back_id(ledger: &mut Ledger, entries: &[PoolEntry], id: u64, who: Who)
     requires rising { HaveRisingIds entries.now }
     requires owed { IsOwed ledger.old entries.now }

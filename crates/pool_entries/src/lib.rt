@@ -1,9 +1,9 @@
-//! The entries of a pool, in the order of their ids: found by halves, used, held and let go; their shapes,
-//! which have numbers; and the credits of these, which are paid and paid back.
+//! The entries of a pool, in the order of their ids: found by halves, used, held and released;
+//! their shapes, which have numbers; and the credits of these, which are paid and paid back.
 //!
-//! It knows a list of entries, a list of shapes and a ledger, each by itself, and no pool. It stands on
-//! `pool_policy`, whose definitions its contracts cite, on `lineage_key` for keys and shapes, and on
-//! `evict_admit` for the ledger. Where memory ends all is as it was.
+//! Its calls take a list of entries, a list of shapes and a ledger, each by itself, and no pool. It
+//! builds on `pool_policy`, whose definitions its contracts cite, on `lineage_key` for keys and
+//! shapes, and on `evict_admit` for the ledger. Where memory runs out, all is as it was.
 #![tactic(auto)]
 
 mod by_id;

@@ -73,7 +73,7 @@ fn find_number(shapes: &[Shape], shape: &Shape) -> Option<u32>
     None
 }
 
-/// The number of a shape, which is new where it has none yet: then it has a credit to start with.
+/// The number of a shape. A shape without a number gets a new one, and a credit to start with.
 fn number_shape(shapes: &mut Vec<Shape>, ledger: &mut Ledger, shape: Shape) -> Result<u32, Memory>
     requires few { length shapes.old.items < 2 ^ 30 }
     requires same { length shapes.old.items ≡ length ledger.old.each }
@@ -95,7 +95,8 @@ fn number_shape(shapes: &mut Vec<Shape>, ledger: &mut Ledger, shape: Shape) -> R
     }
 }
 
-/// The number of the shape of a key, where shapes have credits; else 0. Memory leaves all as it was.
+/// The number of the shape of a key, where shapes have credits; else 0. Where memory runs out, all
+/// is as it was.
 pub fn give_number(
     shapes: &mut Vec<Shape>,
     ledger: &mut Ledger,

@@ -59,7 +59,7 @@ between parent xs low high in_low parted_low in_high parted_high =
     ∙ filter_twice (λ (p : ℕ × ℕ). nat_le p.0 parent) (λ (p : ℕ × ℕ). not (nat_lt p.0 parent)) xs
     ∙ (λ i. filter (λ (p : ℕ × ℕ). only_equal p.0 parent i) xs)
 
--- a pair before others of other parents may as well stand behind them
+-- a pair before others of other parents may be moved after them
 moved_behind : (other : ℕ) (y : ℕ × ℕ) (xs : List (ℕ × ℕ)) → ((k : ℕ) (d : ℕ × ℕ) → 0 ≤ k → k < length xs → nat_le (slice_index_or xs k d).0 y.0 ≡ false) → under other (y ∷ xs) ≡ under other (xs ++ y ∷ [])
 moved_behind other y [] above = refl
 moved_behind other y (x ∷ xs) above = let rest = moved_behind other y xs (λ k d h low. above (suc k) d (omega arith) (omega arith)) in
@@ -72,7 +72,7 @@ moved_behind other y (x ∷ xs) above = let rest = moved_behind other y xs (λ k
     differs : x.0 ≡ other → nat_le x.0 y.0 ≡ false → (y.0 == other) ≡ false
     differs same more = grind (arith, nat_tests)
 
--- a pair that is added behind all of its parent
+-- a pair that is added after all of its parent
 pub added : (other : ℕ) (y : ℕ × ℕ) (xs : List (ℕ × ℕ)) (n : ℕ) → n ≤ length xs → ((k : ℕ) (d : ℕ × ℕ) → n ≤ k → k < length xs → nat_le (slice_index_or xs k d).0 y.0 ≡ false) → under other (insert xs n y) ≡ under other (xs ++ y ∷ [])
 added other y [] zero low above = refl
 added other y [] (suc n) low above = absurd (omega arith)

@@ -6,8 +6,8 @@ use cell_core::Memory;
 use std::alloc::Global;
 use std::marker::Model;
 
-/// Ids under those of their first parents, as pairs of both. Those of one parent stand together, in the
-/// order in which they were added.
+/// Ids under those of their first parents, as pairs of both. Those of one parent are together, in
+/// the order in which they were added.
 #[derive(Drop)]
 pub struct Children {
     pairs: Vec<(u64, u64)>,
@@ -34,7 +34,7 @@ impl Children {
         Ok(Children { pairs })
     }
 
-    /// The pairs of a parent, which are found by halves.
+    /// The pairs of a parent, found by halves.
     pub fn of(&self, parent: u64) -> &[(u64, u64)]
         ensures { result.now ≡ under parent self.now.pairs }
     {
@@ -43,7 +43,7 @@ impl Children {
         &from[..count_up_to(from, parent)]
     }
 
-    /// Adds an id under its parent, behind those that are there.
+    /// Adds an id under its parent, after those that are there.
     pub fn add(&mut self, parent: u64, id: u64)
         requires { length self.old.pairs < self.old.room }
         ensures pairs { (other : ℕ) → under other self.new.pairs ≡ under other (self.old.pairs ++ (parent, id) ∷ []) }
@@ -56,7 +56,7 @@ impl Children {
         }
     }
 
-    /// Takes out the pairs of these ids.
+    /// Removes the pairs of these ids.
     pub fn take_out(&mut self, gone: &[u64])
         ensures pairs { self.new.pairs ≡ filter (λ p. not (is_in gone.now p.1)) self.old.pairs }
         ensures room { self.new.room ≡ self.old.room }
@@ -68,7 +68,7 @@ impl Children {
         );
     }
 
-    /// Takes all out, and keeps the room.
+    /// Removes all pairs, and keeps the room.
     pub fn clear(&mut self)
         ensures pairs { self.new.pairs ≡ [] }
         ensures room { self.new.room ≡ self.old.room }

@@ -1,9 +1,10 @@
-//! By what a pool finds at once an entry with a key, and those that stand on a result: the prints of keys
-//! with the ids under them, and ids under those of their first parents. And beside the ids their parents.
+//! The indexes by which a pool finds an entry with a key, and those computed from a result, without
+//! a search of all: the prints of keys with the ids under them, and ids under those of their first
+//! parents. Beside these it keeps ids with their parents.
 //!
-//! It stands on `lineage_key` for keys and on `indexmap`. A key's print is a number that equal keys have
-//! in common. `Prints` keeps an id under a print, `Children` ids under a parent, `Parents` the parents of
-//! ids, all in room that is taken at the start, so that no later call takes memory.
+//! It builds on `lineage_key` for keys and on `indexmap`. A key's print is a number that equal keys
+//! have in common. `Prints` keeps an id under a print, `Children` ids under a parent, `Parents` the
+//! parents of ids. All have room that is taken at the start, so that no later call takes memory.
 #![tactic(auto)]
 
 mod children;

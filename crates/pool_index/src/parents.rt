@@ -5,7 +5,7 @@ use cell_core::Memory;
 use std::alloc::Global;
 use std::marker::Model;
 
-/// An id and its two parents, where 0 stands for none.
+/// An id and its two parents, 0 where there is none.
 #[derive(Clone, Copy)]
 pub struct Kin {
     /// The id.
@@ -14,7 +14,7 @@ pub struct Kin {
     pub parents: [u64; 2],
 }
 
-/// Ids with their parents, in the order in which they were added: so that the parents of all are read in
+/// Ids with their parents, in the order in which they were added. The parents of all are read in
 /// one pass over a plain list.
 #[derive(Drop)]
 pub struct Parents {
@@ -46,7 +46,7 @@ impl Parents {
         self.kin.as_slice()
     }
 
-    /// Adds an id with its parents, behind those that are there.
+    /// Adds an id with its parents, after those that are there.
     pub fn add(&mut self, kin: Kin)
         requires { length self.old.kin < self.old.room }
         ensures kin { self.new.kin ≡ self.old.kin ++ kin ∷ [] }
@@ -57,7 +57,7 @@ impl Parents {
         }
     }
 
-    /// Takes out these ids. The others stay in their order.
+    /// Removes these ids. The others stay in their order.
     pub fn take_out(&mut self, gone: &[u64])
         ensures kin { self.new.kin ≡ filter (λ k. not (is_in gone.now k.id)) self.old.kin }
         ensures room { self.new.room ≡ self.old.room }
@@ -69,7 +69,7 @@ impl Parents {
         );
     }
 
-    /// Takes all out, and keeps the room.
+    /// Removes all ids, and keeps the room.
     pub fn clear(&mut self)
         ensures kin { self.new.kin ≡ [] }
         ensures room { self.new.room ≡ self.old.room }

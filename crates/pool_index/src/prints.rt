@@ -37,7 +37,7 @@ impl Prints {
         self.ids.get(&print).copied()
     }
 
-    /// Whether there is no room for one more.
+    /// Whether there is no room for another print.
     pub fn is_full(&self) -> bool
         ensures { result ≡ nat_le self.now.room (length self.now.names) }
     {
@@ -61,7 +61,7 @@ impl Prints {
         }
     }
 
-    /// Takes all out, and keeps the room.
+    /// Removes all ids, and keeps the room.
     pub fn clear(&mut self)
         ensures names { self.new.names ≡ [] }
         ensures room { self.old.room ≤ self.new.room }

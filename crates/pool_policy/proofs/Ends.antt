@@ -1,4 +1,4 @@
--- What holds of lists one behind the other, and of what is found in them.
+-- What holds of lists one after the other, and of what is found in them.
 use Rattle.std.proofs.Common.{◌≡◌, List, [], ◌∷◌, ◌++◌, Bool, true, false, Option, Some, None, ◌⊎◌, inl, inr, refl, ap, sym, ◌∙◌}
 use Rattle.std.specs.Prelude.{if◌then◌else◌}
 use Rattle.std.specs.List.{AllByRecursion, find, filter_map, cons_option}

@@ -33,7 +33,7 @@ all_of table = record { table = table; columns = a ∷ b ∷ c ∷ []; old_rows 
 abbrev adds_to_a : List ℕ → ℕ → List Cell → Touched
 adds_to_a table old_rows cells = record { table = table; columns = a ∷ []; old_rows = old_rows; added = Some ((a, numbered cells) ∷ []) }
 
--- so many writes before anything is pooled, behind which all columns have this version
+-- so many writes before anything is pooled, after which all columns have this version
 abbrev writes : ℕ → PoolOptions → Run
 writes n options = record (start options) { at = n; statement = n; versions = λ t c. n }
 
@@ -198,7 +198,7 @@ below_five = range_plan Nil (Int (pos 5)) true false
 abbrev behind_write : Asking → Touched → ℕ → Asking
 behind_write q touched version = behind (wrote touched (λ table column. version) 0 q.run) q
 
--- a row is added while a query runs, behind its first admission: the bind comes back under a fresh id, and what names the old one is an orphan
+-- a row is added while a query runs, after its first admission: the bind comes back under a fresh id, and what names the old one is an orphan
 abbrev bind_carried : Run
 bind_carried = ended (rest_of_plan below_five)
   where
@@ -225,7 +225,7 @@ dropped_and_made =
 all_dropped : told dropped_and_made ≡ (record (found 0 0 0 12) { taken = 12; dropped = 6; peak = 424; work = 24 }, 6, 424, range_with_len 7 6)
 all_dropped = refl
 
--- all that a query made comes back behind a new row, and is found again
+-- all that a query made comes back after a new row, and is found again
 abbrev made_longer_in : PoolOptions → Run
 made_longer_in options =
     let first = from_to 2 3 three (writes 2 options) in
@@ -257,7 +257,7 @@ other_columns_stay = refl
 past_the_budget : told (made_longer_in (record ample { budget = 512 })) ≡ (record (found 5 0 0 7) { taken = 6; noroom = 1; evicted = 1; carried = 6; peak = 512; work = 51 }, 5, 488, range_with_len 7 5)
 past_the_budget = refl
 
--- a comparison of two columns, behind which two rows are added: marks go on counting, joins meet the new rows, and the comparison goes on; but the places of the rows that were kept are joined with a result that grew, and so they and what they give are dropped
+-- a comparison of two columns, after which two rows are added: marks go on counting, joins meet the new rows, and the comparison goes on; but the places of the rows that were kept are joined with a result that grew, and so they and their results are dropped
 abbrev compared : List ℕ → List ℕ → Content
 compared of_column_a of_column_b table column = if bytes_eq column a then cells of_column_a else cells of_column_b
 

@@ -102,7 +102,7 @@ rooted_on fs gs f same known = record {
   told = known.told;
 }
 
--- ## Two lists of entries, one behind the other
+-- ## Two lists of entries, one after the other
 
 pub faces_append : (xs ys : List PoolEntry) → faces (xs ++ ys) ≡ faces xs ++ faces ys
 faces_append [] ys = refl

@@ -55,7 +55,7 @@ distinct_ids kept from next (e ∷ es) up = (
   distinct_ids kept (e.id + 1) next es up.1,
 )
 
--- rows that can be weighed, whatever the bytes of their entries are within
+-- rows that can be compared, whatever the bytes of their entries are within
 pub ids_fit : (kept : List ℕ) (budget : ℕ) (pool : PoolState) → IsPoolWithin budget pool → All (λ (r : Row). 0 < r.id) (rows_of kept pool.entries)
 ids_fit kept budget pool known = all_from_in (λ (r : Row). 0 < r.id) (rows_of kept pool.entries) (λ r i.
     let e = map_in (row_of kept) pool.entries r i in

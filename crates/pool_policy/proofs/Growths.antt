@@ -15,9 +15,9 @@ use Rattle.cell_core.specs.Operators.{operate, of_range, of_bat}
 use Rattle.cell_core.specs.Pairs.{Pairs, is_true, as_bat}
 use Rattle.cell_core.specs.Relations.{selected, reversed, mirrored, marked, projected, joined}
 use Rattle.lineage_key.specs.Parents.{is_bind}
-use Rattle.append_laws.specs.Grown.{raised, stand_below, grown, AreGrown, HasBat}
-use Rattle.append_laws.proofs.Appends.{selected_append, reversed_append, mirrored_append, projected_append, marked_append, joined_append, joined_grown, joined_both}
-use Rattle.append_laws.proofs.Calculated.{calculated_append}
+use Rattle.reuse_laws.specs.Grown.{raised, stand_below, grown, AreGrown, HasBat}
+use Rattle.reuse_laws.proofs.Appends.{selected_append, reversed_append, mirrored_append, projected_append, marked_append, joined_append, joined_grown, joined_both}
+use Rattle.reuse_laws.proofs.Calculated.{calculated_append}
 use Rattle.pool_policy.specs.Writes.{Source, as_deltas, has_length, have_one_length, of_selection, of_sole, of_projection, of_mark, of_calculation, of_two, of_single, of_join, delta_of}
 use Rattle.pool_policy.specs.Writes.Source.{Plain, Same, Grown}
 use Rattle.pool_policy.specs.Writes.Growth.{Runs, Nothing, NoForm}
@@ -113,7 +113,7 @@ join_grows rows _ b d known e h = cc
 
 -- ## Calculations
 
--- where what follows each BAT is told, the sources are constants and BATs that grew
+-- where what follows each BAT is known, the sources are constants and BATs that grew
 pieces_grow : (rows n : ℕ) (sources : List Source) (values : List Value) → AllByRecursion (IsGrown rows) sources → as_deltas sources ≡ Some values → list_all (has_length n) sources ≡ true
     → AreGrown n (map old_value sources) values × (map new_value sources ≡ grown (map old_value sources) values)
 pieces_grow rows n [] values known e all = let none : [] ≡ values = cc in subst (λ vs. AreGrown n [] vs × ([] ≡ grown [] vs)) none (tt, refl)

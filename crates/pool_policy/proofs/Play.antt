@@ -72,7 +72,7 @@ start options = record { pool = empty_pool options; at = 0; statement = 0; versi
 abbrev tallied_write : Written → Tally → Tally
 tallied_write w t = record t { dropped = t.dropped + w.dropped; carried = t.carried + w.carried; evicted = t.evicted + w.evicted; work = t.work + w.work; peak = max t.peak (pool_bytes w.pool.entries) }
 
--- a write that touches some columns, behind which the columns have these versions; one by a plan counts its load
+-- a write that touches some columns, after which the columns have these versions; one by a plan counts its load
 abbrev pub wrote : Touched → Versions → ℕ → Run → Run
 wrote touched versions load run =
     let w = write_of touched (run.at + 1) run.pool in
@@ -186,7 +186,7 @@ ended q = record q.run { at = q.run.at + 1; pool = release_of q.who.session q.ru
 abbrev pub asked : ℕ → Content → List Instr → Run → Run
 asked session content plan run = ended (fold (stepped content) (begun session run) plan)
 
--- a query goes on behind what others did
+-- a query goes on after what others did
 abbrev pub behind : Run → Asking → Asking
 behind run q = record q { run = run }
 

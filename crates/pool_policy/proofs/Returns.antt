@@ -12,7 +12,7 @@ use Rattle.lineage_key.specs.declared.key.KeyArg.TheVariants.{Const, Id}
 use Rattle.lineage_key.specs.Parents.{id_in, is_bind, column_of}
 use Rattle.evict_admit.specs.Runs.{is_one_of}
 use Rattle.subsume.proofs.Members.{In, contains_from_in}
-use Rattle.append_laws.specs.Grown.{AreFrom}
+use Rattle.reuse_laws.specs.Grown.{AreFrom}
 use Rattle.pool_policy.specs.declared.entry.PoolEntry.{PoolEntry}
 use Rattle.pool_policy.specs.declared.touched.Touched.{Touched}
 use Rattle.pool_policy.specs.Pool.{PoolState}
@@ -51,7 +51,7 @@ module _ (write : Touched) (now : ℕ) (pool : PoolState) where
   abbrev pub old_faces : List Face
   old_faces = faces pool.entries
 
-  -- an argument before, the one after, and what it stands for
+  -- an argument before, the one after, and its source
   abbrev pub IsArg : List Return → KeyArg → KeyArg → Source → Type 0
   IsArg rs (Const c) (Const d) (Plain e) = (c ≡ d) × (c ≡ e)
   IsArg rs (Id n) (Id m) (Same v) = (n ≡ m) × (is_one_of touched n ≡ false) × (value_in old_faces n ≡ Some v)
@@ -169,7 +169,7 @@ module _ (write : Touched) (now : ℕ) (pool : PoolState) where
   same_args rs (Id n ∷ args) e = cc
 
   module _ (known : IsPool pool) (fits : IsWrite write now pool) where
-    -- what a growth tells
+    -- what a growth of a bind shows
     grown_rows : (e : PoolEntry) (o : Option (List (List ℕ × Pairs))) → write.added ≡ o → (rs : List Return) (d : Pairs) → is_bind e.key ≡ true
         → delta_of e.key.op (option_map_or (λ added. if is_bind e.key then of_rows write.old_rows (column_of e.key) added else option_map_or (grows write.old_rows e.key.op) (all_or_none (map (source_of touched pool.entries rs) e.key.args)) NoForm) o NoForm) ≡ Some d
         → (columns : List (List ℕ × Pairs)) × (column : List ℕ × Pairs) × (write.added ≡ Some columns) × In column columns × (bytes_eq column.0 (column_of e.key) ≡ true) × (d ≡ drop write.old_rows column.1)

@@ -1,4 +1,4 @@
--- What is touched takes all that stands on it along; so what is left of a pool that forgets is a pool.
+-- What is computed from something touched is touched too; so what is left of a pool that forgets is a pool.
 use Rattle.std.proofs.Common.{◌≡◌, ℕ, ◌+◌, ◌≤◌, ◌<◌, List, [], ◌∷◌, ◌++◌, Bool, true, false, not, ◌||◌, ◌⊎◌, inl, inr, refl, ap, sym, ◌∙◌, subst, arith}
 use Rattle.std.specs.Prelude.{fold, if◌then◌else◌}
 use Rattle.std.specs.List.{list_any}

@@ -90,13 +90,29 @@ last_two true true false x = x
 last_two true false c x = x
 last_two false b c x = cc
 
+module _ (write : Touched) (now : ℕ) (pool : PoolState) (later : pool.moment < now) (known : IsPool pool) (fits : IsWrite write now pool) where
+  -- what comes back was of a touched column, where it is a bind
+  pub was_touched : (r : Return) → In r (all_back write now pool) → is_bind r.old.key ≡ true → is_of write (table_of r.old.key) (column_of r.old.key) ≡ true
+  was_touched r i was =
+      let told : IsBack write now pool (all_back write now pool) r = told_back write now pool known fits later r i in
+      let one : binds_one write.table write.columns r.old.key ≡ true = elim (touched_why write.table write.columns 1 pool.next pool.entries [] r.old known.rising (λ n k. absurd k) told.here (among_in (gone write now pool) r.old.id told.touches)) [
+        | inl h ↦ h
+        | inr h ↦ absurd (let none = (entry_rooted pool.options.budget pool known r.old told.here).sole was in subst (λ ids. In h.0 ids) none h.1)
+      ] in
+      last_two (is_bind r.old.key) (bytes_eq (table_of r.old.key) write.table) (list_any (bytes_eq (column_of r.old.key)) write.columns) one
+
+  -- and has the write's moment, also where it goes again at the write's end
+  pub back_current : (old new : Versions) → Moves write now old new → (r : Return) → In r (all_back write now pool) → IsCurrent new r.new.key
+  back_current old new moves r i bind =
+      let told : IsBack write now pool (all_back write now pool) r = told_back write now pool known fits later r i in
+      let was : is_bind r.old.key ≡ true = sym (bind_same write now pool known fits r i) ∙ bind in
+      let version : r.new.key.version ≡ now = told.version ∙ ap (λ b. if b then now else r.old.key.version) was in
+      version ∙ sym (moves.added told.added.0 told.added.1 (table_of r.old.key) (column_of r.old.key) (was_touched r i was)) ∙ ap (λ (xs : List KeyArg). new (first_text xs) (second_text xs)) (sym (told.binds was).0)
+
 module _ (write : Touched) (now : ℕ) (pool : PoolState) (later : pool.moment < now) (known : IsPool pool) (fits : IsWrite write now pool)
     (old new : Versions) (moves : Moves write now old new) (current : AreCurrent old pool) where
   abbrev touched : List ℕ
   touched = gone write now pool
-
-  abbrev backs : List Return
-  backs = all_back write now pool
 
   -- what is left binds columns that were not touched
   stays_current : (e : PoolEntry) → In e pool.entries → is_one_of touched e.id ≡ false → IsCurrent new e.key
@@ -109,22 +125,8 @@ module _ (write : Touched) (now : ℕ) (pool : PoolState) (later : pool.moment <
           let there = in_among touched e.id (binds_touched write.table write.columns pool.entries [] e i one) in
           let wrong : true ≡ false = sym there ∙ out in cc
 
-  -- what comes back has the write's moment
-  back_current : (r : Return) → In r backs → IsCurrent new r.new.key
-  back_current r i bind =
-      let told : IsBack write now pool backs r = told_back write now pool known fits later r i in
-      let was : is_bind r.old.key ≡ true = sym (bind_same write now pool known fits r i) ∙ bind in
-      let args = (told.binds was).0 in
-      let version : r.new.key.version ≡ now = told.version ∙ ap (λ b. if b then now else r.old.key.version) was in
-      let one : binds_one write.table write.columns r.old.key ≡ true = elim (touched_why write.table write.columns 1 pool.next pool.entries [] r.old known.rising (λ n k. absurd k) told.here (among_in touched r.old.id told.touches)) [
-        | inl h ↦ h
-        | inr h ↦ absurd (let none = (entry_rooted pool.options.budget pool known r.old told.here).sole was in subst (λ ids. In h.0 ids) none h.1)
-      ] in
-      let of : is_of write (table_of r.old.key) (column_of r.old.key) ≡ true = last_two (is_bind r.old.key) (bytes_eq (table_of r.old.key) write.table) (list_any (bytes_eq (column_of r.old.key)) write.columns) one in
-      version ∙ sym (moves.added told.added.0 told.added.1 (table_of r.old.key) (column_of r.old.key) of) ∙ ap (λ (xs : List KeyArg). new (first_text xs) (second_text xs)) (sym args)
-
   write_current : AreCurrent new (write_of write now pool).pool
-  write_current = all_written (Current new) write now pool later known fits stays_current back_current
+  write_current = all_written (Current new) write now pool later known fits stays_current (back_current write now pool later known fits old new moves)
 
 pub versions_hold_all : VersionsHold
 versions_hold_all = record {

@@ -28,7 +28,7 @@ use Rattle.pool_policy.proofs.Growths.{growths_serve}
 use Rattle.pool_policy.proofs.Returns.{OldsUp, NewIds, touched, old_faces, IsArgs, IsBack, AreBack, are_back}
 use Rattle.pool_policy.proofs.Ends.{all_append, all_from, in_second}
 
--- ## Two lists of faces, one behind the other
+-- ## Two lists of faces, one after the other
 
 pub rises_append : (from mid next : ℕ) (fs gs : List Face) → Rises from mid fs → Rises mid next gs → Rises from next (fs ++ gs)
 rises_append from mid next [] gs h k = rises_lower from mid next gs h k

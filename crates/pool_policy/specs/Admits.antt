@@ -38,7 +38,7 @@ abbrev pub number_from : ℕ → Shape → List Shape → Option ℕ
 number_from n shape [] = None
 number_from n shape (s ∷ shapes) = if same_shape s shape then Some n else number_from (n + 1) shape shapes
 
--- a shape that is new gets the next number, and a credit to start with
+-- a new shape gets the next number, and a credit to start with
 abbrev pub with_shape : Offer → PoolState → PoolState
 with_shape offer pool =
     let shape = shape_in pool.entries offer.key in
@@ -62,7 +62,7 @@ one_less credit shape = slice_set credit (shape - 1) (credit_of shape credit - 1
 abbrev pub is_held : PoolEntry → Bool
 is_held e = list_any (λ b. b) e.pins
 
--- an entry as it is weighed, where the entries with some ids are kept
+-- an entry as a row of the plan of evictions, where the entries with some ids are kept
 abbrev pub row_of : List ℕ → PoolEntry → Row
 row_of kept e = record { id = e.id; bytes = e.bytes; free = not (is_held e) && not (list_any (λ id. id == e.id) kept); parents = two_parents e.key; stats = e.stats }
 
@@ -79,7 +79,7 @@ evictions_for now offer pool =
 abbrev pub left_without : List ℕ → List PoolEntry → List PoolEntry
 left_without gone entries = filter (λ (e : PoolEntry). not (is_one_of gone e.id)) entries
 
--- an entry that leaves gives its credit back where another session used it and it hasn't done so before
+-- an entry that leaves pays its credit back where another session used it and it hasn't done so before
 abbrev pub pays_at_end : PoolEntry → Bool
 pays_at_end e = e.is_foreign && not e.is_paid
 

@@ -1,4 +1,4 @@
--- That the value of each pooled bind is its column as it stands.
+-- That the value of each pooled bind is its present column.
 use Rattle.std.specs.Prelude.{◌≡◌, ℕ, ◌<◌, List, ◌++◌, true, false, Some, Contains, drop}
 use Rattle.std.specs.List.{AllByRecursion}
 use Rattle.cell_core.specs.Pairs.{Pairs}
@@ -24,7 +24,7 @@ IsColumn columns key value = is_bind key ≡ true → value ≡ columns (table_o
 abbrev pub AreColumns : Columns → PoolState → Type 0
 AreColumns columns pool = AllByRecursion (λ (f : Face). IsColumn columns f.key f.value) (faces pool.entries)
 
--- a write changes the columns: those that it didn't touch stay, and where it only added rows each is the old one, and behind it the new rows
+-- a write changes the columns: those that it didn't touch stay, and where it only added rows each is the old one, followed by the new rows
 pub record Changes (write : Touched) (old new : Columns) : Type 0 where
   pub others : (table column : List ℕ) → is_of write table column ≡ false → new table column ≡ old table column
   pub added : (columns : List (List ℕ × Pairs)) → write.added ≡ Some columns → (column : List ℕ × Pairs) → Contains columns column

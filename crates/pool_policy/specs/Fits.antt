@@ -1,4 +1,4 @@
--- That what a pool hands to the calls below is what these ask for.
+-- That a pool meets what the calls below require.
 use Rattle.std.specs.Prelude.{ℕ, ◌^◌, ◌<◌, ◌≤◌, List, All, length, map, nat_eq}
 use Rattle.std.specs.List.{IsDistinct}
 use Rattle.score_hook.specs.Scores.{IsInRange}

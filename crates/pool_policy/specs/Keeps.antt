@@ -17,7 +17,7 @@ use Rattle.lineage_key.specs.Parents.{parents_of, is_bind}
 use Rattle.pool_policy.specs.Keyed.{is_pooled}
 use Rattle.pool_policy.specs.Admits.{Offer, credit_of, stated_bytes}
 
--- what of an entry never changes while it is pooled
+-- the parts of an entry that never change while it is pooled
 pub record Face : Type 0 where
   pub id : ℕ
   pub key : Key
@@ -53,7 +53,7 @@ arg_value fs (Id n) = Bat (unwrap_or (value_in fs n) [])
 abbrev pub IsParentIn : List Face → ℕ → ℕ → Type 0
 IsParentIn fs id parent = (0 < parent) × (parent < id) × IsSome (value_in fs parent)
 
--- it has at most two parents, which are pooled, and none where it is a bind; its value is its operator over their values, and its bytes are told
+-- it has at most two parents, which are pooled, and none where it is a bind; its value is its operator over their values, and its bytes are the stated ones
 pub record IsRooted (fs : List Face) (f : Face) : Type 0 where
   pub few : length (parents_of f.key) ≤ 2
   pub sole : is_bind f.key ≡ true → parents_of f.key ≡ []

@@ -1,4 +1,4 @@
--- What entries are found by, and the shapes of keys.
+-- Entries found by key or by id, and the shapes of keys.
 use Rattle.std.specs.Prelude.{ℕ, ◌==◌, List, [], ◌∷◌, map, Bool, not, Option, slice_index, position}
 use Rattle.std.specs.List.{find, list_any}
 use Rattle.std.specs.Option.{option_map_or, unwrap_or}
@@ -46,7 +46,7 @@ abbrev pub shape_number_of : List PoolEntry → KeyArg → ℕ
 shape_number_of entries (Const c) = 0
 shape_number_of entries (Id n) = option_map_or (λ (e : PoolEntry). e.shape) (entry_of_id n entries) 0
 
--- five numbers, where 0 stands for no argument
+-- five numbers, 0 where there is no argument
 abbrev pub five : List ℕ → List ℕ
 five ns = slice_index ns 0 ∷ slice_index ns 1 ∷ slice_index ns 2 ∷ slice_index ns 3 ∷ slice_index ns 4 ∷ []
 

@@ -22,7 +22,7 @@ use Rattle.pool_policy.specs.Writes.{forget_of}
 use Rattle.pool_policy.specs.Keeps.{Face, faces, value_in, arg_value, IsPool, IsOffer}
 use Rattle.pool_policy.specs.Worths.{IsGiven, ArePooledWorths, GivesOn, IsWorth, faces_from}
 
--- a pool begins well, and a look later than all before, the end of a statement and what is forgotten leave it so
+-- a pool begins well, and a look later than all before, the end of a statement and a forget leave it so
 pub record LooksKeep : Type 0 where
   pub empty : (options : PoolOptions) → IsPool (empty_pool options)
   pub look : (who : Who) (now : ℕ) (key : Key) (pool : PoolState) → pool.moment < now → IsPool pool → IsPool (after_look who now key pool)
@@ -33,7 +33,7 @@ pub record LooksKeep : Type 0 where
 abbrev pub AdmissionsKeep : Type 0
 AdmissionsKeep = (who : Who) (now : ℕ) (offer : Offer) (pool : PoolState) → pool.moment < now → IsPool pool → IsOffer pool offer → IsPool (admit_of who now offer pool).1
 
--- what was given out is known from the beginning; pooled values are worths; what is an operator over worths may be admitted; and each step goes on with what was given
+-- what was given out is known from the beginning; pooled values are worths; what is an operator over worths may be admitted; and each step adds to what was given out
 pub record ValuesAreWorths : Type 0 where
   pub empty : (options : PoolOptions) → IsGiven [] (empty_pool options)
   pub pooled : (given : List Face) (pool : PoolState) → IsGiven given pool → ArePooledWorths given pool
@@ -53,7 +53,7 @@ value_of pool id = unwrap_or (value_in (faces pool.entries) id) []
 abbrev pub selection_key : ℕ → Cell → Cell → Cell → Cell → ℕ → Key
 selection_key parent low high li hi version = record { op = Select; args = Id parent ∷ Const low ∷ Const high ∷ Const li ∷ Const hi ∷ []; version = version }
 
--- an exact result is what the operator gives of its parents' values; a selection from a containing one is the plain selection, and so are the selections of the pieces, merged by their heads
+-- an exact result is what the operator computes of its parents' values; a selection from a containing one is the plain selection, and so are the selections of the pieces, merged by their heads
 pub record FindingsServe (pool : PoolState) : Type 0 where
   pub exact : (key : Key) (id : ℕ) → look_of pool key ≡ Exact id → is_bind key ≡ false → operate key.op (map (arg_value (faces pool.entries)) key.args) ≡ Some (Bat (value_of pool id))
   pub within : (parent : ℕ) (low high li hi : Cell) (version id : ℕ) → look_of pool (selection_key parent low high li hi version) ≡ Within id

@@ -34,7 +34,7 @@ pub record Moves (write : Touched) (now : ℕ) (old new : Versions) : Type 0 whe
   pub others : (table column : List ℕ) → is_of write table column ≡ false → new table column ≡ old table column
   pub added : (columns : List (List ℕ × Pairs)) → write.added ≡ Some columns → (table column : List ℕ) → is_of write table column ≡ true → new table column ≡ now
 
--- each step keeps that, where an offered bind tells the present version; and then no two pooled binds differ by their versions alone
+-- each step keeps that, where an offered bind has the present version; and then no two pooled binds differ by their versions alone
 pub record VersionsHold : Type 0 where
   pub look : (who : Who) (now : ℕ) (key : Key) (versions : Versions) (pool : PoolState) → AreCurrent versions pool → AreCurrent versions (after_look who now key pool)
   pub release : (session : ℕ) (versions : Versions) (pool : PoolState) → AreCurrent versions pool → AreCurrent versions (release_of session pool)

@@ -7,11 +7,11 @@ use Rattle.cell_core.specs.declared.operator.Value.TheVariants.{Bat, One}
 use Rattle.cell_core.specs.Operators.{operate}
 use Rattle.cell_core.specs.Pairs.{Pairs}
 use Rattle.lineage_key.specs.Parents.{is_bind}
-use Rattle.append_laws.specs.Grown.{AreFrom}
+use Rattle.reuse_laws.specs.Grown.{AreFrom}
 use Rattle.pool_policy.specs.declared.entry.PoolEntry.{PoolEntry}
 use Rattle.pool_policy.specs.declared.touched.Touched.{Touched}
 use Rattle.pool_policy.specs.Pool.{PoolState}
-use Rattle.pool_policy.specs.Writes.{Return, Source, delta_of, grows, returns_of, touched_ids, write_of}
+use Rattle.pool_policy.specs.Writes.{Return, Source, backs_of, delta_of, grows, write_of}
 use Rattle.pool_policy.specs.Keeps.{Face, IsPool, faces}
 use Rattle.pool_policy.specs.Worths.{IsGiven, GivesOn}
 use Rattle.pool_policy.specs.Writes.Source.{Plain, Same, Grown}
@@ -49,12 +49,12 @@ GrowthsServe = (old_rows : ℕ) (op : Op) (sources : List Source) (b d : Pairs) 
 pub record IsWrite (write : Touched) (now : ℕ) (pool : PoolState) : Type 0 where
   pub rows : (added : List (List ℕ × Pairs)) → write.added ≡ Some added → (column : List ℕ × Pairs) → Contains added column → AreFrom write.old_rows (drop write.old_rows column.1)
   pub one_version : (e f : PoolEntry) → Contains pool.entries e → Contains pool.entries f → is_bind e.key ≡ true → is_bind f.key ≡ true → e.key.args ≡ f.key.args → e.key.version ≡ f.key.version
-  pub short : (r : Return) → Contains (returns_of write now (touched_ids write.table write.columns pool.entries) pool) r → length r.new.value < 2 ^ 62
+  pub short : (r : Return) → Contains (backs_of write now pool) r → length r.new.value < 2 ^ 62
 
 -- ## What a write keeps
 
--- a write later than all before leaves a pool, with its bytes within the budget; and it goes on with what was given out, so that pooled values stay worths
+-- a write later than all before leaves a pool, with its bytes within the budget; and it adds to what was given out, so that pooled values stay worths
 pub record WritesKeep : Type 0 where
   pub pool : (write : Touched) (now : ℕ) (pool : PoolState) → pool.moment < now → IsPool pool → IsWrite write now pool → IsPool (write_of write now pool).pool
   pub given : (write : Touched) (now : ℕ) (given : List Face) (pool : PoolState) → pool.moment < now → IsPool pool → IsWrite write now pool → IsGiven given pool
-      → GivesOn given (faces (map (λ (r : Return). r.new) (returns_of write now (touched_ids write.table write.columns pool.entries) pool))) (write_of write now pool).pool
+      → GivesOn given (faces (map (λ (r : Return). r.new) (backs_of write now pool))) (write_of write now pool).pool

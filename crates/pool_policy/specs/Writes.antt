@@ -11,7 +11,7 @@ use Rattle.cell_core.specs.declared.operator.Value.TheVariants.{Bat, One}
 use Rattle.cell_core.specs.Pairs.{Pairs, as_bat}
 use Rattle.cell_core.specs.Calc.{all_or_none}
 use Rattle.cell_core.specs.Operators.{operate, work_of}
-use Rattle.append_laws.specs.Grown.{raised, stand_below}
+use Rattle.reuse_laws.specs.Grown.{raised, stand_below}
 use Rattle.lineage_key.specs.declared.key.Key.{Key}
 use Rattle.lineage_key.specs.declared.key.KeyArg.{KeyArg}
 use Rattle.lineage_key.specs.declared.key.KeyArg.TheVariants.{Const, Id}
@@ -67,14 +67,14 @@ source_of touched entries returns (Id n) = if is_one_of touched n then option_ma
 
 -- ## Append forms
 
--- what follows an old value: new rows, what the operator gives of some values, or nothing; or there is no append form
+-- what follows an old value: new rows, what the operator computes of some values, or nothing; or there is no append form
 pub data Growth : Type 0 where
   NewRows : Pairs → Growth
   Runs : List Value → Growth
   Nothing : Growth
   NoForm : Growth
 
--- a bind: the rows behind the old ones
+-- a bind: the rows after the old ones
 abbrev pub of_rows : ℕ → List ℕ → List (List ℕ × Pairs) → Growth
 of_rows old_rows column added = option_map_or (λ (c : List ℕ × Pairs). NewRows (drop old_rows c.1)) (find (λ (c : List ℕ × Pairs). bytes_eq c.0 column) added) NoForm
 
@@ -199,13 +199,17 @@ come_back write now next touched entries returns e =
 abbrev pub returns_of : Touched → ℕ → List ℕ → PoolState → List Return
 returns_of write now touched pool = fold (come_back write now pool.next touched pool.entries) [] pool.entries
 
+-- what comes back in a write
+abbrev pub backs_of : Touched → ℕ → PoolState → List Return
+backs_of write now pool = returns_of write now (touched_ids write.table write.columns pool.entries) pool
+
 -- ## The write
 
 -- an entry that is touched and doesn't come back
 abbrev pub is_dropped : List ℕ → List Return → PoolEntry → Bool
 is_dropped touched returns e = is_one_of touched e.id && not (is_one_of (map (λ (r : Return). r.old.id) returns) e.id)
 
--- what is touched leaves, and what comes back stands last; the leaving of what comes back pays no credit
+-- what is touched leaves, and what comes back is last; the leaving of what comes back pays no credit
 abbrev pub after_returns : ℕ → List ℕ → List Return → PoolState → PoolState
 after_returns now touched returns pool = record pool {
   entries = left_without touched pool.entries ++ map (λ (r : Return). r.new) returns;
@@ -229,7 +233,7 @@ pub record Written : Type 0 where
 abbrev pub write_of : Touched → ℕ → PoolState → Written
 write_of write now pool =
     let touched = touched_ids write.table write.columns pool.entries in
-    let returns = returns_of write now touched pool in
+    let returns = backs_of write now pool in
     let after = after_returns now touched returns pool in
     let gone = (evictions_after now after).0 in
     record {

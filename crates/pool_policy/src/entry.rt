@@ -20,7 +20,7 @@ pub struct Who {
 pub struct PoolEntry {
     /// Its id, from 1.
     pub id: u64,
-    /// What names it.
+    /// Its key.
     pub key: Key,
     /// Its value.
     pub value: Shared,
@@ -32,15 +32,15 @@ pub struct PoolEntry {
     pub by: Who,
     /// The number of its shape, from 1; 0 where there are no credits.
     pub shape: u32,
-    /// Its credit was paid back.
+    /// Whether its credit was paid back.
     pub is_paid: bool,
-    /// Another session has used it.
+    /// Whether another session has used it.
     pub is_foreign: bool,
-    /// Whether each session holds it, by the numbers of the sessions.
+    /// Whether each session holds it, by the number of the session.
     pub pins: [bool; 17],
 }
 
-// By a call of its own, so that proofs needn't go through its forms where one is let go.
+// By a call of its own, so that proofs needn't go through its forms where one is dropped.
 impl Drop for PoolEntry {
     fn drop(self) {
         let PoolEntry {
@@ -59,7 +59,7 @@ impl Drop for PoolEntry {
 }
 
 impl PoolEntry {
-    /// Whether it was admitted by this session.
+    /// Whether this session admitted it.
     pub fn is_own(&self, who: Who) -> bool
         ensures { result ≡ is_own who self.now }
     {
@@ -80,7 +80,7 @@ impl PoolEntry {
         self.is_foreign && !self.is_paid
     }
 
-    /// One use more.
+    /// Notes one more use.
     pub fn use_by(&mut self, who: Who, now: u64)
         requires reuses { self.old.stats.reuses < 2 ^ 32 }
         requires others { self.old.stats.others < 2 ^ 32 }
@@ -95,7 +95,7 @@ impl PoolEntry {
         self.is_foreign = self.is_foreign || !own;
     }
 
-    /// A session holds it.
+    /// Notes that a session holds it.
     pub fn pin(&mut self, who: Who)
         requires { who.session < 17 }
         ensures { self.new ≡ pinned who self.old }
@@ -103,7 +103,7 @@ impl PoolEntry {
         self.pins[who.session as usize] = true;
     }
 
-    /// A session holds it no more.
+    /// Notes that a session no longer holds it.
     pub fn unpin(&mut self, session: u32)
         requires { session < 17 }
         ensures { self.new ≡ unpinned session self.old }
@@ -118,7 +118,7 @@ impl PoolEntry {
         self.pins.iter().any(|pin| *pin)
     }
 
-    /// It as it is weighed where no parent has to be kept.
+    /// Its row for the plan of evictions, where no parent has to be kept.
     pub fn row_alone(&self) -> Row
         ensures { result ≡ row_of [] self.now }
     {

@@ -1,4 +1,4 @@
-//! What entries are found by, by a look at each.
+//! Finds entries by key or by id, in one pass over all.
 ghost use Rattle.std.specs.Prelude.{◌≡◌, ◌<◌, IfSome, length};
 ghost use Rattle.std.specs.List.{slice_get};
 ghost use Rattle.std.specs.Option.{option_and_then};

@@ -4,61 +4,61 @@ ghost use Rattle.pool_policy.specs.Laws.{AdmissionsKeep, LooksKeep, ReuseIsPlain
 ghost use Rattle.pool_policy.specs.Versions.{VersionsHold};
 ghost use Rattle.pool_policy.specs.WriteLaws.{GrowthsServe, WritesKeep};
 
-/// A pool begins well: ids rise below the next one, keys differ, parents are pooled and older, bytes and
-/// places are kept, each value is its operator over its parents' values, and each shape's credit with
-/// what its entries owe is at most the start. A look, the end of a statement and what is forgotten
-/// leave it so.
+/// A pool begins well: ids rise below the next one, keys differ, parents are pooled and older, and
+/// bytes and places are within their limits. Each value is its operator over its parents' values,
+/// and each shape's credit with what its entries owe is at most the start. A look, the end of a
+/// statement and a forget leave it so.
 pub fn looks_keep()
     ensures { LooksKeep }
 {}
 
-/// An admission leaves it so, where the value that is offered is its operator over the values of its
+/// An admission leaves it so, where the offered value is its operator over the values of its
 /// parents.
 pub fn admissions_keep()
     ensures { AdmissionsKeep }
 {}
 
-/// Each pooled value is the worth of its id: the value under which the id was given out, which is its
-/// operator over the worths of its parents, and which stays for good.
+/// Each pooled value is the worth of its id: the value under which the id was assigned. It is its
+/// operator over the worths of its parents, and never changes.
 pub fn values_are_worths()
     ensures { ValuesAreWorths }
 {}
 
-/// What is computed from what a look finds is what the instruction gives: an exact result as it is, a
-/// selection from a selection whose range contains it, and the selections of the pieces of a cover,
-/// merged by their heads. As lists, order included.
+/// What is computed from what a look finds is what the instruction computes: an exact result as it
+/// is, a selection from a selection whose range contains it, and the selections of the pieces of a
+/// cover, merged by their heads. The lists are equal, order included.
 pub fn reuse_is_plain()
     ensures { ReuseIsPlain }
 {}
 
-/// What comes back in a write that only adds rows is its operator over what its arguments are then, by
-/// work on what follows them alone.
+/// An entry that comes back in a write that only adds rows has the value of its operator over its
+/// arguments after the write, by work on what follows their old values alone.
 pub fn growths_serve()
     ensures { GrowthsServe }
 {}
 
-/// A write leaves a pool well: what is touched leaves, what comes back stands last under fresh ids,
-/// and the last run of entries that go always ends within the budget. Pooled values stay worths.
+/// A write leaves a pool well: what is touched leaves, what comes back is last under fresh ids, and
+/// the last run of evictions always ends within the budget. Pooled values stay worths.
 pub fn writes_keep()
     ensures { WritesKeep }
 {}
 
-/// Each pooled bind has the present version of its column, before and after each step: a look, the end
-/// of a statement, an admission of a bind that tells the present version, and a write, which moves the
-/// versions of the columns that it touches.
+/// Each pooled bind has the present version of its column, before and after each step: a look, the
+/// end of a statement, an admission of a bind with the present version, and a write, which moves
+/// the versions of the columns that it touches.
 pub fn versions_hold()
     ensures { VersionsHold }
 {}
 
-/// The value of each pooled bind is its column as it stands, before and after each step, also where it
-/// came back in a write with the new rows behind the old ones.
+/// The value of each pooled bind is its present column, before and after each step, also where it
+/// came back in a write with the new rows after the old ones.
 pub fn columns_hold()
     ensures { ColumnsHold }
 {}
 
-/// A pool of at most 1,024 places and 2^40 bytes hands to the calls below what they ask for: few
-/// selections of few pairs to the one that finds a cover, and few rows with ids of their own and stats
-/// in range to the one that plans what goes.
+/// A pool of at most 1,024 places and 2^40 bytes meets what the calls below require: few selections
+/// of few pairs for the one that finds a cover, and few rows with ids of their own and stats in
+/// range for the one that plans evictions.
 pub fn pools_fit()
     ensures { PoolsFit }
 {}

@@ -16,17 +16,17 @@ pub struct PoolOptions {
     pub places: u64,
     /// How many stated bytes they can have, at most 2^40.
     pub budget: u64,
-    /// Which entry goes first.
+    /// Which entry is evicted first.
     pub evict: Evict,
-    /// The weights of the 35 operators, where the entries are weighed by them; else none.
+    /// The weights of the 35 operators, where eviction uses them; else none.
     pub weights: Sequence<u64>,
     /// Which results are admitted.
     pub admit: Admit,
-    /// The credit that a shape starts with, where there are credits.
+    /// The credit that a shape starts with, where shapes have credits.
     pub credits: u64,
 }
 
-// By a call of its own, so that proofs needn't go through its forms where one is let go.
+// By a call of its own, so that proofs needn't go through its forms where one is dropped.
 impl Drop for PoolOptions {
     fn drop(self) {
         let PoolOptions {
@@ -49,7 +49,7 @@ pub enum Admitted {
         id: u64,
         /// Its stated bytes.
         bytes: u64,
-        /// How many entries were given up for it.
+        /// How many entries were evicted for it.
         gone: u64,
     },
     /// An entry with this id has its key.
@@ -60,6 +60,6 @@ pub enum Admitted {
     Orphan(u64),
     /// The shape with this number has no credit.
     NoCredit(u32),
-    /// There is no room: so many bytes stay after all that can go is given up.
+    /// There is no room: so many bytes stay after all that can go is evicted.
     NoRoom(u64),
 }

@@ -5,7 +5,8 @@ use cell_core::{Sequence, Word};
 pub struct Touched {
     /// The table.
     pub table: Word,
-    /// The columns of it whose cells are others now: all, or those that an UPDATE sets or an ALTER adds.
+    /// Those of its columns whose cells have changed: all, or those that an UPDATE sets or an ALTER
+    /// adds.
     pub columns: Sequence<Word>,
     /// How many rows the table had before.
     pub old_rows: u64,
@@ -13,7 +14,7 @@ pub struct Touched {
     pub added: Option<Sequence<(Word, Shared)>>,
 }
 
-// By a call of its own, so that proofs needn't go through its forms where one is let go.
+// By a call of its own, so that proofs needn't go through its forms where one is dropped.
 impl Drop for Touched {
     fn drop(self) {
         let Touched {

@@ -46,7 +46,7 @@ fn is_touched_bind(key: &Key, table: &Word, columns: &[Word]) -> bool
     key.is_bind() && key.table() == table.text() && is_column(columns, key.column())
 }
 
-/// Whether one of the ids in these arguments is among those.
+/// Whether one of the ids in these arguments is among the given ids.
 fn names_any(args: &[KeyArg], ids: &[u64]) -> bool
     ensures { result ≡ list_any (is_one_of ids.now) (filter_map id_in args.now) }
 {
@@ -70,7 +70,7 @@ fn is_id_among(arg: &KeyArg, ids: &[u64]) -> bool
     }
 }
 
-/// Adds the entry, if it is touched, to what is touched so far.
+/// Adds an entry to what is touched so far, if it is touched.
 fn note_if_touched(touched: &mut Vec<u64>, entry: &PoolEntry, table: &Word, columns: &[Word])
     requires room { vec_len touched.old < vec_capacity touched.old }
     ensures ids { touched.new.items ≡ and_touched table.now columns.now touched.old.items entry.now }

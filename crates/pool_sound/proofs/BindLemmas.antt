@@ -7,7 +7,7 @@ use Rattle.mal_meaning.specs.Meaning.{column_pairs}
 use Rattle.lineage_key.specs.Parents.{is_bind, table_of, column_of}
 use Rattle.subsume.proofs.Members.{In, filter_in, map_in}
 use Rattle.sql_tree.specs.Tree.{StmtTree}
-use Rattle.sql_semantics.specs.Effect.{effect, replay}
+use Rattle.sql_definitions.specs.Effect.{effect, replay}
 use Rattle.pool_policy.specs.declared.entry.Who.{Who}
 use Rattle.pool_policy.specs.declared.options.PoolOptions.{PoolOptions}
 use Rattle.pool_policy.specs.Admits.{admit_of}
@@ -16,12 +16,13 @@ use Rattle.pool_policy.specs.Keeps.{Face, face_of, faces}
 use Rattle.pool_policy.specs.Versions.{IsCurrent}
 use Rattle.pool_policy.specs.WriteLaws.{IsWrite}
 use Rattle.pool_policy.specs.Worths.{faces_from}
-use Rattle.pool_policy.specs.Writes.{Return}
+use Rattle.pool_policy.specs.Writes.{Return, backs_of}
 use Rattle.pool_policy.proofs.Ends.{in_one_of}
 use Rattle.pool_policy.proofs.Lists.{all_at}
-use Rattle.pool_policy.proofs.VersionLaws.{versions_hold_all}
+use Rattle.pool_policy.proofs.ColumnLaws.{back_column}
+use Rattle.pool_policy.proofs.VersionLaws.{back_current, versions_hold_all}
 use Rattle.run_log.specs.Events.{ActTree, Begins, Looks, Admits, Writes, Ends, EventTree, commits, who_of}
-use Rattle.run_log.specs.Fold.{LogState, after, after_act, after_commit, after_write, backs_of, key_offer, moved, run_of, write_load}
+use Rattle.run_log.specs.Fold.{LogState, after, after_act, after_commit, after_write, key_offer, moved, run_of, write_load}
 use Rattle.run_log.specs.Laws.{IsCommit, IsSound, MayFollow, columns_of}
 use Rattle.run_log.specs.Totals.{with_work}
 use Rattle.run_log.specs.Touches.{touched_by}
@@ -30,10 +31,9 @@ use Rattle.run_log.proofs.LogLemmas.{each_log, logs_tell_holds, run_more, tells_
 use Rattle.run_log.proofs.TouchLemmas.{touched_adds, touched_moves}
 use Rattle.book_core.specs.Lawful.{IsLawful}
 use Rattle.pool_sound.specs.Laws.{IsColumnOf}
-use Rattle.pool_sound.proofs.BackLemmas.{back_column, back_current}
 use Rattle.pool_sound.proofs.LawfulLemmas.{lawful_before, lawful_formed, lawful_next, lawful_sound}
 
--- ## What an event gives out
+-- ## The entries that an event adds
 
 -- a bind has the present version of its column, and its cells
 pub record IsPresent (s : LogState) (f : Face) : Type 0 where
@@ -117,7 +117,7 @@ abbrev AreColumnsOf : PoolOptions → List EventTree → Type 0
 AreColumnsOf options log = (f : Face) → In f (run_of options log).given → is_bind f.key ≡ true → IsColumnOf log f
 
 module _ (options : PoolOptions) where
-  -- what is present is told by the log
+  -- a bind with the present version has its column in the log
   present_told : (log : List EventTree) → IsLawful options log → (f : Face) → IsPresent (run_of options log) f → is_bind f.key ≡ true → IsColumnOf log f
   present_told log lawful f present bind =
       let tells = tells_all options log (lawful_formed options log lawful) in

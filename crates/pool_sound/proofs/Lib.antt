@@ -1,6 +1,5 @@
 pub mod LawfulLemmas
 pub mod OptionLemmas
-pub mod BackLemmas
 pub mod BindLemmas
 pub mod LineageLemmas
 pub mod SoundLemmas

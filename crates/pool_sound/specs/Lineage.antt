@@ -13,7 +13,7 @@ use Rattle.lineage_key.specs.declared.key.Key.{Key}
 use Rattle.lineage_key.specs.declared.key.KeyArg.{KeyArg}
 use Rattle.lineage_key.specs.declared.key.KeyArg.TheVariants.{Const, Id}
 use Rattle.lineage_key.specs.Parents.{is_bind, table_of, column_of}
-use Rattle.sql_semantics.specs.Effect.{replay}
+use Rattle.sql_definitions.specs.Effect.{replay}
 use Rattle.pool_policy.specs.declared.options.PoolOptions.{PoolOptions}
 use Rattle.pool_policy.specs.Keeps.{Face}
 use Rattle.run_log.specs.Events.{EventTree, commits}
@@ -27,7 +27,7 @@ tables_after log position = replay (commits (take position log))
 abbrev pub key_given : List Face → ℕ → Option Key
 key_given given id = option_map (λ (f : Face). f.key) (find (λ (f : Face). f.id == id) given)
 
--- an argument of a key: a cell as it stands, and an id by what that id evaluates to
+-- an argument of a key: a cell as it is, and an id by what that id evaluates to
 abbrev pub arg_evaluated : (ℕ → Option Pairs) → KeyArg → Option Value
 arg_evaluated value (Const c) = Some (One c)
 arg_evaluated value (Id n) = option_map Bat (value n)

@@ -23,6 +23,6 @@ pub record IsSoundAfter (options : PoolOptions) (log : List EventTree) : Type 0 
   pub present : (e : PoolEntry) → Contains (pooled_after options log) e → is_bind e.key ≡ true → e.key.version ≡ (run_of options log).versions (table_of e.key) (column_of e.key)
   pub values : (e : PoolEntry) → Contains (pooled_after options log) e → lineage_value options log e.id ≡ Some e.value
 
--- so it is before the first event and after each one
+-- the pool is sound before the first event and after each one
 abbrev pub IsSoundAlong : PoolOptions → List EventTree → Type 0
 IsSoundAlong options log = (n : ℕ) → IsSoundAfter options (take n log)

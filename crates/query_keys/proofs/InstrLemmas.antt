@@ -6,6 +6,7 @@ use Rattle.std.specs.Option.{option_map, option_map_or, option_and_then}
 use Rattle.std.proofs.lemmas.Bool.{eqb-true}
 use Rattle.std.proofs.lemmas.List.Elements.{All-from_recursion}
 use Rattle.std.proofs.lemmas.Option.{same_Some, slice_get_past, slice_get_within}
+use Rattle.cell_core.proofs.ListLemmas.{both_found, slice_get-append_middle}
 use Rattle.cell_core.specs.declared.cell.Cell.TheVariants.{Text}
 use Rattle.cell_core.specs.declared.operator.Op.{Op}
 use Rattle.cell_core.specs.declared.operator.Op.TheVariants.{Bind}
@@ -39,25 +40,9 @@ get_taken (suc n) k [] low = refl
 get_taken (suc n) zero (x ∷ xs) low = refl
 get_taken (suc n) (suc k) (x ∷ xs) low = get_taken n k xs (omega (arith, low))
 
-pub get_front : {X : Type 0} (xs ys : List X) (n : ℕ) → n < length xs → slice_get (xs ++ ys) n ≡ slice_get xs n
-get_front [] ys n low = absurd (omega arith)
-get_front (x ∷ xs) ys zero low = refl
-get_front (x ∷ xs) ys (suc n) low = get_front xs ys n (omega arith)
-
-get_last : {X : Type 0} (xs : List X) (y : X) (ys : List X) → slice_get (xs ++ y ∷ ys) (length xs) ≡ Some y
-get_last [] y ys = refl
-get_last (x ∷ xs) y ys = get_last xs y ys
-
 pub one_longer : {X : Type 0} (xs : List X) (y : X) (k : ℕ) → length (xs ++ y ∷ []) + k ≡ length xs + suc k
 one_longer [] y k = omega arith
 one_longer (x ∷ xs) y k = let rest : length (xs ++ y ∷ []) + k ≡ length xs + suc k = one_longer xs y k in omega (arith, rest)
-
--- the parts of what is found for all
-pub split : {X : Type 0} (first : Option X) (rest : Option (List X)) (all : List X) → option_and_then (λ y. option_map (λ ys. y ∷ ys) rest) first ≡ Some all
-    → (x : X) × (xs : List X) × (first ≡ Some x) × (rest ≡ Some xs) × (x ∷ xs ≡ all)
-split None rest all e = absurd (cc)
-split (Some x) None all e = absurd (cc)
-split (Some x) (Some xs) all e = (x, xs, refl, refl, same_Some (x ∷ xs) all e)
 
 -- ## The types of an instruction
 
@@ -73,7 +58,7 @@ pub record HasTypes (all : List ValueType) (n : ℕ) (instr : Instr) : Type 0 wh
   pub result : type_over instr.op instr.args args ≡ Some own
   pub count : length instr.args ≡ argument_count instr.op
 
--- an instruction of a type has as many arguments as its operator takes, and their types give its own
+-- an instruction of a type has as many arguments as its operator takes, and their types determine its own
 counted : (n : ℕ) (operator : Op) (args : List Arg) (given : Option (List ValueType)) (t : ValueType) → type_at n operator args given ≡ Ok t
     → (ts : List ValueType) × (given ≡ Some ts) × (type_over operator args ts ≡ Some t) × (length args ≡ argument_count operator)
 counted n operator args None t e = absurd (cc)
@@ -122,7 +107,7 @@ pub typed_at : (instrs : List Instr) (all : List ValueType) → instr_types inst
 typed_at instrs all e n instr at = let from : 0 + n ≡ n = omega arith in subst (λ k. HasTypes all k instr) from (typed_from [] instrs all e n instr at)
 
 pub own_there : (all : List ValueType) (n : ℕ) (instr : Instr) → (has : HasTypes all n instr) → slice_get all n ≡ Some has.own
-own_there all n instr has = ap (λ ts. slice_get ts n) has.whole ∙ sym (ap (slice_get (has.front ++ has.own ∷ has.behind)) has.at) ∙ get_last has.front has.own has.behind
+own_there all n instr has = ap (λ ts. slice_get ts n) has.whole ∙ sym (ap (slice_get (has.front ++ has.own ∷ has.behind)) has.at) ∙ slice_get-append_middle has.front has.own has.behind
 
 -- ## Binds
 
@@ -145,8 +130,8 @@ named_args all n instr has is = typed_bind instr.args has.own (ap (λ (o : Op). 
 -- an argument of a type is a constant, or one of those before
 numbered_from : (types : List ValueType) (args : List Arg) (found : List ValueType) → arg_types types args ≡ Some found → AllByRecursion (IsNumbered (length types)) args
 numbered_from types [] found e = tt
-numbered_from types (Const c ∷ args) found e = let t = split (arg_type types (Const c)) (arg_types types args) found e in (tt, numbered_from types args t.1 t.3)
-numbered_from types (Var v ∷ args) found e = let t = split (arg_type types (Var v)) (arg_types types args) found e in (slice_get_within types v t.0 t.2, numbered_from types args t.1 t.3)
+numbered_from types (Const c ∷ args) found e = let t = both_found (arg_type types (Const c)) (arg_types types args) found e in (tt, numbered_from types args t.1 t.3)
+numbered_from types (Var v ∷ args) found e = let t = both_found (arg_type types (Var v)) (arg_types types args) found e in (slice_get_within types v t.0 t.2, numbered_from types args t.1 t.3)
 
 pub numbered_args : (all : List ValueType) (n : ℕ) (instr : Instr) → HasTypes all n instr → AllByRecursion (IsNumbered n) instr.args
 numbered_args all n instr has = subst (λ k. AllByRecursion (IsNumbered k) instr.args) has.at (numbered_from has.front instr.args has.args has.given)

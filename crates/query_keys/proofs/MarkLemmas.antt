@@ -5,6 +5,7 @@ use Rattle.std.specs.Cmp.{first_so, second_so}
 use Rattle.std.specs.List.{AllByRecursion, list_all}
 use Rattle.std.specs.Option.{option_map}
 use Rattle.std.proofs.lemmas.Option.{same_Some, slice_get_within, slice_get_cases, slice_get-map, get_or_from_slice_get}
+use Rattle.cell_core.proofs.ListLemmas.{both_found, slice_get-append_left}
 use Rattle.cell_core.specs.declared.cell.Kind.{Kind}
 use Rattle.cell_core.specs.declared.operator.Arg.{Arg}
 use Rattle.cell_core.specs.declared.operator.Arg.TheVariants.{Const, Var}
@@ -21,7 +22,7 @@ use Rattle.recycle_mark.specs.Laws.{is_bat_type, bats_from}
 use Rattle.recycle_mark.specs.Marks.{is_bat_result, is_marked, marks_from, marks_of}
 use Rattle.query_keys.specs.Laws.{MarkedAreBats}
 use Rattle.recycle_mark.proofs.BatTypes.{bats_typed}
-use Rattle.query_keys.proofs.InstrLemmas.{HasTypes, get_none, get_front, one_longer, split, own_there, typed_at}
+use Rattle.query_keys.proofs.InstrLemmas.{HasTypes, get_none, one_longer, own_there, typed_at}
 
 -- ## Lists of tests
 
@@ -62,12 +63,12 @@ same_length (b ∷ bs) [] all = absurd all
 
 -- ## Marks
 
--- a constant, or the result of an instruction that gives a BAT
+-- a constant, or the result of an instruction that yields a BAT
 abbrev NamesBat : List Bool → Arg → Type 0
 NamesBat bats (Const c) = Unit {0}
 NamesBat bats (Var v) = get_or bats v false ≡ true
 
--- the instruction gives a BAT, and takes no results but BATs
+-- the instruction yields a BAT, and takes no results but BATs
 record TakesBats (bats : List Bool) (n : ℕ) (args : List Arg) : Type 0 where
   own : get_or bats n false ≡ true
   names : AllByRecursion (NamesBat bats) args
@@ -122,7 +123,7 @@ marked_from bats marks (i ∷ is) all (suc k) instr at marked =
 
 -- ## Types
 
--- the type of a BAT, told by the test
+-- the type of a BAT, by the test
 bat_type : (t : ValueType) → is_bat_type t ≡ true → (h k : Option Kind) × (t ≡ BatOf h k)
 bat_type (BatOf h k) e = (h, k, refl)
 bat_type (OneOf k) e = cc
@@ -143,11 +144,11 @@ beside : (front behind : List ValueType) (args : List Arg) (found : List ValueTy
 beside front behind [] [] names e = tt
 beside front behind [] (t ∷ ts) names e = cc
 beside front behind (Const c ∷ args) found names e =
-    let t = split (arg_type front (Const c)) (arg_types front args) found e in
+    let t = both_found (arg_type front (Const c)) (arg_types front args) found e in
     subst (AreBatsOrCells (Const c ∷ args)) t.4 (sym (same_Some (OneOf (kind_of c)) t.0 t.2), beside front behind args t.1 names.1 t.3)
 beside front behind (Var v ∷ args) found names e =
-    let t = split (arg_type front (Var v)) (arg_types front args) found e in
-    let there = get_front front behind v (slice_get_within front v t.0 t.2) ∙ t.2 in
+    let t = both_found (arg_type front (Var v)) (arg_types front args) found e in
+    let there = slice_get-append_left front behind v (slice_get_within front v t.0 t.2) ∙ t.2 in
     subst (AreBatsOrCells (Var v ∷ args)) t.4 (bat_there (front ++ behind) v t.0 names.0 there, beside front behind args t.1 names.1 t.3)
 
 -- ## A marked instruction of a plan without a fault

@@ -1,4 +1,4 @@
--- The id that an admission gives is worth the value that was offered.
+-- The id that an admission returns is worth the value that was offered.
 use Rattle.std.proofs.Common.{◌≡◌, ℕ, ◌+◌, ◌<◌, ◌≤◌, List, [], ◌∷◌, ◌++◌, Bool, true, false, not, ◌&&◌, cond, Option, Some, None, inl, inr, refl, ap, sym, ◌∙◌, subst, arith}
 use Rattle.std.specs.Prelude.{◌==◌, if◌then◌else◌, nat_lt, IsSome}
 use Rattle.std.specs.List.{AllByRecursion, find}
@@ -92,7 +92,7 @@ new_id next n e = ap not (below n next (omega (arith, e)))
     below : (m n : ℕ) → n ≤ m → nat_lt m n ≡ false
     below m n e = grind (arith, nat_tests, e)
 
--- behind what has lower ids
+-- after entries with lower ids
 past : (next : ℕ) (fs gs : List Face) → AllByRecursion (λ (f : Face). f.id < next) fs → value_in (fs ++ gs) next ≡ value_in gs next
 past next [] gs low = refl
 past next (f ∷ fs) gs low = ap (λ b. option_map (λ (f : Face). f.value) (cond b (Some f) (find (λ (f : Face). f.id == next) (fs ++ gs)))) (other_id next f.id low.0) ∙ past next fs gs low.1

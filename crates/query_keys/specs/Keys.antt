@@ -19,7 +19,7 @@ with_version versions key = if is_bind key then record key { version = versions 
 abbrev pub instr_key : Instr → Versions → List ℕ → Key
 instr_key instr versions ids = with_version versions (key_for instr ids 0)
 
--- each id that isn't 0 is worth the result that it stands beside
+-- each id that isn't 0 is worth the result beside it
 abbrev pub AreIdsOf : List Face → List ℕ → List (Option Value) → Type 0
 AreIdsOf given [] values = Unit {0}
 AreIdsOf given (id ∷ ids) [] = ⊥

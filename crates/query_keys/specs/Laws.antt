@@ -47,7 +47,7 @@ pub record IsInstrOf (db : Db) (plan : Plan) (n : ℕ) (instr : Instr) : Type 0 
   pub value : slice_get (plan_values db plan.instrs) n ≡ Some (instr_value db (plan_values db plan.instrs) instr)
   pub fits : (args : List Value) → arg_values (plan_values db plan.instrs) instr.args ≡ Some args → FitsHere db instr.op (Some args)
 
--- so it is in each plan without a fault, over a database that it fits
+-- this holds in each plan without a fault, over a database that it fits
 abbrev pub InstrsRun : Type 0
 InstrsRun = (plan : Plan) (db : Db) (n : ℕ) (instr : Instr) → plan_fault plan ≡ None → FitsDb plan db → slice_get plan.instrs n ≡ Some instr → IsInstrOf db plan n instr
 
@@ -75,7 +75,7 @@ pub record IsMarkedAt (seen s : LogState) (plan : Plan) (ids : List ℕ) (instr 
 abbrev pub value_there : LogState → Plan → List ℕ → Option (Option Value)
 value_there seen plan ids = slice_get (plan_values seen.db plan.instrs) (length ids)
 
--- the bounds of a selection, as they stand in its arguments
+-- the bounds of a selection, as they are in its arguments
 pub record HasBounds (instr : Instr) (low high li hi : Cell) : Type 0 where
   pub from : Arg
   pub op_is : instr.op ≡ Select
@@ -107,7 +107,7 @@ abbrev pub OffersFit : Type 0
 OffersFit = (seen s : LogState) (plan : Plan) (ids : List ℕ) (instr : Instr) (pairs : Pairs) → IsMarkedAt seen s plan ids instr → value_there seen plan ids ≡ Some (Some (Bat pairs))
     → MayOffer seen s plan ids instr pairs
 
--- and the id that it is given is worth its value
+-- and the id that an admission returns for it is worth its value
 abbrev pub id_given : Admitted → ℕ
 id_given (Taken id bytes gone) = id
 id_given (There id) = id

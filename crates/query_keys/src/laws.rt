@@ -1,8 +1,8 @@
-//! The laws. The calls compute nothing.
+//! The laws of this crate. The calls compute nothing.
 ghost use Rattle.query_keys.specs.Laws.{FoundServes, GivenAreWorth, InstrsRun, MarkedAreBats, OffersFit};
 
-/// Each instruction of a plan without a fault has its value by those that its arguments name, which stand
-/// before it and fit it.
+/// Each instruction of a plan without a fault has its value by those that its arguments name, which
+/// are before it and fit it.
 pub fn instrs_run()
     ensures { InstrsRun }
 {}
@@ -12,7 +12,8 @@ pub fn marked_are_bats()
     ensures { MarkedAreBats }
 {}
 
-/// What a look finds for a marked instruction serves it: as it is, by its bounds, or piece by piece.
+/// What a look finds for a marked instruction serves it: as it is, by its bounds, or piece by
+/// piece.
 pub fn found_serves()
     ensures { FoundServes }
 {}
@@ -22,7 +23,7 @@ pub fn offers_fit()
     ensures { OffersFit }
 {}
 
-/// The id that an admission gives is worth the value that was offered.
+/// The id that an admission returns is worth the value that was offered.
 pub fn given_are_worth()
     ensures { GivenAreWorth }
 {}

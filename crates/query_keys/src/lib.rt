@@ -1,8 +1,8 @@
 //! What a query's instructions find in the pool, and what they may offer to it.
 //!
-//! A query knows the tables over which it began, the ids of its results so far, and nothing else of the
-//! pool. The laws here say that this is enough: what a look finds for an instruction is what the
-//! instruction gives, whatever other sessions did since the query began.
+//! A query knows the tables over which it began, the ids of its results so far, and nothing else of
+//! the pool. The laws say that this is enough: what a look finds for an instruction is what the
+//! instruction computes, whatever other sessions did since the query began.
 #![tactic(auto)]
 
 mod laws;

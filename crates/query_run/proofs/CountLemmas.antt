@@ -1,12 +1,12 @@
--- What a counter tells of a step.
+-- What a counter shows of a step.
 use Rattle.std.proofs.Common.{◌≡◌, ℕ, ◌+◌, ◌≤◌, Some, None, refl, ap, sym, ◌∙◌, subst, arith}
 use Rattle.std.specs.Prelude.{Result, Ok, Err, IfOk}
 use Rattle.cell_core.specs.declared.memory.Memory.{Memory}
 use Rattle.mal_meaning.specs.Meaning.{plan_load, plan_rows}
-use Rattle.sql_semantics.specs.declared.refusal.Refusal.TheVariants.{Overflow}
+use Rattle.sql_definitions.specs.declared.refusal.Refusal.TheVariants.{Overflow}
 use Rattle.reply_layout.specs.declared.shown.Shown.TheVariants as shown
 use Rattle.store_changes.specs.Work.{lost_unless}
-use Rattle.query_run.specs.declared.step.Query.{Query}
+use Rattle.query_run.specs.declared.step.RunningQuery.{RunningQuery}
 use Rattle.query_run.specs.declared.step.Step.{Step}
 use Rattle.query_run.specs.declared.step.Step.TheVariants as step
 use Rattle.query_run.specs.Queries.{GoesOn, value_at}
@@ -22,7 +22,7 @@ counted_all from (Ok to) before after work is even = counted_even from to before
 counted_all from (Err e) before after work is even = tt
 
 -- where the query overflows the load of its plan may be lost
-pub overflow_counted : (q : Query) (from to : Step) (before after : ℕ) → held from ≡ q.work → ((s : Step) → lost_between from s ≡ lost_at q s) → plan_rows q.plan q.snap.db ≡ None → to ≡ step.Ending (shown.Refused Overflow) 0
+pub overflow_counted : (q : RunningQuery) (from to : Step) (before after : ℕ) → held from ≡ q.work → ((s : Step) → lost_between from s ≡ lost_at q s) → plan_rows q.plan q.snap.db ≡ None → to ≡ step.Ending (shown.Refused Overflow) 0
     → before ≤ after + q.work → after + q.work ≤ before + plan_load q.plan q.snap.db → Counted from to before after
 overflow_counted q from to before after holds loses none ends least most = subst (λ (s : Step). Counted from s before after) (sym ends) (record {
   least = omega (arith, holds, least);
@@ -35,7 +35,7 @@ overflow_counted q from to before after holds loses none ends least most = subst
 -- ## Room for results
 
 -- the same is lost by a query of the same plan over the same tables
-same_lost : (q to : Query) (s : Step) → to.snap ≡ q.snap → to.plan ≡ q.plan → lost_at to s ≡ lost_at q s
+same_lost : (q to : RunningQuery) (s : Step) → to.snap ≡ q.snap → to.plan ≡ q.plan → lost_at to s ≡ lost_at q s
 same_lost q to (step.Ending reply work) snap plan = λ i. lost_unless (plan_rows (plan i) (snap i).db) (plan_load (plan i) (snap i).db)
 same_lost q to (step.Begun other) snap plan = refl
 same_lost q to (step.Open other) snap plan = refl
@@ -44,7 +44,7 @@ same_lost q to (step.Found other n found parts) snap plan = refl
 same_lost q to (step.Offering other n offer) snap plan = refl
 
 -- a query that has begun has counted what it has when it has room
-pub counted_opened : (q to : Query) (result : Result Step Memory) (before after : ℕ) → IsFresh q → IsOpened q to → IfOk result (λ s. Counted (step.Open to) s before after) → IfOk result (λ s. Counted (step.Begun q) s before after)
+pub counted_opened : (q to : RunningQuery) (result : Result Step Memory) (before after : ℕ) → IsFresh q → IsOpened q to → IfOk result (λ s. Counted (step.Open to) s before after) → IfOk result (λ s. Counted (step.Begun q) s before after)
 counted_opened q to (Ok s) before after fresh opened counted = record {
   least = let least = counted.least in omega (arith, none, least);
   most = let most = counted.most in let lost = same_lost q to s opened.snap_is opened.plan_is in omega (arith, none, most, lost);
@@ -57,7 +57,7 @@ counted_opened q to (Err e) before after fresh opened counted = tt
 -- ## The walk
 
 -- a walk that overflows: the counter had risen by the work so far
-pub walk_overflows : (q to : Query) (n : ℕ) (end : Step) (before middle after : ℕ) → GoesOn q to → value_at to n ≡ Some None → end ≡ step.Ending (shown.Refused Overflow) 0
+pub walk_overflows : (q to : RunningQuery) (n : ℕ) (end : Step) (before middle after : ℕ) → GoesOn q to → value_at to n ≡ Some None → end ≡ step.Ending (shown.Refused Overflow) 0
     → middle + q.work ≡ before + to.work → middle ≤ after → after + to.work ≤ middle + plan_load to.plan to.snap.db → Counted (step.Open q) end before after
 walk_overflows q to n end before middle after goes none ends so_far later within =
     overflow_counted q (step.Open q) end before after refl (λ s. refl) ((λ i. plan_rows (sym goes.plan_is i) (sym goes.snap_is i).db) ∙ no_rows to n none) ends (omega (arith, so_far, later)) (omega (arith, so_far, load, within))

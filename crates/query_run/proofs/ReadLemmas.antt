@@ -4,6 +4,7 @@ use Rattle.std.specs.Prelude.{IfSome, IsSome, slice_get, unwrap_or}
 use Rattle.std.specs.Option.{option_map}
 use Rattle.std.proofs.lemmas.List.Sums.{sum_by-cons}
 use Rattle.std.proofs.lemmas.Option.{same_Some, slice_get-map}
+use Rattle.cell_core.proofs.ListLemmas.{both_found}
 use Rattle.cell_core.specs.declared.cell.Cell.TheVariants.{Text}
 use Rattle.cell_core.specs.declared.operator.Arg.{Arg}
 use Rattle.cell_core.specs.declared.operator.Arg.TheVariants as arg
@@ -27,15 +28,14 @@ use Rattle.lineage_key.specs.Parents.{is_bind, table_of, column_of}
 use Rattle.pool_policy.specs.Versions.{Versions}
 use Rattle.query_keys.specs.Keys.{with_version}
 use Rattle.query_keys.specs.Laws.{InstrsRun, IsInstrOf}
-use Rattle.query_keys.proofs.InstrLemmas.{split}
 use Rattle.query_keys.proofs.StepLemmas.{load_made}
-use Rattle.query_run.specs.declared.step.Query.{Query}
+use Rattle.query_run.specs.declared.step.RunningQuery.{RunningQuery}
 use Rattle.query_run.specs.Queries.{HasArgs, IsUnderWay, all_values, value_at}
 use Rattle.query_run.proofs.ResultLemmas.{args_known, instr_is}
 
 -- ## How many pairs an argument has
 
--- what is said of the value at a place holds of the argument that names it
+-- a fact of the value at a place holds of the argument that names it
 pub pairs_found : (results : List (Option Obj)) (a : Arg) (n : ℕ) (o : Option Value) (count : ℕ) → a ≡ arg.Var n → o ≡ arg_value (known_of results) (arg.Var n) → IfSome o (λ found. count ≡ pair_count found)
     → IfSome (arg_value (known_of results) a) (λ found. count ≡ pair_count found)
 pairs_found results a n o count is there counted = subst (λ (o : Option Value). IfSome o (λ found. count ≡ pair_count found)) (there ∙ ap (arg_value (known_of results)) (sym is)) counted
@@ -44,13 +44,13 @@ pairs_found results a n o count is there counted = subst (λ (o : Option Value).
 pub first_read : (values : List (Option Value)) (first : Arg) (rest : List Arg) (all : List Value) (count pairs whole : ℕ) → arg_values values (first ∷ rest) ≡ Some all → IfSome (arg_value values first) (λ found. count ≡ pair_count found)
     → pairs + pairs_read all ≡ whole → (more : List Value) × (arg_values values rest ≡ Some more) × ((pairs + count) + pairs_read more ≡ whole)
 first_read values first rest all count pairs whole found counted sum =
-    let parts = split (arg_value values first) (arg_values values rest) all found in
+    let parts = both_found (arg_value values first) (arg_values values rest) all found in
     let one : count ≡ pair_count parts.0 = subst (λ (o : Option Value). IfSome o (λ found. count ≡ pair_count found)) parts.2 counted in
     let read : pairs_read (parts.0 ∷ parts.1) ≡ pairs_read all = ap pairs_read parts.4 in
     let first_more : pairs_read (parts.0 ∷ parts.1) ≡ pair_count parts.0 + pairs_read parts.1 = sum_by-cons pair_count parts.0 parts.1 in
     (parts.1, parts.3, omega (arith, one, read, first_more, sum))
 
--- what all have of which the rest has so many
+-- the pairs of all, by those of the rest
 abbrev pub IsRest : List (Option Value) → List Arg → ℕ → List Value → Type 0
 IsRest values rest pairs found = (more : List Value) × (arg_values values rest ≡ Some more) × (pairs + pairs_read more ≡ pairs_read found)
 
@@ -73,7 +73,7 @@ pairs_step values args rest tail first pairs count all is counted sum before = g
 
 -- ## The stated work
 
-pub work_stated : InstrsRun → (q : Query) (n : ℕ) (instr : Instr) (value : Value) (read work : ℕ) → IsUnderWay q → slice_get q.plan.instrs n ≡ Some instr → HasArgs q instr → value_at q n ≡ Some (Some value)
+pub work_stated : InstrsRun → (q : RunningQuery) (n : ℕ) (instr : Instr) (value : Value) (read work : ℕ) → IsUnderWay q → slice_get q.plan.instrs n ≡ Some instr → HasArgs q instr → value_at q n ≡ Some (Some value)
     → IfSome (arg_values (known_of q.values.items) instr.args) (λ found. read ≡ pairs_read found) → work ≡ read + pair_count value → work ≡ instr_load q.snap.db (all_values q) instr
 work_stated run q n instr value read work under here has there counted sum = go (arg_values (known_of q.values.items) instr.args) refl has counted
   where

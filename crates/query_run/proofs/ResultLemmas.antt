@@ -5,6 +5,7 @@ use Rattle.std.specs.List.{AllByRecursion}
 use Rattle.std.specs.Option.{option_map, option_map_or, option_and_then}
 use Rattle.std.proofs.lemmas.List.{get_or-set_other, get_or-set_same, length-set}
 use Rattle.std.proofs.lemmas.Option.{get_or_from_slice_get, same_Some, slice_get-get_or, slice_get-map, slice_get_within}
+use Rattle.cell_core.proofs.ListLemmas.{both_found}
 use Rattle.cell_core.specs.declared.operator.Arg.{Arg}
 use Rattle.cell_core.specs.declared.operator.Arg.TheVariants as arg
 use Rattle.cell_core.specs.declared.operator.Instr.{Instr}
@@ -17,8 +18,7 @@ use Rattle.mal_meaning.specs.Meaning.{arg_value, arg_values, instr_load, instr_v
 use Rattle.mal_meaning.specs.Runs.{FitsHere}
 use Rattle.lineage_key.specs.Keys.{IsNumbered}
 use Rattle.query_keys.specs.Laws.{InstrsRun, IsInstrOf}
-use Rattle.query_keys.proofs.InstrLemmas.{split}
-use Rattle.query_run.specs.declared.step.Query.{Query}
+use Rattle.query_run.specs.declared.step.RunningQuery.{RunningQuery}
 use Rattle.mal_exec.specs.Results.{known_of}
 use Rattle.query_run.specs.Queries.{HasArgs, HasBefore, HasGained, IsUnderWay, all_values, has_result, result_at, value_at}
 
@@ -33,7 +33,7 @@ none_found (Some result) there = absurd (cc)
 
 -- ## A result more
 
-module _ (q to : Query) (n : ℕ) (result : Obj) (id work : ℕ) (g : HasGained q n result id work to) (inside : n < length q.values.items) where
+module _ (q to : RunningQuery) (n : ℕ) (result : Obj) (id work : ℕ) (g : HasGained q n result id work to) (inside : n < length q.values.items) where
   pub gained_here : result_at to n ≡ Some result
   gained_here = ap (λ vs. slice_index_or vs n None) g.values_are ∙ get_or-set_same q.values.items n (Some result) None inside
 
@@ -43,7 +43,7 @@ module _ (q to : Query) (n : ℕ) (result : Obj) (id work : ℕ) (g : HasGained 
 -- ## Arguments
 
 -- an argument that is known has its value
-arg_known : (q : Query) → IsUnderWay q → (a : Arg) (v : Value) → arg_value (known_of q.values.items) a ≡ Some v → arg_value (all_values q) a ≡ Some v
+arg_known : (q : RunningQuery) → IsUnderWay q → (a : Arg) (v : Value) → arg_value (known_of q.values.items) a ≡ Some v → arg_value (all_values q) a ≡ Some v
 arg_known q under (arg.Const cell) v is = is
 arg_known q under (arg.Var n) v is = go (slice_get q.values.items n) refl (sym (ap (λ o. unwrap_or o None) (slice_get-map (option_map value_of) q.values.items n)) ∙ is)
   where
@@ -53,16 +53,16 @@ arg_known q under (arg.Var n) v is = go (slice_get q.values.items n) refl (sym (
     go (Some (Some result)) at has =
         ap (λ o. unwrap_or o None) (under.known n result (get_or_from_slice_get q.values.items n (Some result) None at)) ∙ has
 
-pub args_known : (q : Query) → IsUnderWay q → (args : List Arg) (vs : List Value) → arg_values (known_of q.values.items) args ≡ Some vs → arg_values (all_values q) args ≡ Some vs
+pub args_known : (q : RunningQuery) → IsUnderWay q → (args : List Arg) (vs : List Value) → arg_values (known_of q.values.items) args ≡ Some vs → arg_values (all_values q) args ≡ Some vs
 args_known q under [] vs is = is
 args_known q under (a ∷ args) vs is =
-    let parts = split (arg_value (known_of q.values.items) a) (arg_values (known_of q.values.items) args) vs is in
+    let parts = both_found (arg_value (known_of q.values.items) a) (arg_values (known_of q.values.items) args) vs is in
     ap (λ o. option_and_then (λ y. option_map (λ ys. y ∷ ys) (arg_values (all_values q) args)) o) (arg_known q under a parts.0 parts.2)
     ∙ ap (λ (o : Option (List Value)). option_map (λ ys. parts.0 ∷ ys) o) (args_known q under args parts.1 parts.3)
     ∙ ap Some parts.4
 
 -- those before an instruction are known where their results are there
-arg_there : (q : Query) (n : ℕ) → HasBefore q n → (a : Arg) → IsNumbered n a → (v : Value) × (arg_value (known_of q.values.items) a ≡ Some v)
+arg_there : (q : RunningQuery) (n : ℕ) → HasBefore q n → (a : Arg) → IsNumbered n a → (v : Value) × (arg_value (known_of q.values.items) a ≡ Some v)
 arg_there q n before (arg.Const cell) numbered = (One cell, refl)
 arg_there q n before (arg.Var m) numbered =
     let there = found (result_at q m) (before m numbered) in
@@ -79,7 +79,7 @@ arg_there q n before (arg.Var m) numbered =
     at : (m : ℕ) (result : Obj) → result_at q m ≡ Some result → slice_get q.values.items m ≡ Some (Some result)
     at m result is = slice_get-get_or q.values.items m None (within m result is) ∙ ap Some is
 
-pub args_there : (q : Query) (n : ℕ) → HasBefore q n → (args : List Arg) → AllByRecursion (IsNumbered n) args → (vs : List Value) × (arg_values (known_of q.values.items) args ≡ Some vs)
+pub args_there : (q : RunningQuery) (n : ℕ) → HasBefore q n → (args : List Arg) → AllByRecursion (IsNumbered n) args → (vs : List Value) × (arg_values (known_of q.values.items) args ≡ Some vs)
 args_there q n before [] numbered = ([], refl)
 args_there q n before (a ∷ args) numbered =
     let first = arg_there q n before a numbered.0 in
@@ -90,7 +90,7 @@ args_there q n before (a ∷ args) numbered =
 
 -- ## Instructions
 
-module _ (run : InstrsRun) (q : Query) (under : IsUnderWay q) (n : ℕ) (instr : Instr) (here : slice_get q.plan.instrs n ≡ Some instr) where
+module _ (run : InstrsRun) (q : RunningQuery) (under : IsUnderWay q) (n : ℕ) (instr : Instr) (here : slice_get q.plan.instrs n ≡ Some instr) where
   pub instr_is : IsInstrOf q.snap.db q.plan n instr
   instr_is = run q.plan q.snap.db n instr under.checked under.fits here
 

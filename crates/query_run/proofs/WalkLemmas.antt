@@ -6,6 +6,7 @@ use Rattle.std.specs.List.{list_all}
 use Rattle.std.proofs.lemmas.Bool.{and_parts, eqb-false, eqb-true}
 use Rattle.std.proofs.lemmas.List.{get_or-set_other, get_or-set_same, length-map, map-append, length-replicate, length-set, set-get_or}
 use Rattle.std.proofs.lemmas.Option.{same_Some, slice_get-get_or, slice_get-map, slice_get_within}
+use Rattle.cell_core.proofs.ListLemmas.{slice_get-append_middle}
 use Rattle.cell_core.specs.declared.cell.Cell.{Cell}
 use Rattle.cell_core.specs.declared.memory.Memory.{Memory}
 use Rattle.cell_core.specs.declared.operator.Instr.{Instr}
@@ -20,11 +21,11 @@ use Rattle.mal_meaning.specs.Output.{output_rows}
 use Rattle.mal_check.specs.Checked.{plan_fault}
 use Rattle.mal_check.specs.Runnable.{FitsDb}
 use Rattle.recycle_mark.specs.Marks.{marks_from, marks_of, is_bat_result, is_marked}
-use Rattle.sql_semantics.specs.declared.refusal.Refusal.TheVariants.{Overflow}
+use Rattle.sql_definitions.specs.declared.refusal.Refusal.TheVariants.{Overflow}
 use Rattle.reply_layout.specs.declared.shown.Shown.{Shown}
 use Rattle.reply_layout.specs.declared.shown.Shown.TheVariants as shown
 use Rattle.table_store.specs.Content.{Content}
-use Rattle.query_run.specs.declared.step.Query.{Query}
+use Rattle.query_run.specs.declared.step.RunningQuery.{RunningQuery}
 use Rattle.query_run.specs.declared.step.Step.{Step}
 use Rattle.query_run.specs.declared.step.Step.TheVariants as step
 use Rattle.mal_exec.specs.Results.{known_of}
@@ -35,7 +36,7 @@ use Rattle.std.proofs.lemmas.List.Elements.{recursion_from_All}
 use Rattle.lineage_key.specs.Keys.{IsNumbered}
 use Rattle.query_keys.specs.Laws.{InstrsRun}
 use Rattle.query_run.proofs.ResultLemmas.{args_there, found, gained_else, gained_here, none_found}
-use Rattle.query_run.proofs.WorkLemmas.{marked_done, none_done, there_behind, unmarked_done, work_at_end}
+use Rattle.query_run.proofs.WorkLemmas.{marked_done, none_done, unmarked_done, work_at_end}
 
 -- ## There are as many marks and values as instructions
 
@@ -50,11 +51,11 @@ values_long : (db : Db) (values : List (Option Value)) (instrs : List Instr) →
 values_long db values [] = omega arith
 values_long db values (i ∷ is) = let more = length-append values (instr_value db values i ∷ []) in omega (arith, values_long db (values ++ instr_value db values i ∷ []) is, more)
 
-pub as_many_values : (q : Query) → length (all_values q) ≡ length q.plan.instrs
+pub as_many_values : (q : RunningQuery) → length (all_values q) ≡ length q.plan.instrs
 as_many_values q = values_long q.snap.db [] q.plan.instrs ∙ omega arith
 
 -- a marked instruction, or one that isn't, is one of the plan
-pub mark_inside : (q : Query) (n : ℕ) (mark : Bool) → HasMark q n mark → n < length q.plan.instrs
+pub mark_inside : (q : RunningQuery) (n : ℕ) (mark : Bool) → HasMark q n mark → n < length q.plan.instrs
 mark_inside q n mark is = let many = as_many_marks q.plan in let inside = slice_get_within (marks_of q.plan) n mark is in omega (arith, many, inside)
 
 -- there is an instruction at each place
@@ -65,7 +66,7 @@ instr_at (i ∷ is) (suc n) inside = instr_at is n (omega (arith, inside))
 
 -- ## A result more
 
-module _ (q to : Query) (n : ℕ) (instr : Instr) (result : Obj) (id work : ℕ) (under : IsUnderWay q) (here : slice_get q.plan.instrs n ≡ Some instr) (open_ : has_result q n ≡ false)
+module _ (q to : RunningQuery) (n : ℕ) (instr : Instr) (result : Obj) (id work : ℕ) (under : IsUnderWay q) (here : slice_get q.plan.instrs n ≡ Some instr) (open_ : has_result q n ≡ false)
     (value : value_at q n ≡ Some (Some (value_of result))) (g : HasGained q n result id work to) where
   inside : n < length q.values.items
   inside = let many = under.values in let low = slice_get_within q.plan.instrs n instr here in omega (arith, many, low)
@@ -146,10 +147,10 @@ module _ (q to : Query) (n : ℕ) (instr : Instr) (result : Obj) (id work : ℕ)
 
 -- ## The walk
 
-pub goes_not : (q : Query) → IsUnderWay q → GoesOn q q
+pub goes_not : (q : RunningQuery) → IsUnderWay q → GoesOn q q
 goes_not q under = record { snap_is = refl; plan_is = refl; under = under; ids_are = refl; asked_are = refl; keeps = λ n there. there; marked_same = λ n marked. refl }
 
-pub goes_then : (a b c : Query) → GoesOn a b → GoesOn b c → GoesOn a c
+pub goes_then : (a b c : RunningQuery) → GoesOn a b → GoesOn b c → GoesOn a c
 goes_then a b c p q = record {
   snap_is = q.snap_is ∙ p.snap_is;
   plan_is = q.plan_is ∙ p.plan_is;
@@ -160,11 +161,11 @@ goes_then a b c p q = record {
   marked_same = λ n marked. q.marked_same n (subst (λ (plan : Plan). slice_get (marks_of plan) n ≡ Some true) (sym p.plan_is) marked) ∙ p.marked_same n marked;
 }
 
-pub before_none : (q : Query) → HasBefore q 0
+pub before_none : (q : RunningQuery) → HasBefore q 0
 before_none q m low = absurd (let no : ⊥ = omega (arith, low) in no)
 
 -- where one more is there
-pub before_next : (q to : Query) (n : ℕ) → GoesOn q to → HasBefore q n → has_result to n ≡ true → HasBefore to (n + 1)
+pub before_next : (q to : RunningQuery) (n : ℕ) → GoesOn q to → HasBefore q n → has_result to n ≡ true → HasBefore to (n + 1)
 before_next q to n goes before there m low = go (m == n) refl
   where
     go : (b : Bool) → (m == n) ≡ b → has_result to m ≡ true
@@ -174,17 +175,17 @@ before_next q to n goes before there m low = go (m == n) refl
 -- ## What is asked for
 
 -- whether the pool is to be asked for the result of an instruction
-abbrev pub asks : Query → ℕ → Bool
+abbrev pub asks : RunningQuery → ℕ → Bool
 asks q n = slice_index_or (marks_of q.plan) n false && not (has_result q n)
 
-mark_at : (q : Query) (n : ℕ) → n < length q.plan.instrs → slice_get (marks_of q.plan) n ≡ Some (slice_index_or (marks_of q.plan) n false)
+mark_at : (q : RunningQuery) (n : ℕ) → n < length q.plan.instrs → slice_get (marks_of q.plan) n ≡ Some (slice_index_or (marks_of q.plan) n false)
 mark_at q n low = slice_get-get_or (marks_of q.plan) n false (let many = as_many_marks q.plan in omega (arith, low, many))
 
 not_has : (b : Bool) → not b ≡ true → b ≡ false
 not_has false is = refl
 not_has true is = absurd (cc)
 
-pub asks_here : InstrsRun → (q : Query) (n : ℕ) → IsUnderWay q → HasBefore q n → n < length q.plan.instrs → asks q n ≡ true → (instr : Instr) × IsAt q n instr × HasArgs q instr
+pub asks_here : InstrsRun → (q : RunningQuery) (n : ℕ) → IsUnderWay q → HasBefore q n → n < length q.plan.instrs → asks q n ≡ true → (instr : Instr) × IsAt q n instr × HasArgs q instr
 asks_here run q n under before low is =
     let at = instr_at q.plan.instrs n low in
     let own = run q.plan q.snap.db n at.0 under.checked under.fits at.1 in
@@ -192,7 +193,7 @@ asks_here run q n under before low is =
     let both = and_parts (slice_index_or (marks_of q.plan) n false) (not (has_result q n)) is in
     (at.0, record { here = at.1; marked = mark_at q n low ∙ ap Some both.0; open_ = not_has (has_result q n) both.1 }, ap is_some there.1)
 
-pub not_asked : (q : Query) (n : ℕ) → n < length q.plan.instrs → asks q n ≡ false → has_result q n ≡ false → HasMark q n false
+pub not_asked : (q : RunningQuery) (n : ℕ) → n < length q.plan.instrs → asks q n ≡ false → has_result q n ≡ false → HasMark q n false
 not_asked q n low is none = mark_at q n low ∙ ap Some (go (slice_index_or (marks_of q.plan) n false) (has_result q n) is none)
   where
     go : (mark has : Bool) → mark && not has ≡ false → has ≡ false → mark ≡ false
@@ -209,7 +210,7 @@ no_rows_from (Some v ∷ vs) zero none = absurd (cc)
 no_rows_from (Some v ∷ vs) (suc n) none = ap (λ (o : Option (List Value)). option_map (λ ys. v ∷ ys) o) (no_rows_from vs n none)
 
 -- there are no rows where an instruction has no value
-pub no_rows : (q : Query) (n : ℕ) → value_at q n ≡ Some None → plan_rows q.plan q.snap.db ≡ None
+pub no_rows : (q : RunningQuery) (n : ℕ) → value_at q n ≡ Some None → plan_rows q.plan q.snap.db ≡ None
 no_rows q n none = ap (option_map (output_rows q.plan.out)) (no_rows_from (all_values q) n none)
 
 all_some : (values : List Value) → all_or_none (map Some values) ≡ Some values
@@ -227,7 +228,7 @@ same_list (x ∷ xs) (y ∷ ys) long same =
     (λ i. first i ∷ rest i)
 
 -- the results are the values, where all are there
-pub known_whole : (q : Query) → IsUnderWay q → HasBefore q (length q.plan.instrs) → known_of q.values.items ≡ all_values q
+pub known_whole : (q : RunningQuery) → IsUnderWay q → HasBefore q (length q.plan.instrs) → known_of q.values.items ≡ all_values q
 known_whole q under all_there = same_list (known_of q.values.items) (all_values q) long (λ n low. at n low)
   where
     long : length (known_of q.values.items) ≡ length (all_values q)
@@ -243,15 +244,15 @@ known_whole q under all_there = same_list (known_of q.values.items) (all_values 
         ∙ ap (option_map (option_map value_of)) (slice_get-get_or q.values.items n None low_here ∙ ap Some there.1)
         ∙ sym (under.known n there.0 there.1)
 
-pub rows_at_end : (q : Query) (rows : List (List Cell)) (values : List Value) → IsUnderWay q → HasBefore q (length q.plan.instrs) → known_of q.values.items ≡ map Some values → rows ≡ output_rows q.plan.out values
+pub rows_at_end : (q : RunningQuery) (rows : List (List Cell)) (values : List Value) → IsUnderWay q → HasBefore q (length q.plan.instrs) → known_of q.values.items ≡ map Some values → rows ≡ output_rows q.plan.out values
     → EndsWith q (shown.Rows rows) q.work
 rows_at_end q rows values under all_there known is =
     HasRows q rows (goes_not q under) all_there
     (ap (λ vs. option_map (output_rows q.plan.out) (all_or_none vs)) (sym (known_whole q under all_there) ∙ known) ∙ ap (option_map (output_rows q.plan.out)) (all_some values) ∙ ap Some (sym is))
     refl (work_at_end q under all_there)
 
--- what it comes to from where it went on to
-module _ (q to : Query) (goes : GoesOn q to) where
+-- the step to which it comes, from the query with which it went on
+module _ (q to : RunningQuery) (goes : GoesOn q to) where
   same_plan : (P : Plan → Db → Type 0) → P to.plan to.snap.db → P q.plan q.snap.db
   same_plan P p = subst (λ (pl : Plan). P pl q.snap.db) goes.plan_is (subst (λ (s : Content). P to.plan s.db) goes.snap_is p)
 
@@ -292,16 +293,16 @@ none_missing front behind whole is each =
     let long = length-append front (None ∷ behind) in
     let same = ap (λ (xs : List (Option Obj)). length xs) is in
     let there = each (length front) (omega (arith, long, same)) in
-    let here : Some None ≡ Some (Some there.0) = sym (there_behind front None behind) ∙ ap (λ (xs : List (Option Obj)). slice_get xs (length front)) is ∙ there.1 in
+    let here : Some None ≡ Some (Some there.0) = sym (slice_get-append_middle front None behind) ∙ ap (λ (xs : List (Option Obj)). slice_get xs (length front)) is ∙ there.1 in
     cc
 
 -- all are there
-pub each_there : (q : Query) → HasBefore q (length q.values.items) → (n : ℕ) → n < length q.values.items → (result : Obj) × (slice_get q.values.items n ≡ Some (Some result))
+pub each_there : (q : RunningQuery) → HasBefore q (length q.values.items) → (n : ℕ) → n < length q.values.items → (result : Obj) × (slice_get q.values.items n ≡ Some (Some result))
 each_there q before n low = let there = found (result_at q n) (before n low) in (there.0, slice_get-get_or q.values.items n None low ∙ ap Some there.1)
 
 -- ## Room for results
 
-pub opened_is : (q to : Query) (count : ℕ) → IsFresh q → count ≡ length q.plan.instrs → count < 2 ^ 32 → to.snap ≡ q.snap → to.plan ≡ q.plan → to.marks.items ≡ q.marks.items → to.ids.items ≡ replicate count 0 → to.values.items ≡ replicate count None
+pub opened_is : (q to : RunningQuery) (count : ℕ) → IsFresh q → count ≡ length q.plan.instrs → count < 2 ^ 32 → to.snap ≡ q.snap → to.plan ≡ q.plan → to.marks.items ≡ q.marks.items → to.ids.items ≡ replicate count 0 → to.values.items ≡ replicate count None
     → to.asked.items ≡ replicate count false → to.work ≡ 0 → IsOpened q to
 opened_is q to count fresh many few snap plan marks ids values asked work = record {
   snap_is = snap;

@@ -5,6 +5,7 @@ use Rattle.std.specs.Option.{option_map_or}
 use Rattle.std.proofs.lemmas.List.{append-nil, length_push, take_at}
 use Rattle.std.proofs.lemmas.List.Elements.{recursion_from_All}
 use Rattle.std.proofs.lemmas.Option.{same_Some}
+use Rattle.cell_core.proofs.ListLemmas.{slice_get-append_middle}
 use Rattle.cell_core.specs.declared.operator.Instr.{Instr}
 use Rattle.cell_core.specs.declared.operator.Value.{Value}
 use Rattle.cell_core.specs.declared.table.Db.{Db}
@@ -17,7 +18,7 @@ use Rattle.recycle_mark.specs.Marks.{marks_of}
 use Rattle.lineage_key.specs.Keys.{IsNumbered}
 use Rattle.query_keys.specs.Laws.{InstrsRun}
 use Rattle.query_keys.proofs.InstrLemmas.{get_none, taken_args}
-use Rattle.query_run.specs.declared.step.Query.{Query}
+use Rattle.query_run.specs.declared.step.RunningQuery.{RunningQuery}
 use Rattle.query_run.specs.Queries.{HasBefore, IsUnderWay, all_values, done_load, has_result, result_at, unmarked_load, unmarked_work}
 use Rattle.query_run.proofs.ResultLemmas.{none_found}
 
@@ -80,7 +81,7 @@ module _ (db : Db) (values : List (Option Value)) where
   total [] = 0
   total (i ∷ is) = load i + total is
 
-  -- what is there, and one that isn't, have no more than all
+  -- those that are there, and one that isn't, have no more than all
   done_within : (instrs : List Instr) (marks : List Bool) (results : List (Option Obj)) → done instrs marks results ≤ total instrs
   done_within [] marks results = omega arith
   done_within (i ∷ is) [] results = omega arith
@@ -121,11 +122,7 @@ module _ (db : Db) (values : List (Option Value)) where
 
 -- ## The load of a plan is that of its instructions by the values of all
 
-pub there_behind : {X : Type 0} (front : List X) (x : X) (behind : List X) → slice_get (front ++ x ∷ behind) (length front) ≡ Some x
-there_behind [] x behind = refl
-there_behind (y ∷ front) x behind = there_behind front x behind
-
--- values that go on behind others
+-- values that continue others
 grows : (db : Db) (values : List (Option Value)) (instrs : List Instr) → (more : List (Option Value)) × (values_from db values instrs ≡ values ++ more)
 grows db values [] = ([], sym (append-nil values))
 grows db values (i ∷ is) =
@@ -149,7 +146,7 @@ module _ (run : InstrsRun) (plan : Plan) (db : Db) (checked : plan_fault plan �
   loads_from front values [] whole long are = refl
   loads_from front values (i ∷ is) whole long are =
       let grown = grows db values (i ∷ is) in
-      let at : slice_get plan.instrs (length values) ≡ Some i = ap (λ (list : List Instr). slice_get list (length values)) whole ∙ ap (slice_get (front ++ i ∷ is)) long ∙ there_behind front i is in
+      let at : slice_get plan.instrs (length values) ≡ Some i = ap (λ (list : List Instr). slice_get list (length values)) whole ∙ ap (slice_get (front ++ i ∷ is)) long ∙ slice_get-append_middle front i is in
       let first = same_load values grown.0 i at (are ∙ grown.1) in
       let longer : length (values ++ instr_value db values i ∷ []) ≡ length (front ++ i ∷ []) = length_push values (instr_value db values i) ∙ ap (λ n. n + 1) long ∙ sym (length_push front i) in
       let rest = loads_from (front ++ i ∷ []) (values ++ instr_value db values i ∷ []) is (whole ∙ sym (append_assoc front (i ∷ []) is)) longer are in
@@ -160,8 +157,8 @@ module _ (run : InstrsRun) (plan : Plan) (db : Db) (checked : plan_fault plan �
 
 -- ## A query under way
 
--- the work of what is there, and the load of an instruction whose result isn't, are no more than the load of the plan
-pub load_within : InstrsRun → (q : Query) (n : ℕ) (instr : Instr) → IsUnderWay q → slice_get q.plan.instrs n ≡ Some instr → has_result q n ≡ false → q.work + instr_load q.snap.db (all_values q) instr ≤ plan_load q.plan q.snap.db
+-- the work so far and the load of an instruction without a result are together no more than the load of the plan
+pub load_within : InstrsRun → (q : RunningQuery) (n : ℕ) (instr : Instr) → IsUnderWay q → slice_get q.plan.instrs n ≡ Some instr → has_result q n ≡ false → q.work + instr_load q.snap.db (all_values q) instr ≤ plan_load q.plan q.snap.db
 load_within run q n instr under here open_ =
     let part = one_within q.snap.db (all_values q) q.plan.instrs (marks_of q.plan) q.values.items n instr here (none_found (result_at q n) open_) in
     let work = under.work in
@@ -169,5 +166,5 @@ load_within run q n instr under here open_ =
     omega (arith, part, work, whole)
 
 -- the work where all results are there
-pub work_at_end : (q : Query) → IsUnderWay q → HasBefore q (length q.plan.instrs) → q.work ≡ unmarked_work q.plan q.snap.db
+pub work_at_end : (q : RunningQuery) → IsUnderWay q → HasBefore q (length q.plan.instrs) → q.work ≡ unmarked_work q.plan q.snap.db
 work_at_end q under all_there = under.work ∙ all_done q.snap.db (all_values q) q.plan.instrs (marks_of q.plan) q.values.items all_there

@@ -5,26 +5,26 @@ use Rattle.cell_core.specs.declared.operator.Instr.{Instr}
 use Rattle.bat_core.specs.declared.shared.Obj.{Obj}
 use Rattle.bat_core.specs.Objects.{value_of}
 use Rattle.mal_meaning.specs.Meaning.{instr_load, plan_rows}
-use Rattle.sql_semantics.specs.declared.refusal.Refusal.TheVariants.{Overflow}
+use Rattle.sql_definitions.specs.declared.refusal.Refusal.TheVariants.{Overflow}
 use Rattle.reply_layout.specs.declared.shown.Shown.{Shown}
 use Rattle.reply_layout.specs.declared.shown.Shown.TheVariants as shown
 use Rattle.recycle_pool.specs.declared.found.Found.TheVariants as found
-use Rattle.query_run.specs.declared.step.Query.{Query}
+use Rattle.query_run.specs.declared.step.RunningQuery.{RunningQuery}
 use Rattle.query_run.specs.declared.step.Step.{Step}
 use Rattle.query_run.specs.declared.step.Step.TheVariants as step
 use Rattle.query_run.specs.Queries.{AsksFor, BecomesOf, HasArgs, HasAsked, HasBefore, HasGained, HasMark, IsAt, IsOffered, all_values, has_result, unmarked_work, value_at, was_asked}
 use Rattle.query_run.specs.Steps.{IsOpened}
 
--- its result isn't there and wasn't asked for, and its arguments have theirs
-pub record IsReady (q : Query) (n : ℕ) : Type 0 where
+-- it has its arguments, and its result is neither there nor was it asked for
+pub record IsReady (q : RunningQuery) (n : ℕ) : Type 0 where
   pub instr : Instr
   pub here : slice_get q.plan.instrs n ≡ Some instr
   pub open_ : has_result q n ≡ false
   pub unasked : was_asked q n ≡ false
   pub args : HasArgs q instr
 
--- a query with the value of an instruction that isn't marked, whose work it counts
-pub record HasTaken (q : Query) (n : ℕ) (result : Obj) (to : Query) : Type 0 where
+-- a query with the value of an unmarked instruction, whose work it counts
+pub record HasTaken (q : RunningQuery) (n : ℕ) (result : Obj) (to : RunningQuery) : Type 0 where
   pub instr : Instr
   pub here : slice_get q.plan.instrs n ≡ Some instr
   pub unmarked : HasMark q n false
@@ -32,21 +32,21 @@ pub record HasTaken (q : Query) (n : ℕ) (result : Obj) (to : Query) : Type 0 w
   pub value : value_at q n ≡ Some (Some (value_of result))
   pub gained : HasGained q n result 0 (q.work + instr_load q.snap.db (all_values q) instr) to
 
--- what comes of the value of an instruction that was computed elsewhere: it is there, or, of a marked one, offered
-abbrev pub ComesOfValue : Query → ℕ → Obj → Step → Type 0
+-- the step after the value of an instruction was computed elsewhere: the query has it, or offers that of a marked one
+abbrev pub ComesOfValue : RunningQuery → ℕ → Obj → Step → Type 0
 ComesOfValue q n result (step.Open to) = HasTaken q n result to
 ComesOfValue q n result (step.Offering to at offer) = (to ≡ q) × (at ≡ n) × ((instr : Instr) × IsAt q n instr × IsOffered q n instr offer) × (offer.done ≡ offer.work)
 ComesOfValue q n result _ = ⊥
 
--- ## What it may do by itself
+-- ## Steps without an event
 
--- what an open query may note: an instruction that isn't marked is computed elsewhere, or has its result
-pub data Notes (q to : Query) : Type 0 where
+-- what an open query may note: an unmarked instruction is computed elsewhere, or has its result
+pub data Notes (q to : RunningQuery) : Type 0 where
   HandsOut : (n : ℕ) → HasMark q n false → HasAsked q n to → Notes q to
   Computes : (n : ℕ) (result : Obj) → HasTaken q n result to → Notes q to
 
 -- how it ends: all results are there, or there are no rows
-pub data MayEnd (q : Query) (reply : Shown) (work : ℕ) : Type 0 where
+pub data MayEnd (q : RunningQuery) (reply : Shown) (work : ℕ) : Type 0 where
   WithRows : (rows : List (List Cell)) → HasBefore q (length q.plan.instrs) → plan_rows q.plan q.snap.db ≡ Some rows → reply ≡ shown.Rows rows → work ≡ unmarked_work q.plan q.snap.db → MayEnd q reply work
   WithNone : plan_rows q.plan q.snap.db ≡ None → reply ≡ shown.Refused Overflow → work ≡ 0 → MayEnd q reply work
 

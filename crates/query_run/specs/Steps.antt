@@ -1,4 +1,4 @@
--- What a query's steps know by themselves, and how one follows from another.
+-- The facts of a query's steps, and how one step follows from another.
 use Rattle.std.specs.Prelude.{◌≡◌, ℕ, ◌+◌, ◌≤◌, [], true, false, None}
 use Rattle.cell_core.specs.declared.operator.Instr.{Instr}
 use Rattle.mal_meaning.specs.Meaning.{plan_load, plan_rows}
@@ -6,20 +6,20 @@ use Rattle.mal_check.specs.Checked.{plan_fault}
 use Rattle.mal_check.specs.Runnable.{FitsDb}
 use Rattle.recycle_mark.specs.Marks.{marks_of}
 use Rattle.store_changes.specs.Work.{lost_unless}
-use Rattle.query_run.specs.declared.step.Query.{Query}
+use Rattle.query_run.specs.declared.step.RunningQuery.{RunningQuery}
 use Rattle.query_run.specs.declared.step.Step.{Step}
 use Rattle.query_run.specs.declared.step.Step.TheVariants as step
 use Rattle.query_run.specs.Queries.{BecomesOf, ComesTo, HasArgs, IsAt, IsUnderWay, Serves, has_result, was_asked}
 
 -- a query that has begun: its plan has no fault and fits its tables
-pub record IsFresh (q : Query) : Type 0 where
+pub record IsFresh (q : RunningQuery) : Type 0 where
   pub checked : plan_fault q.plan ≡ None
   pub fits : FitsDb q.plan q.snap.db
   pub marks : q.marks.items ≡ marks_of q.plan
   pub work : q.work ≡ 0
 
--- it has room for its results, of which none is there
-pub record IsOpened (q to : Query) : Type 0 where
+-- it has room for its results, and none of them
+pub record IsOpened (q to : RunningQuery) : Type 0 where
   pub snap_is : to.snap ≡ q.snap
   pub plan_is : to.plan ≡ q.plan
   pub under : IsUnderWay to
@@ -27,23 +27,23 @@ pub record IsOpened (q to : Query) : Type 0 where
   pub unasked : (n : ℕ) → was_asked to n ≡ false
   pub work_is : to.work ≡ 0
 
--- what a step that computes needs
+-- the facts that a step needs to compute
 abbrev pub IsSoundStep : Step → Type 0
 IsSoundStep (step.Begun q) = IsFresh q
 IsSoundStep (step.Open q) = IsUnderWay q
 IsSoundStep (step.Found q n found parts) = IsUnderWay q × ((instr : Instr) × IsAt q n instr × HasArgs q instr × Serves q n instr found parts.items)
 IsSoundStep _ = Unit {0}
 
--- what it comes to, where the query goes through its plan in order; a step whose event stands stays as it is
+-- the step to which it comes, where the query goes through its plan in order; a step that has its event stays as it is
 abbrev pub Computes : Step → Step → Type 0
-Computes (step.Begun q) to = (open_ : Query) × IsOpened q open_ × ComesTo open_ to
+Computes (step.Begun q) to = (open_ : RunningQuery) × IsOpened q open_ × ComesTo open_ to
 Computes (step.Open q) to = ComesTo q to
 Computes (step.Found q n found parts) to = (instr : Instr) → IsAt q n instr → BecomesOf q n instr found parts.items to
 Computes from to = to ≡ from
 
--- ## What a counter tells
+-- ## What a counter shows
 
--- the work that was done and that no event has counted yet
+-- the work that is done and not yet counted by an event
 abbrev pub held : Step → ℕ
 held (step.Begun q) = q.work
 held (step.Open q) = q.work
@@ -52,8 +52,8 @@ held (step.Found q n found parts) = q.work
 held (step.Offering q n offer) = q.work + offer.done
 held (step.Ending reply work) = work
 
--- what a query may have counted that ends: the load of its plan, where that overflows
-abbrev pub lost_at : Query → Step → ℕ
+-- the work that a query may lose at its end: the load of its plan, where the plan overflows
+abbrev pub lost_at : RunningQuery → Step → ℕ
 lost_at q (step.Ending reply work) = lost_unless (plan_rows q.plan q.snap.db) (plan_load q.plan q.snap.db)
 lost_at q _ = 0
 
@@ -63,7 +63,7 @@ lost_between (step.Open q) to = lost_at q to
 lost_between (step.Found q n found parts) to = lost_at q to
 lost_between from to = 0
 
--- a counter goes from here to there as one step comes to another: by the work that is done, and by no more than what is lost beyond it
+-- as one step comes to another, a counter rises by the work that is done, and by no more beyond it than what is lost
 pub record Counted (from to : Step) (before after : ℕ) : Type 0 where
   pub least : before + held to ≤ after + held from
   pub most : after + held from ≤ (before + held to) + lost_between from to

@@ -1,4 +1,4 @@
-//! What a query computes before its next event.
+//! The work of a query before its next event.
 ghost use Rattle.std.specs.Prelude.{IfOk};
 ghost use Rattle.query_run.specs.Steps.{Computes, Counted, IsSoundStep};
 
@@ -9,8 +9,8 @@ use std::alloc::Global;
 use std::sync::ledger::Ledger;
 
 impl Step {
-    /// Computes what the next event needs, where the query goes through its plan in order. The counter
-    /// rises by the work that is done; where the plan overflows, by at most its load more.
+    /// Computes up to the next event, in the order of the plan. The counter rises by the work that
+    /// is done; where the plan overflows, by at most its load more.
     pub fn outside<E: Operate, L: Ledger>(
         self,
         alloc: Global,

@@ -16,10 +16,10 @@ ghost use Rattle.query_run.specs.Queries.{AsksFor, ComesTo, EndsWith, GoesOn, Ha
 ghost use Rattle.query_run.specs.Steps.{Counted, IsFresh, IsOpened, held};
 ghost use Rattle.query_run.specs.declared.step.Step.TheVariants as step;
 ghost use Rattle.reply_layout.specs.declared.shown.Shown.TheVariants as shown;
-ghost use Rattle.sql_semantics.specs.declared.refusal.Refusal.TheVariants as refusal;
+ghost use Rattle.sql_definitions.specs.declared.refusal.Refusal.TheVariants as refusal;
 
 use crate::reuse::sum;
-use crate::step::{Query, Step};
+use crate::step::{RunningQuery, Step};
 use bat_core::{Obj, Operate};
 use cell_core::{Cell, Instr, Memory, RunError, Sequence, Steps};
 use lineage_key::{Key, KeyArg, key_of};
@@ -28,20 +28,20 @@ use mal_meaning::Plan;
 use pool_policy::Admitted;
 use query_keys::instrs_run;
 use reply_layout::Shown;
-use sql_semantics::Refusal;
+use sql_definitions::Refusal;
 use std::alloc::Global;
 use std::sync::ledger::Ledger;
 use table_store::Snap;
 
-impl Query {
+impl RunningQuery {
     /// A query that has begun. Takes no memory.
-    pub fn new(alloc: Global, snap: Snap, plan: Plan, marks: Vec<bool>) -> Query
+    pub fn new(alloc: Global, snap: Snap, plan: Plan, marks: Vec<bool>) -> RunningQuery
         ensures snap { result.snap ≡ snap }
         ensures plan { result.plan ≡ plan }
         ensures marks { result.marks.items ≡ marks.items }
         ensures work { result.work ≡ 0 }
     {
-        Query {
+        RunningQuery {
             snap,
             plan,
             marks,
@@ -53,7 +53,7 @@ impl Query {
     }
 
     /// Makes room for its results. A plan of 2^32 instructions counts as want of memory.
-    pub fn open(self, alloc: Global) -> Result<Query, Memory>
+    pub fn open(self, alloc: Global) -> Result<RunningQuery, Memory>
         requires { IsFresh self }
         ensures { IfOk result (IsOpened self) }
     {
@@ -65,7 +65,7 @@ impl Query {
         let ids = vec![in alloc; 0_u64; count]?;
         let values = no_results(alloc, count)?;
         let asked = vec![in alloc; false; count]?;
-        Ok(Query {
+        Ok(RunningQuery {
             snap,
             plan,
             marks,
@@ -76,8 +76,8 @@ impl Query {
         })
     }
 
-    /// Computes what the pool isn't asked for, in the order of the plan, up to the next instruction that it
-    /// is asked for, or to the end.
+    /// Computes in the order of the plan, up to the next instruction for which the pool is asked,
+    /// or to the end.
     pub(crate) fn walk<E: Operate, L: Ledger>(
         mut self,
         alloc: Global,
@@ -104,7 +104,7 @@ impl Query {
         self.finish(alloc)
     }
 
-    /// Whether the pool is to be asked for the result of an instruction: it is marked, and has none yet.
+    /// Whether the pool is to be asked for an instruction: it is marked, and has no result yet.
     fn must_ask(&self, n: usize) -> bool
         requires under { IsUnderWay self.now }
         requires inside { n < length self.now.plan.instrs }
@@ -113,7 +113,7 @@ impl Query {
         self.marks[n] && !self.has(n)
     }
 
-    /// Whether the result of an instruction is there.
+    /// Whether an instruction has its result.
     pub(crate) fn has(&self, n: usize) -> bool
         requires under { IsUnderWay self.now }
         requires inside { n < length self.now.plan.instrs }
@@ -122,7 +122,7 @@ impl Query {
         self.values[n].is_some()
     }
 
-    /// It asks for the result of a marked instruction whose arguments are there.
+    /// The step that asks for the result of a marked instruction, which has its arguments.
     pub fn to_ask(self, alloc: Global, n: usize) -> Result<Step, Memory>
         requires under { IsUnderWay self }
         requires at { (instr : InstrSeen) × IsAt self n instr × HasArgs self instr }
@@ -132,7 +132,7 @@ impl Query {
         Ok(Step::Asking(self, n, key))
     }
 
-    /// It ends with the rows of its output, where all results are there.
+    /// The end, with the rows of the output. All results are there.
     pub fn finish(self, alloc: Global) -> Result<Step, Memory>
         requires under { IsUnderWay self }
         requires all { HasBefore self (length self.plan.instrs) }
@@ -145,7 +145,7 @@ impl Query {
         Ok(Step::Ending(Shown::Rows(rows), work))
     }
 
-    /// Has the result of an instruction, which it computes where it isn't there. The pool isn't asked for it.
+    /// Computes the result of an instruction unless it has one. The pool isn't asked.
     fn have<E: Operate, L: Ledger>(
         &mut self,
         alloc: Global,
@@ -176,7 +176,7 @@ impl Query {
         Ok(())
     }
 
-    /// Runs an instruction whose arguments are there.
+    /// Runs an instruction that has its arguments.
     pub(crate) fn run_at<E: Operate, L: Ledger>(
         &self,
         alloc: Global,
@@ -237,7 +237,7 @@ impl Query {
     }
 }
 
-/// So many results that aren't there.
+/// `count` places without a result.
 fn no_results(alloc: Global, count: usize) -> Result<Vec<Option<Obj>>, Memory>
     ensures { IfOk result (λ results. results.items ≡ replicate count None) }
 {
@@ -263,7 +263,7 @@ fn all_results(alloc: Global, results: Vec<Option<Obj>>) -> Result<Sequence<Obj>
     Ok(all)
 }
 
-/// The version that a key has: for a bind that of its column in the snapshot.
+/// The version of a key: for a bind that of its column in the snapshot.
 fn version_for(snap: &Snap, key: &Key) -> u64
     requires { is_bind key.now ≡ true → (table column kind : List ℕ) × (key.now.args ≡ Const (Text table) ∷ Const (Text column) ∷ Const (Text kind) ∷ []) }
     ensures { result ≡ (with_version (versions_in snap.now) key.now).version }
@@ -281,14 +281,14 @@ fn version_for(snap: &Snap, key: &Key) -> u64
     }
 }
 
-/// The end of a query that overflows.
+/// The end of a query whose plan overflows.
 pub fn overflow() -> Step
     ensures { result ≡ step.Ending (shown.Refused refusal.Overflow) 0 }
 {
     Step::Ending(Shown::Refused(Refusal::Overflow), 0)
 }
 
-/// The id that an admission gives, 0 for none.
+/// The id by an admission's answer, 0 for none.
 pub(crate) fn id_given(said: Admitted) -> u64
     ensures { result ≡ given_by said }
 {

@@ -10,16 +10,16 @@ ghost use Rattle.query_run.specs.Queries.{HasArgs, HasAsked, IsAt, IsUnderWay, a
 ghost use Rattle.query_run.specs.Ready.{ComesOfValue, IsReady};
 
 use crate::reuse::{Made, known_result, sum};
-use crate::step::{Query, Step};
+use crate::step::{RunningQuery, Step};
 use bat_core::{Obj, Operate};
 use cell_core::{Arg, Memory, RunError, Steps};
 use query_keys::{instrs_run, marked_are_bats};
 use std::alloc::Global;
 use std::sync::ledger::Ledger;
 
-impl Query {
-    /// The first instruction that is ready: its result isn't there and wasn't asked for, and those of its
-    /// arguments are there.
+impl RunningQuery {
+    /// The first instruction that is ready: it has its arguments, and its result is neither there
+    /// nor was it asked for.
     pub fn first_ready(&self) -> Option<usize>
         requires { IsUnderWay self.now }
         ensures some { IfSome result (λ n. IsReady self.now n) }
@@ -44,7 +44,7 @@ impl Query {
             && are_known(self.values.as_slice(), self.instr(n).args.as_slice())
     }
 
-    /// Notes that the result of an instruction which isn't marked is computed elsewhere. Takes no memory.
+    /// Notes that the result of an unmarked instruction is computed elsewhere. Takes no memory.
     pub fn hand_out(&mut self, n: usize)
         requires under { IsUnderWay self.old }
         requires inside { n < length self.old.plan.instrs }
@@ -53,7 +53,7 @@ impl Query {
         self.asked[n] = true;
     }
 
-    /// The column of a bind whose arguments are there.
+    /// The column of a bind that has its arguments.
     pub fn bound<E: Operate, L: Ledger>(
         &self,
         alloc: Global,
@@ -74,8 +74,8 @@ impl Query {
         }
     }
 
-    /// Takes in the value of an instruction that was computed elsewhere. Where it is marked, it is offered to the
-    /// pool next.
+    /// Takes in the value of an instruction, which was computed elsewhere. That of a marked
+    /// instruction is offered to the pool next.
     pub fn given(mut self, alloc: Global, n: usize, value: Obj) -> Result<Step, Memory>
         requires under { IsUnderWay self }
         requires open { has_result self n ≡ false }
@@ -93,7 +93,7 @@ impl Query {
         Ok(Step::Open(self))
     }
 
-    /// Offers the value of a marked instruction, which took so much work.
+    /// The step that offers the value of a marked instruction, which took this work.
     fn offer_given(self, alloc: Global, n: usize, value: Obj, load: u128) -> Result<Step, Memory>
         requires under { IsUnderWay self }
         requires at { (instr : InstrSeen) × IsAt self n instr × HasArgs self instr }

@@ -1,4 +1,4 @@
-//! The result of an instruction, from what a look found.
+//! The result of an instruction after a look that didn't find it.
 ghost use Rattle.std.specs.Prelude.{◌≡◌, ◌+◌, ◌<◌, ◌≤◌, sum_by, ◌^◌, ◌++◌, List, [], ◌∷◌, map, length, slice_get, true, Some, None, Err, IfOk, IfSome};
 ghost use Rattle.std.specs.List.{AllByRecursion};
 ghost use Rattle.std.specs.Option.{option_map};
@@ -17,7 +17,7 @@ ghost use Rattle.cell_core.specs.Operators.{pairs_read};
 ghost use Rattle.mal_meaning.specs.Meaning.{arg_value, arg_values, instr_load};
 ghost use Rattle.reuse_laws.specs.Reuse.{high_bound as high_bound_of, low_bound as low_bound_of, merged, selected_in};
 ghost use Rattle.query_keys.specs.Laws.{HasBounds};
-ghost use Rattle.recycle_pool.specs.declared.found.Part.{Part as PartSeen};
+ghost use Rattle.recycle_pool.specs.declared.found.CoverPiece.{CoverPiece as PartSeen};
 ghost use Rattle.mal_meaning.specs.Meaning.{plan_load};
 ghost use Rattle.query_run.specs.declared.step.Offer.{Offer as OfferSeen};
 ghost use Rattle.query_run.specs.declared.step.Step.TheVariants as step;
@@ -26,13 +26,13 @@ ghost use Rattle.query_run.specs.Queries.{BecomesOf, HasArgs, IsAt, IsOffered, I
 ghost use Rattle.query_run.specs.Steps.{Counted};
 
 use crate::query::overflow;
-use crate::step::{Offer, Query, Step};
+use crate::step::{Offer, RunningQuery, Step};
 use bat_algebra::{merge_by_heads, select};
 use bat_core::{Bat, Obj, Operate, Shared};
 use cell_core::{Arg, Cell, Cut, Instr, Memory, RunError, Sequence, Span, Steps};
 use mal_exec::Done;
 use query_keys::{instrs_run, marked_are_bats};
-use recycle_pool::{Found, Part};
+use recycle_pool::{CoverPiece, Found};
 use std::alloc::Global;
 use std::sync::ledger::Ledger;
 
@@ -43,14 +43,14 @@ pub(crate) struct Made {
     pub done: u128,
 }
 
-impl Query {
-    /// Computes the result that it asked for, and offers it.
+impl RunningQuery {
+    /// Computes the result for which it asked, and offers it.
     pub(crate) fn reuse<E: Operate, L: Ledger>(
         self,
         alloc: Global,
         n: usize,
         found: Found,
-        parts: Vec<Part>,
+        parts: Vec<CoverPiece>,
         kernel: &E,
         steps: &mut Steps<L>,
     ) -> Result<Step, Memory>
@@ -66,13 +66,13 @@ impl Query {
         }
     }
 
-    /// Computes the result that it asked for.
+    /// Computes the result for which it asked.
     fn make<E: Operate, L: Ledger>(
         &self,
         alloc: Global,
         n: usize,
         found: Found,
-        parts: Vec<Part>,
+        parts: Vec<CoverPiece>,
         kernel: &E,
         steps: &mut Steps<L>,
     ) -> Result<Made, RunError>
@@ -124,7 +124,7 @@ impl Query {
         }
     }
 
-    /// It offers the result of an instruction.
+    /// The step that offers the result of an instruction.
     pub(crate) fn to_offer(self, alloc: Global, n: usize, made: Made) -> Result<Step, Memory>
         requires under { IsUnderWay self }
         requires at { (instr : InstrSeen) × IsAt self n instr × HasArgs self instr }
@@ -142,8 +142,8 @@ impl Query {
         Ok(Step::Offering(self, n, offer))
     }
 
-    /// The stated work of an instruction whose arguments are there, and which has this result. Work past
-    /// 2^62 counts as want of memory.
+    /// The stated work of an instruction that has its arguments and this result. Work from 2^62 on
+    /// counts as want of memory.
     fn stated_work(&self, n: usize, value: &Shared) -> Result<u64, Memory>
         requires under { IsUnderWay self.now }
         requires at { (instr : InstrSeen) × IsAt self.now n instr × HasArgs self.now instr }
@@ -158,7 +158,8 @@ impl Query {
         Ok(work as u64)
     }
 
-    /// The stated work of an instruction whose arguments are there, and whose value has so many pairs.
+    /// The stated work of an instruction that has its arguments, and whose value has this many
+    /// pairs.
     pub(crate) fn load_of(&self, n: usize, pairs: u64) -> Result<u128, Memory>
         requires under { IsUnderWay self.now }
         requires at { (instr : InstrSeen) × (slice_get self.now.plan.instrs n ≡ Some instr) × HasArgs self.now instr }
@@ -178,7 +179,7 @@ pub(crate) fn sum(one: u128, other: u128) -> Result<u128, Memory>
     one.checked_add(other).ok_or(Memory)
 }
 
-/// How many pairs the arguments have, where all have values.
+/// The number of pairs of the arguments, where all have values.
 fn pairs_named(values: &[Option<Obj>], args: &[Arg]) -> Result<u128, Memory>
     ensures { IfOk result (λ pairs. IfSome (arg_values (known_of values.now) args.now) (λ found. pairs ≡ pairs_read found)) }
 {
@@ -191,7 +192,7 @@ fn pairs_named(values: &[Option<Obj>], args: &[Arg]) -> Result<u128, Memory>
     Ok(pairs)
 }
 
-/// How many pairs the argument has.
+/// The number of pairs of an argument.
 fn pairs_at(values: &[Option<Obj>], arg: &Arg) -> u128
     ensures { IfSome (arg_value (known_of values.now) arg.now) (λ found. result ≡ pair_count found) }
 {
@@ -204,7 +205,7 @@ fn pairs_at(values: &[Option<Obj>], arg: &Arg) -> u128
     }
 }
 
-/// The result at a place, if it is there.
+/// The result at a place, if any.
 pub(crate) fn known_result(values: &[Option<Obj>], place: u32) -> Option<&Obj>
     ensures { option_map (λ found. value_of found.now) result ≡ arg_value (known_of values.now) (Var place) }
 {
@@ -214,7 +215,7 @@ pub(crate) fn known_result(values: &[Option<Obj>], place: u32) -> Option<&Obj>
     Some(value)
 }
 
-/// A result that was computed from so many pairs.
+/// A result that was computed from `read` pairs.
 fn made_of(alloc: Global, read: u64, out: Bat) -> Result<Made, Memory>
     ensures value { IfOk result (λ made. made.value ≡ out) }
     ensures done { IfOk result (λ made. made.done ≡ read + length out) }
@@ -224,7 +225,7 @@ fn made_of(alloc: Global, read: u64, out: Bat) -> Result<Made, Memory>
     Ok(Made { value, done })
 }
 
-/// The selection from another result by the instruction's own bounds.
+/// Selects from a pooled result by the instruction's own bounds.
 fn select_again<L: Ledger>(
     alloc: Global,
     instr: &Instr,
@@ -245,20 +246,10 @@ fn select_again<L: Ledger>(
             Arg::Const(hi),
         ] => {
             let from = pooled.bat();
-            let out = select(alloc, from, low, high, is_true(li), is_true(hi), steps)?;
+            let out = select(alloc, from, low, high, li.is_true(), hi.is_true(), steps)?;
             made_of(alloc, from.len(), out)
         }
         _ => unreachable!(),
-    }
-}
-
-/// Whether a cell is the bit that is set.
-fn is_true(cell: &Cell) -> bool
-    ensures { result ≡ is_true_cell cell.now }
-{
-    match cell {
-        Cell::Bit(bit) => *bit,
-        _ => false,
     }
 }
 
@@ -272,7 +263,7 @@ struct Pieces {
 /// The selections of the parts, merged by their heads.
 fn select_parts<L: Ledger>(
     alloc: Global,
-    parts: &[Part],
+    parts: &[CoverPiece],
     steps: &mut Steps<L>,
 ) -> Result<Made, Memory>
     requires { AllByRecursion (λ (part : PartSeen). rises (heads_of (selected_in part.span part.value)) ≡ true) parts.now }
@@ -290,7 +281,7 @@ fn select_parts<L: Ledger>(
 /// The selections of the parts.
 fn select_each<L: Ledger>(
     alloc: Global,
-    parts: &[Part],
+    parts: &[CoverPiece],
     steps: &mut Steps<L>,
 ) -> Result<Pieces, Memory>
     ensures values { IfOk result (λ pieces. pieces.values ≡ map (λ (part : PartSeen). selected_in part.span part.value) parts.now) }
@@ -309,8 +300,12 @@ fn select_each<L: Ledger>(
     Ok(Pieces { values, done })
 }
 
-/// What a part's piece selects from its value.
-fn select_part<L: Ledger>(alloc: Global, part: &Part, steps: &mut Steps<L>) -> Result<Made, Memory>
+/// Selects a part's piece from its value.
+fn select_part<L: Ledger>(
+    alloc: Global,
+    part: &CoverPiece,
+    steps: &mut Steps<L>,
+) -> Result<Made, Memory>
     ensures value { IfOk result (λ made. made.value ≡ selected_in part.now.span part.now.value) }
     ensures done { IfOk result (λ made. made.done ≡ part_work part.now) }
     ensures counted { IfOk result (λ made. steps.new ≡ steps.old + made.done) }
@@ -323,7 +318,7 @@ fn select_part<L: Ledger>(alloc: Global, part: &Part, steps: &mut Steps<L>) -> R
     made_of(alloc, from.len(), out)
 }
 
-/// The bound at which the selection that asks for a span begins, and whether it is included.
+/// The low bound of the selection of a span, and whether it is included.
 fn low_bound<'a>(cut: &'a Cut, nil: &'a Cell) -> (&'a Cell, bool)
     requires { nil.now ≡ Nil }
     ensures bound { result.0.now ≡ (low_bound_of cut.entry.now).0 }
@@ -336,7 +331,7 @@ fn low_bound<'a>(cut: &'a Cut, nil: &'a Cell) -> (&'a Cell, bool)
     }
 }
 
-/// The bound at which it ends, and whether it is included.
+/// The high bound, and whether it is included.
 fn high_bound<'a>(cut: &'a Cut, nil: &'a Cell) -> (&'a Cell, bool)
     requires { nil.now ≡ Nil }
     ensures bound { result.0.now ≡ (high_bound_of cut.entry.now).0 }

@@ -1,4 +1,4 @@
-//! What a query does to the book.
+//! The events of a query: looks and admissions in the book.
 ghost use Rattle.std.specs.Prelude.{◌≡◌, ◌+◌, ◌<◌, [], ◌∷◌, ◌++◌, length, IfOk, OnOk, OnErr};
 ghost use Rattle.bat_core.specs.declared.shared.Obj.TheVariants as obj;
 ghost use Rattle.pool_policy.specs.Admits.{admit_of};
@@ -10,11 +10,11 @@ ghost use Rattle.query_keys.specs.Laws.{id_given as given_by};
 ghost use Rattle.book_core.specs.BookView.{event_of, now_of, state_of};
 ghost use Rattle.book_core.specs.Offers.{CanOffer};
 ghost use Rattle.query_run.specs.Queries.{HasGained, IsLooked, IsUnderWay};
-ghost use Rattle.query_run.specs.declared.step.Query.{Query as QuerySeen};
+ghost use Rattle.query_run.specs.declared.step.RunningQuery.{RunningQuery as QuerySeen};
 ghost use Rattle.query_run.specs.declared.step.Step.TheVariants as step;
 
 use crate::query::id_given;
-use crate::step::{Offer, Query, Step};
+use crate::step::{Offer, RunningQuery, Step};
 use bat_core::Obj;
 use book_core::Book;
 use cell_core::Memory;
@@ -24,8 +24,8 @@ use recycle_pool::Found;
 use score_hook::Scorer;
 use std::alloc::Global;
 
-impl Query {
-    /// Asks the pool for the result of an instruction, which has this key.
+impl RunningQuery {
+    /// Asks the pool for the result of an instruction, by its key.
     pub fn ask(
         mut self,
         alloc: Global,

@@ -6,7 +6,7 @@ use Rattle.sql_tree.specs.Bytes.{begins_with, holds_close}
 use Rattle.read_laws.specs.TokenReader.{block_length}
 use Rattle.text_bytes.proofs.FoundLemmas.{value_found}
 
--- the first `*/` stands behind so many bytes
+-- the first `*/` comes after so many bytes
 pub record Closes (bs : List ℕ) (k : ℕ) : Type 0 where
   pub text_is : take k bs ++ 42 ∷ 47 ∷ drop (k + 2) bs ≡ bs
   pub inside : holds_close (take k bs) ≡ false
@@ -48,11 +48,11 @@ block_sound (b ∷ bs) at n h = by_end (block_sound bs (at + 1) n) ((b == 42) &&
         (suc k, omega (arith, sum), later b bs k e closes)
 
 -- the place is found again before a `*/`
-or_parts : (p q : Bool) → (p || q) ≡ false → (p ≡ false) × (q ≡ false)
+pub or_parts : (p q : Bool) → (p || q) ≡ false → (p ≡ false) × (q ≡ false)
 or_parts true q h = cc
 or_parts false q h = (refl, h)
 
-no_end : (b : ℕ) (bs rest : List ℕ) → ((b == 42) && begins_with 47 bs) ≡ false → ((b == 42) && begins_with 47 (bs ++ 42 ∷ 47 ∷ rest)) ≡ false
+pub no_end : (b : ℕ) (bs rest : List ℕ) → ((b == 42) && begins_with 47 bs) ≡ false → ((b == 42) && begins_with 47 (bs ++ 42 ∷ 47 ∷ rest)) ≡ false
 no_end b [] rest h = elim (b == 42) as (λ t. (t && false) ≡ false) [ true ↦ refl | false ↦ refl ]
 no_end b (c ∷ bs) rest h = h
 

@@ -1,4 +1,4 @@
--- What is left out of a statement, and which limit it passes first, is told by what is read of it.
+-- What is read of a statement determines what is left out of it, and which limit it passes first.
 use Rattle.std.proofs.Common.{◌≡◌, ℕ, ◌-◌, ◌<◌, ◌^◌, List, [], ◌∷◌, ◌++◌, Bool, true, false, ◌||◌, Option, Some, None, length, map, refl, ap, sym, ◌∙◌, arith, nat_lt, nat_le}
 use Rattle.std.specs.Prelude.{◌==◌, if◌then◌else◌, codes, pos}
 use Rattle.std.specs.List.{list_any}
@@ -233,7 +233,7 @@ expressions_kept s h =
 next : (a b : Bool) (name : List ℕ) (x y : Option (List ℕ)) → a ≡ b → x ≡ y → (if a then Some name else x) ≡ (if b then Some name else y)
 next a b name x y e f = ap (λ (c : Bool). if c then Some name else x) e ∙ ap (λ (z : Option (List ℕ)). if b then Some name else z) f
 
--- what stands behind a limit that is passed doesn't matter
+-- what comes after a limit that is passed doesn't matter
 last : (a b : Bool) (name : List ℕ) (x y : Option (List ℕ)) → a ≡ b → (b ≡ false → x ≡ y) → (if a then Some name else x) ≡ (if b then Some name else y)
 last a b name x y e f = ap (λ (c : Bool). if c then Some name else x) e ∙ go b f
   where

@@ -9,11 +9,11 @@ use Rattle.read_laws.specs.Chain.{Found, Parser, first_token, after_first, or_re
 pub then_told : {X Y : Type 0} (o : Option X) (x : X) (f : X → Option Y) (y : Option Y) → o ≡ Some x → f x ≡ y → then_read o f ≡ y
 then_told o x f y first second = ap (λ o. then_read o f) first ∙ second
 
--- where nothing is found, nothing is found behind it
+-- where nothing is found, nothing is found after it
 pub then_none : {X Y : Type 0} (o : Option X) (f : X → Option Y) → o ≡ None → then_read o f ≡ None
 then_none o f first = ap (λ o. then_read o f) first
 
--- three readers one behind the other, joined on either side
+-- three readers one after the other, joined on either side
 pub then_then : {X Y Z : Type 0} (o : Option X) (f : X → Option Y) (g : Y → Option Z) → then_read (then_read o f) g ≡ then_read o (λ x. then_read (f x) g)
 then_then None f g = refl
 then_then (Some x) f g = refl
@@ -23,21 +23,21 @@ pub or_first : {X : Type 0} (first second : Option X) → second ≡ None → or
 or_first None second h = h
 or_first (Some x) second h = refl
 
--- a choice tells what is told of the case that holds
+-- a choice is the value in the case that holds
 pub given_told : {X Y : Type 0} (o : Option X) (x : X) (none : Y) (some : X → Y) (y : Y) → o ≡ Some x → some x ≡ y → given o none some ≡ y
 given_told o x none some y first second = ap (λ o. given o none some) first ∙ second
 
 pub given_none : {X Y : Type 0} (o : Option X) (none : Y) (some : X → Y) (y : Y) → o ≡ None → none ≡ y → given o none some ≡ y
 given_none o none some y first second = ap (λ o. given o none some) first ∙ second
 
--- what the first of two readers tells, and what the second does where the first tells nothing
+-- two readers find what the first finds, and what the second finds where the first finds nothing
 pub or_told : {X : Type 0} (first second : Option X) (x : X) → first ≡ Some x → or_read first second ≡ Some x
 or_told first second x h = ap (λ o. or_read o second) h
 
 pub or_none : {X : Type 0} (first second : Option X) (y : Option X) → first ≡ None → second ≡ y → or_read first second ≡ y
 or_none first second y h k = ap (λ o. or_read o second) h ∙ k
 
--- the branch of a test that is told
+-- the branch of a test whose result is known
 pub branch_false : {X : Type 0} (b : Bool) (x y z : X) → b ≡ false → y ≡ z → cond b x y ≡ z
 branch_false b x y z h k = ap (λ b. cond b x y) h ∙ k
 
@@ -73,33 +73,33 @@ left_over o x rest h some y k =
 pub nothing_found : {X : Type 0} (o : Found X) → o ≡ None → (y : X) → o ≡ Some (y, []) → ⊥
 nothing_found o h y k = let both : ◌≡◌ {A = Found _} None (Some (y, [])) = sym h ∙ k in cc
 
--- tokens with a first one are it and those behind it
+-- tokens with a first one are it and those after it
 pub first_found : (ts : List Token) (t : Token) → first_token ts ≡ Some t → t ∷ after_first ts ≡ ts
 first_found [] t h = cc
 first_found (u ∷ ts) t h = ap (λ t. t ∷ ts) (sym (value_found u t h))
 
 module _ {X Y O : Type 0} (op : Option Token → Option O) (join : O → X → Y → X) (part : Parser Y) where
-  -- where no operator stands, the chain ends
+  -- where there is no operator, the chain ends
   pub chain_ends : (n : ℕ) (left : X) (ts : List Token) → op (first_token ts) ≡ None → chain op join part n left ts ≡ Some (left, ts)
   unfolding chain
   chain_ends zero left ts h = refl
   chain_ends (suc n) left ts h = ap (λ o. given o (Some (left, ts)) (λ o. then_read (part (after_first ts)) (λ right. chain op join part n (join o left right.0) right.1))) h
 
-  -- where one stands and a part behind it, the chain goes on with them
+  -- where there is one and a part after it, the chain goes on with them
   pub chain_goes_on : (n : ℕ) (left : X) (ts : List Token) (o : O) (right : Y) (rest : List Token) → op (first_token ts) ≡ Some o → part (after_first ts) ≡ Some (right, rest) → chain op join part (suc n) left ts ≡ chain op join part n (join o left right) rest
   unfolding chain
   chain_goes_on n left ts o right rest operator found =
       ap (λ o. given o (Some (left, ts)) (λ o. then_read (part (after_first ts)) (λ right. chain op join part n (join o left right.0) right.1))) operator
       ∙ ap (λ r. then_read r (λ right. chain op join part n (join o left right.0) right.1)) found
 
-  -- where one stands and no part behind it, the chain finds nothing
+  -- where there is one and no part after it, the chain finds nothing
   pub chain_breaks : (n : ℕ) (left : X) (ts : List Token) (o : O) → op (first_token ts) ≡ Some o → part (after_first ts) ≡ None → chain op join part (suc n) left ts ≡ None
   unfolding chain
   chain_breaks n left ts o operator found =
       ap (λ o. given o (Some (left, ts)) (λ o. then_read (part (after_first ts)) (λ right. chain op join part n (join o left right.0) right.1))) operator
       ∙ ap (λ r. then_read r (λ right. chain op join part n (join o left right.0) right.1)) found
 
-  -- a turn of a loop over the parts, where a part stands behind the operator, where none stands, and the last
+  -- a pass of a loop over the parts: where a part follows the operator, where none does, and the last pass
   pub turn_goes_on : (end turn : ℕ) (left : X) (ts : List Token) (o : O) (right : Y) (rest : List Token) (new : X) → turn < end → op (first_token ts) ≡ Some o → part (after_first ts) ≡ Some (right, rest) → new ≡ join o left right → chain op join part (end - turn) left ts ≡ chain op join part (end - (turn + 1)) new rest
   turn_goes_on end turn left ts o right rest new h operator found joined =
       let e : end - turn ≡ suc (end - (turn + 1)) = omega arith in

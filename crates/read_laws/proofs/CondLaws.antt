@@ -27,7 +27,7 @@ unfolding unit
 unit_inner build operand zero ts h = absurd (h refl)
 unit_inner build operand (suc n) ts h = let e : n ≡ suc n - 1 = omega arith in ap (λ k. unit_of build operand (unit build operand k) ts) e
 
--- a condition is its first unit and what is behind that
+-- a condition is its first unit and what follows that
 pub condition_goes_on : (build : Builder) (part : Parser CondTree) (ts : List Token) (first : CondTree) (rest : List Token) → part ts ≡ Some (first, rest) → condition build part ts ≡ condition_behind build part first rest
 unfolding condition conjunction condition_behind
 condition_goes_on build part ts first rest h = ap (λ o. then_read (then_read o (λ first. conjunction_behind build part first.0 first.1)) (λ first. chain or_in (either_of build) (conjunction build part) (length first.1) first.0 first.1)) h

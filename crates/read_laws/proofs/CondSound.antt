@@ -114,7 +114,7 @@ module _ (build : Builder) where
 
 -- ## Conditions
 
--- BETWEEN or IN, behind its operand
+-- BETWEEN or IN, after its operand
 data RangeRule (E : Type 0) : Type 0 where
   Bounds : E → E → RangeRule E
   Members : E × List E → RangeRule E
@@ -225,7 +225,7 @@ module _ (build : Builder) {E : Type 0} (write : E → List Token → List Token
             means = ap (cond_with build) (ranged_means of r.rule) ∙ r.means;
           }
 
-  -- NULL behind `e IS` and what stands between
+  -- NULL after `e IS` and what is between
   null_found : (of : E) (denied : Bool) (ts : List Token) (x : CondTree) (rest : List Token) → cond {A = Found CondTree} (is_key word.Null (first_token ts)) (Some (denied_if denied (IsNull (expr_with build (tree of))), after_first ts)) None ≡ Some (x, rest) → (write_test write (NullTest of denied) rest ≡ write of (Key word.Is ∷ write_not denied ts)) × (cond_with build (test_of tree (NullTest of denied)) ≡ x)
   null_found of denied ts x rest h =
       let g = guard_found _ _ _ h in

@@ -90,7 +90,7 @@ end_no_default other h = refl
 
 -- ## The clauses of a query, in their order
 
--- the place of the clause that the token begins, behind FROM; 0 for none of them, 6 at the end
+-- the place of the clause that the token begins, after FROM; 0 for none of them, 6 at the end
 abbrev pub clause : Option Token → ℕ
 clause None = 6
 clause (Some (Key word.Where)) = 1
@@ -100,7 +100,7 @@ clause (Some (Key word.Order)) = 4
 clause (Some (Key word.Limit)) = 5
 clause other = 0
 
--- the tokens begin with a clause behind the one at this place
+-- the tokens begin with a clause after the one at this place
 abbrev pub IsPast : ℕ → List Token → Type 0
 IsPast n ts = n < clause (first_token ts)
 

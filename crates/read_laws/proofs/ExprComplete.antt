@@ -116,7 +116,7 @@ operand_first (ColumnOperand (TableColumn (QuotedName name) column)) rest = refl
 operand_first (Negated operand) rest = refl
 operand_first (Parenthesised e) rest = refl
 
--- a column behind its first name, with a dot or without
+-- a column after its first name, with a dot or without
 abbrev column_at : List ℕ → List Token → Bool → Found ColRef
 column_at name rest dot = cond dot (then_read (name_in (first_token (after_first rest))) (λ column. Some (record { table = Some name; column = column }, after_first (after_first rest)))) (Some (record { table = None; column = name }, rest))
 

@@ -16,11 +16,11 @@ use Rattle.sql_tree.specs.declared.token.Token.{Token}
 use Rattle.text_bytes.specs.Found.{then_read}
 use Rattle.text_bytes.proofs.FoundLemmas.{pair_found}
 
--- behind all tokens nothing goes on
+-- after all tokens nothing goes on
 none_ends : EndsExpr []
 none_ends = record { term_ends = record { factor_ends = record { no_dot = refl }; no_star = refl }; no_sign = refl }
 
--- an expression is its first factor and what is behind that
+-- an expression is its first factor and what follows that
 pub expr_goes_on : (build : Builder) (part : Parser ExprTree) (ts : List Token) (first : ExprTree) (rest : List Token) → part ts ≡ Some (first, rest) → expr build part ts ≡ expr_behind build part first rest
 unfolding expr term expr_behind
 expr_goes_on build part ts first rest h = ap (λ o. then_read (then_read o (λ first. term_behind build part first.0 first.1)) (λ first. chain sign_in build.operator (term build part) (length first.1) first.0 first.1)) h

@@ -39,7 +39,7 @@ pub record IsWritten {D X : Type 0} (write : D → List Token → List Token) (m
 abbrev pub IsSound : {D X : Type 0} → (D → List Token → List Token) → (D → X) → Parser X → Type 0
 IsSound {D} {X} write meaning part = (ts : List Token) (x : X) (rest : List Token) → part ts ≡ Some (x, rest) → IsWritten write meaning ts x rest
 
--- a column behind the first of its names
+-- a column after the first of its names
 abbrev table_column : List ℕ → List Token → Found ColRef
 table_column name ts = then_read (name_in (first_token (after_first ts))) (λ column. Some (record { table = Some name; column = column }, after_first (after_first ts)))
 

@@ -32,7 +32,7 @@ module _ (build : Builder) where
   unfolding joins
   joins_break n so_far ts j h found = ap (stepped n so_far ts) h ∙ ap (λ r. then_read r (λ next. joins build n (with_source build so_far next.0) next.1)) found
 
-  -- a turn of a loop over the joins
+  -- a pass of a loop over the joins
   pub turn_goes_on : (end turn : ℕ) (so_far : Sources) (ts : List Token) (j : Joint) (next : FromItem × Option CondTree) (rest : List Token) (new : Sources) → turn < end → joint_in (first_token ts) ≡ Some j → joined build j (after_first ts) ≡ Some (next, rest) → new ≡ with_source build so_far next → joins build (end - turn) so_far ts ≡ joins build (end - (turn + 1)) new rest
   turn_goes_on end turn so_far ts j next rest new h joint found is =
       let e : end - turn ≡ suc (end - (turn + 1)) = omega arith in

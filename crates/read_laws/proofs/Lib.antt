@@ -2,6 +2,7 @@ pub mod PieceLemmas
 pub mod ByteLemmas
 pub mod QuotedLemmas
 pub mod TokenLemmas
+pub mod PieceTokens
 pub mod SymbolLemmas
 pub mod BlockLemmas
 pub mod TokensRead

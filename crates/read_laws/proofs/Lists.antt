@@ -66,7 +66,7 @@ pub any_same : {X Y : Type 0} (f : X → Y) (p : Y → Bool) (q : X → Bool) �
 any_same f p q one [] = refl
 any_same f p q one (x ∷ xs) = both _ _ _ _ (one x) (any_same f p q one xs)
 
--- two tests of what two functions give
+-- two tests of the results of two functions
 pub any_alike : {X Y Z : Type 0} (f : X → Y) (g : X → Z) (p : Y → Bool) (q : Z → Bool) → ((x : X) → p (f x) ≡ q (g x)) → (xs : List X) → list_any p (map f xs) ≡ list_any q (map g xs)
 any_alike f g p q one [] = refl
 any_alike f g p q one (x ∷ xs) = both _ _ _ _ (one x) (any_alike f g p q one xs)

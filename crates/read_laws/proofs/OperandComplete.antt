@@ -92,7 +92,7 @@ aggregate_no_not aggregate.Max = refl
 pub close_ends : (rest : List Token) → EndsExpr (sign symbol.Close ∷ rest)
 close_ends rest = record { term_ends = record { factor_ends = record { no_dot = refl }; no_star = refl }; no_sign = refl }
 
--- a reader of operands tells what is derived; behind a `(` that ends no expression it tells nothing
+-- a reader of operands finds what is derived; after a `(` that ends no expression it finds nothing
 pub record IsOperand (build : Builder) {E : Type 0} (write : E → List Token → List Token) (tree : E → ExprTree) (operand : Parser ExprTree) : Type 0 where
   pub told : (d : E) (rest : List Token) → EndsExpr rest → operand (write d rest) ≡ Some (expr_with build (tree d), rest)
   pub longer : (d : E) (rest : List Token) → length rest < length (write d rest)
@@ -101,7 +101,7 @@ pub record IsOperand (build : Builder) {E : Type 0} (write : E → List Token �
   pub opens : (ts : List Token) → then_read (expr build (factor build (length ts)) ts) closed ≡ None → operand (sign symbol.Open ∷ ts) ≡ None
 
 module _ (build : Builder) where
-  -- where no factor stands, no expression does
+  -- where there is no factor, there is no expression
   pub expr_none : (n : ℕ) (ts : List Token) → factor build n ts ≡ None → then_read (expr build (factor build n) ts) closed ≡ None
   unfolding expr term
   expr_none n ts h = then_none _ closed (then_none _ _ (then_none _ _ h))

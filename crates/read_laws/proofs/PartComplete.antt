@@ -1,4 +1,4 @@
--- What a derivation of a name, a list or a part that may be left out writes is read as what it stands for.
+-- What a derivation of a name, a list or an optional part writes is read as what it stands for.
 use Rattle.std.proofs.Common.{◌≡◌, ℕ, zero, suc, ◌<◌, ◌≤◌, List, [], ◌∷◌, ◌++◌, length, map, Bool, true, false, Option, Some, None, refl, ap, sym, ◌∙◌, arith, append_assoc, append-nil}
 use Rattle.std.specs.Option.{option_map}
 use denote.Enum.Bare.{true_same}

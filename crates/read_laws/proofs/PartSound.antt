@@ -148,7 +148,7 @@ module _ {D Y X : Type 0} (write : D → List Token → List Token) (of : D → 
           }
       at false e h = let parts = pair_found _ _ _ _ h in record { rule = None; written = sym parts.1; means = parts.0 }
 
-  -- a part behind its word, or none
+  -- a part after its word, or none
   pub optional_found : (word_ : Keyword) → IsSound (write_behind write (word_ ∷ [])) (λ d. option_map with_ (option_map of d)) (optional word_ part)
   optional_found word_ ts x rest h = at (is_key word_ (first_token ts)) refl h
     where

@@ -42,7 +42,7 @@ use Rattle.text_bytes.proofs.FoundLemmas.{then_found, guard_found, pair_found, v
 
 -- ## Sources
 
--- what a joined source has behind its ON
+-- what a joined source has after its ON
 abbrev pub on_of : JoinRule → Option CondTree
 on_of (CommaSource s) = None
 on_of (JoinOn inner s on) = Some (where_of on)
@@ -72,7 +72,7 @@ module _ (build : Builder) where
   write_inner true rest = Key word.Inner ∷ Key word.Join ∷ rest
   write_inner false rest = Key word.Join ∷ rest
 
-  -- source ON cond, behind [INNER] JOIN
+  -- source ON cond, after [INNER] JOIN
   source_on_found : (inner : Bool) (ts : List Token) (x : FromItem × Option CondTree) (rest : List Token) → source_on build ts ≡ Some (x, rest) → IsWritten write_join next_of (write_inner inner ts) x rest
   unfolding source_on
   source_on_found inner ts x rest h =
@@ -231,7 +231,7 @@ module _ (build : Builder) (count : ℕ → ℕ) (long : ℕ → ℕ) where
           let w = listed_found write_item item_of (item_with build count long) (item build) item_sound ts x rest h in
           record { rule = SomeItems w.rule; written = w.written; means = w.means }
 
-  -- the parts of a query behind its items
+  -- the parts of a query after its items
   abbrev from_tree : Bool → List ItemTree → List FromItem → Option CondTree → List ColRef → Option CondTree → List SortKey → Option ℕ → QueryTree
   from_tree distinct items froms on groups having keys limit = record { distinct = distinct; items = items; froms = froms; cond = on; groups = groups; having = having; keys = keys; limit = limit }
 

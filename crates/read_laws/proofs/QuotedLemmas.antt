@@ -1,4 +1,4 @@
--- What stands between marks, each mark in it doubled.
+-- The text between marks, each mark in it doubled.
 use Rattle.std.proofs.Common.{◌≡◌, ℕ, suc, ◌<◌, ◌+◌, List, [], ◌∷◌, ◌++◌, length, drop, Bool, true, false, not, cond, Some, refl, ap, sym, ◌∙◌, arith, subst, append_assoc}
 use Rattle.std.specs.Prelude.{◌==◌, flat_map}
 use Rattle.std.specs.Str.{IsUtf8}
@@ -17,9 +17,9 @@ doubled_mark mark = ap (λ t. cond t (mark ∷ mark ∷ []) (mark ∷ [])) (eq-e
 doubled_other : (mark b : ℕ) → (b == mark) ≡ false → doubled mark b ≡ b ∷ []
 doubled_other mark b h = ap (λ t. cond t (mark ∷ mark ∷ []) (b ∷ [])) h
 
--- ## What is read stands there
+-- ## What is read is there
 
--- the text and its closing mark stand at the front; behind a mark that stands open, that mark is part of it
+-- the text and its closing mark are at the front; after a mark without its pair, that mark is part of it
 pub record Quoted (mark : ℕ) (closing : Bool) (bs text : List ℕ) (n : ℕ) : Type 0 where
   pub text_is : flat_map (doubled mark) text ++ mark ∷ drop n bs ≡ cond closing (mark ∷ bs) bs
   pub ends : begins_with mark (drop n bs) ≡ false
@@ -76,9 +76,9 @@ module _ (mark : ℕ) where
           let (q, found, same) = joined_found (b ∷ []) (quoted_at mark false bs) p h in
           subst (IsQuoted false (b ∷ bs)) same (another b bs q e (more false q found))
 
-  -- ## What stands there is read
+  -- ## What is there is read
 
-  -- behind the closing mark no other follows
+  -- the closing mark is followed by no other
   closed : (rest : List ℕ) → begins_with mark rest ≡ false → quoted_at mark true rest ≡ Some ([], 0)
   closed [] h = refl
   closed (b ∷ rest) h = ap (λ t. cond (not t) (Some ([], 0)) (joined (cond t (mark ∷ []) (b ∷ [])) (quoted_at mark (cond t false false) rest))) h

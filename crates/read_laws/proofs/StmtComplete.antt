@@ -47,7 +47,7 @@ literal_longer NullLiteral rest = omega arith
 
 -- ## Column definitions
 
--- no NOT NULL stands here
+-- no NOT NULL is here
 no_not_null_told : (rest : List Token) → is_key word.Not (first_token rest) ≡ false → not_null rest ≡ Some (false, rest)
 unfolding not_null
 no_not_null_told rest h = branch_false _ _ _ _ h refl

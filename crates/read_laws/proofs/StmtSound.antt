@@ -115,7 +115,7 @@ module _ (build : Builder) where
   default_means true l = refl
   default_means false l = refl
 
-  -- behind NOT NULL or its absence
+  -- after NOT NULL or its absence
   abbrev IsEnded : Bool → List Token → Bool × Cell → List Token → Type 0
   IsEnded required ts x rest = IsWritten write_end ends_of (with_not_null required ts) x rest
 

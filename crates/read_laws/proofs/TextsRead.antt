@@ -15,8 +15,8 @@ use Rattle.read_laws.specs.Answered.{answered, Reads, EachReadsAsOne}
 use Rattle.read_laws.specs.AnsweredTokens.{AreAnswered}
 use Rattle.read_laws.specs.LimitLaws.{LimitsAsRead}
 use Rattle.read_laws.specs.Unread.{read_limits}
-use Rattle.sql_semantics.specs.declared.refusal.Refusal.{Refusal}
-use Rattle.sql_semantics.specs.declared.refusal.Refusal.TheVariants.{Syntax, Unsupported, Limit}
+use Rattle.sql_definitions.specs.declared.refusal.Refusal.{Refusal}
+use Rattle.sql_definitions.specs.declared.refusal.Refusal.TheVariants.{Syntax, Unsupported, Limit}
 use Rattle.read_laws.specs.DerivedStmts.{IsReadStmt, EachIsOneStmt}
 use Rattle.read_laws.specs.TokenLaws.{HasNoTokens, OneList}
 use Rattle.sql_tree.specs.Tokens.{AreTokens}
@@ -35,11 +35,11 @@ by_levels all none deep = record { reading = PassesLimit (codes "nesting"); are_
 pub by_syntax : (all : List Placed) → ArePlain (tokens_in all) → ((s : StmtTree) → Derives (tokens_in all) s → ⊥) → AreAnswered all (Err Syntax)
 by_syntax all plain none = record { reading = NoSyntax; are_read = Underived plain none refl; answer_is = refl }
 
--- a statement that is derived, by what the steps behind that answer
+-- a statement that is derived, by what the later steps answer
 by_reading : (all : List Placed) → ArePlain (tokens_in all) → (s : StmtTree) → Derives (tokens_in all) s → (reading : Reading) → reading_of all s ≡ reading → AreAnswered all (answered reading)
 by_reading all plain s derived reading is = record { reading = reading; are_read = Derived plain s derived is; answer_is = refl }
 
--- the reading of a statement is told by what is left out of it and by the first limit that it passes
+-- the reading of a statement follows from what is left out of it and from the first limit that it passes
 left_out_reading : (all : List Placed) (s : StmtTree) (name : List ℕ) → left_out s ≡ Some name → reading_of all s ≡ LeavesOut name
 left_out_reading all s name e = rw e refl
 

@@ -12,7 +12,7 @@ skip_drop all zero bs = refl
 skip_drop all (suc skip) [] = refl
 skip_drop all (suc skip) (b ∷ bs) = skip_drop all skip bs
 
--- what is told of the rest is told behind the tokens so far
+-- what is found in the rest follows the tokens so far
 abbrev pub Continues : ℕ → Option (List Placed) → List Placed → List ℕ → Type 0
 Continues all whole tokens rest = whole ≡ then_read (tokens_after all 0 rest) (λ more. Some (tokens ++ more))
 

@@ -1,4 +1,4 @@
--- The tests of tokens and the tokens that they tell.
+-- The tests of tokens and the tokens that pass them.
 use Rattle.std.proofs.Common.{◌≡◌, ℕ, List, ◌∷◌, true, Some, refl, ap, sym, ◌∙◌}
 use denote.Enum.Bare.{same_true}
 use Rattle.sql_grammar.specs.Grammar.{sign, SignRule, write_sign, sign_op, NameRule, write_name, name_of}
@@ -68,7 +68,7 @@ pub comma_found : (ts : List Token) (s : Symbol) → comma_in (first_token ts) �
 comma_found (token.Symbol symbol.Comma ∷ ts) s h = refl
 comma_found other s h = cc
 
--- what is closed stands before `)`
+-- what is closed comes before `)`
 pub closed_found : {X : Type 0} (found : X × List Token) (x : X) (rest : List Token) → closed found ≡ Some (x, rest) → (found.0 ≡ x) × (sign symbol.Close ∷ rest ≡ found.1)
 closed_found found x rest h =
     let c = cond_found (is_close (first_token found.1)) (found.0, after_first found.1) (x, rest) h in

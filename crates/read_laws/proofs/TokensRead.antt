@@ -1,4 +1,4 @@
--- The reader of tokens gives exactly the tokens into which a text is cut.
+-- The reader of tokens returns exactly the tokens into which a text is cut.
 use Rattle.std.proofs.Common.{◌≡◌, ℕ, zero, suc, ◌+◌, List, [], ◌∷◌, ◌++◌, length, take, drop, map, Bool, true, false, not, ◌&&◌, ◌||◌, cond, Option, Some, None, refl, ap, sym, ◌∙◌, arith, subst}
 use Rattle.std.specs.Prelude.{◌==◌, flat_map}
 use Rattle.std.specs.List.{list_all, prefix_len}
@@ -293,7 +293,7 @@ line_read bs rest fits =
       rest_is = rw more (drop-append_seam bs rest);
     }
 
--- behind a text and two marks more
+-- after a text and two marks more
 behind : (xs rest : List ℕ) (x y : ℕ) → drop (length xs + 2) (xs ++ x ∷ y ∷ rest) ≡ rest
 behind [] rest x y = refl
 behind (z ∷ xs) rest x y = let more : length (z ∷ xs) + 2 ≡ suc (length xs + 2) = omega arith in rw more (behind xs rest x y)

@@ -3,8 +3,8 @@ use Rattle.std.specs.Prelude.{◌≡◌, ℕ, List, Result, Ok, Err}
 use Rattle.sql_grammar.specs.Formed.{IsFormed}
 use Rattle.sql_grammar.specs.Reads.{Reading, IsReadAs}
 use Rattle.sql_grammar.specs.Reads.Reading.{ReadsAs, NoSyntax, LeavesOut, PassesLimit}
-use Rattle.sql_semantics.specs.declared.refusal.Refusal.{Refusal}
-use Rattle.sql_semantics.specs.declared.refusal.Refusal.TheVariants.{Syntax, Unsupported, Limit}
+use Rattle.sql_definitions.specs.declared.refusal.Refusal.{Refusal}
+use Rattle.sql_definitions.specs.declared.refusal.Refusal.TheVariants.{Syntax, Unsupported, Limit}
 use Rattle.sql_tree.specs.Tree.{StmtTree}
 
 -- what a text is answered with, by what it reads as
@@ -14,7 +14,7 @@ answered NoSyntax = Err Syntax
 answered (LeavesOut name) = Err (Unsupported name)
 answered (PassesLimit which) = Err (Limit which)
 
--- the text reads as this statement, or is refused so
+-- the text reads as this statement, or has this refusal
 pub record Reads (text : List ℕ) (answer : Result StmtTree Refusal) : Type 0 where
   pub reading : Reading
   pub is_read : IsReadAs text reading

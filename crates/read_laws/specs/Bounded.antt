@@ -1,7 +1,7 @@
--- How a reader keeps what it reads. A number of more than 64 bits stands as a Huge, which no literal gives. An
--- expression of more than 64 nodes and a condition of more than 128 are past their limits, and grow no
--- further: what else belongs to them is left out, but for a sign of each thing that is asked of a statement
--- later, which is whether it has a column, a Huge, or arithmetic over columns.
+-- How a reader keeps what it reads. A number of more than 64 bits becomes a Huge, which no literal
+-- writes. An expression of more than 64 nodes and a condition of more than 128 are past their
+-- limits, and grow no further. Of what else belongs to them only signs are kept, for what is asked
+-- of a statement later: whether it has a column, a Huge, or arithmetic over columns.
 use Rattle.std.specs.Prelude.{[], Bool, not, ◌&&◌, nat_lt, if◌then◌else◌, None, ℤ}
 use Rattle.std.specs.List.{list_any}
 use Rattle.cell_core.specs.declared.cell.Cell.{Cell}
@@ -16,7 +16,7 @@ use Rattle.sql_tree.specs.declared.tree.ArithOp.{ArithOp}
 use Rattle.sql_tree.specs.declared.tree.ArithOp.TheVariants as arith
 use Rattle.sql_tree.specs.declared.tree.CmpOp.TheVariants as compare
 
--- how a reader keeps numbers, an operator of two expressions, and two conditions behind AND or OR
+-- how a reader keeps numbers, an operator of two expressions, and two conditions joined by AND or OR
 pub record Builder : Type 0 where
   pub number : ℤ → Cell
   pub operator : ArithOp → ExprTree → ExprTree → ExprTree
@@ -27,13 +27,13 @@ pub record Builder : Type 0 where
 abbrev pub as_written : Builder
 as_written = record { number = cell.Int; operator = Operator; both = Both; either = Either }
 
--- a number of 64 bits as it is, and a Huge, which no literal gives, for any other
+-- a number of 64 bits as it is; any other as a Huge, which no literal writes
 abbrev pub number_cell : ℤ → Cell
 number_cell n = if is_out_of_range n then unread_cell else cell.Int n
 
 -- ## Expressions
 
--- a column without a name, which no text gives
+-- a column without a name, which no text has
 abbrev pub some_column : ExprTree
 some_column = ColumnOf (record { table = None; column = [] })
 

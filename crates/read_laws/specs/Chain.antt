@@ -4,7 +4,7 @@ use Rattle.std.specs.Prelude.{ℕ, zero, suc, List, [], ◌∷◌, Option, Some,
 use Rattle.sql_tree.specs.declared.token.Token.{Token}
 use Rattle.text_bytes.specs.Found.{then_read}
 
--- what a reader finds: a value and the tokens behind it
+-- what a reader finds: a value and the tokens after it
 abbrev pub Found : Type 0 → Type 0
 Found X = Option (X × List Token)
 
@@ -16,7 +16,7 @@ abbrev pub first_token : List Token → Option Token
 first_token [] = None
 first_token (t ∷ tokens) = Some t
 
--- the tokens behind their first
+-- the tokens after the first
 abbrev pub after_first : List Token → List Token
 after_first [] = []
 after_first (t ∷ tokens) = tokens
@@ -26,12 +26,12 @@ abbrev pub or_read : {X : Type 0} → Option X → Option X → Option X
 or_read None second = second
 or_read (Some x) second = Some x
 
--- one value where there is none, and else another
+-- one value where there is none, and another where there is one
 abbrev pub given : {X Y : Type 0} → Option X → Y → (X → Y) → Y
 given None none some = none
 given (Some x) none some = some x
 
--- parts behind a first, each behind an operator, in so many steps: they are joined to the left
+-- parts after a first one, each after an operator, in so many steps: they are joined to the left
 unfoldable pub chain : {X Y O : Type 0} → (Option Token → Option O) → (O → X → Y → X) → Parser Y → ℕ → X → Parser X
 chain op join part zero left tokens = Some (left, tokens)
 chain op join part (suc n) left tokens =

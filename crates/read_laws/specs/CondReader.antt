@@ -81,22 +81,22 @@ module _ (build : Builder) where
 
 -- ## Conditions over operands
 
--- a condition behind AND or OR
+-- a condition after AND or OR
 abbrev pub both_of : Builder → Keyword → CondTree → CondTree → CondTree
 both_of build and left right = build.both left right
 
 abbrev pub either_of : Builder → Keyword → CondTree → CondTree → CondTree
 either_of build or left right = build.either left right
 
--- a member of an IN list behind those before it
+-- a member of an IN list, joined to those before it
 abbrev pub or_member : Builder → ExprTree → Symbol → CondTree → ExprTree → CondTree
 or_member build of s so_far member = build.either so_far (Compare compare.Eq of member)
 
--- the denial of a condition that is found
+-- the negation of a condition that is found
 abbrev pub denied : CondTree × List Token → Found CondTree
 denied found = Some (Negation found.0, found.1)
 
--- [NOT] NULL, behind `e IS`
+-- [NOT] NULL, after `e IS`
 unfoldable pub null_test : ExprTree → Parser CondTree
 null_test of tokens =
     if is_key word.Not (first_token tokens) then behind_key word.Null (λ rest. Some (Negation (IsNull of), rest)) (after_first tokens)
@@ -117,19 +117,19 @@ module _ (build : Builder) (operand : Parser ExprTree) where
   unfoldable pub listed : ExprTree → Parser CondTree
   listed of = behind_symbol symbol.Open (λ tokens. then_read (members of tokens) closed)
 
-  -- BETWEEN or IN, behind its operand
+  -- BETWEEN or IN, after its operand
   abbrev pub range_at : ExprTree → Option Token → Parser CondTree
   range_at of (Some (Key word.Between)) rest = within of rest
   range_at of (Some (Key word.In)) rest = listed of rest
   range_at of other rest = None
 
-  -- [NOT] BETWEEN or IN, behind its operand
+  -- [NOT] BETWEEN or IN, after its operand
   unfoldable pub range : ExprTree → Parser CondTree
   range of tokens =
       if is_key word.Not (first_token tokens) then then_read (range_at of (first_token (after_first tokens)) (after_first (after_first tokens))) denied
       else range_at of (first_token tokens) (after_first tokens)
 
-  -- a test that begins with a word, behind its operand
+  -- a test that begins with a word, after its operand
   unfoldable pub word_test : ExprTree → Parser CondTree
   word_test of tokens = if is_key word.Is (first_token tokens) then null_test of (after_first tokens) else range of tokens
 
@@ -143,7 +143,7 @@ module _ (build : Builder) (operand : Parser ExprTree) where
   any_test tokens = then_read (operand tokens) (λ of. test_behind of.0 of.1)
 
 module _ (build : Builder) where
-  -- the rest of a conjunction behind its first unit
+  -- the rest of a conjunction after its first unit
   abbrev pub conjunction_behind : Parser CondTree → CondTree → Parser CondTree
   conjunction_behind unit first tokens = chain and_in (both_of build) unit (length tokens) first tokens
 
@@ -151,7 +151,7 @@ module _ (build : Builder) where
   unfoldable pub conjunction : Parser CondTree → Parser CondTree
   conjunction unit tokens = then_read (unit tokens) (λ first. conjunction_behind unit first.0 first.1)
 
-  -- the rest of a condition behind its first unit
+  -- the rest of a condition after its first unit
   unfoldable pub condition_behind : Parser CondTree → CondTree → Parser CondTree
   condition_behind unit first tokens =
       then_read (conjunction_behind unit first tokens) (λ first. chain or_in (either_of build) (conjunction unit) (length first.1) first.0 first.1)
@@ -160,18 +160,18 @@ module _ (build : Builder) where
   unfoldable pub condition : Parser CondTree → Parser CondTree
   condition unit tokens = then_read (conjunction unit tokens) (λ first. chain or_in (either_of build) (conjunction unit) (length first.1) first.0 first.1)
 
-  -- the rest of a condition behind its first unit, and the `)` behind it
+  -- the rest of a condition after its first unit, and the `)` after it
   abbrev pub closed_condition : Parser CondTree → CondTree → Parser CondTree
   closed_condition unit first tokens = then_read (condition_behind unit first tokens) closed
 
-  -- what stands behind a `(`, with its `)`: an expression, or a condition
+  -- what follows a `(`, with its `)`: an expression, or a condition
   abbrev pub operand_inside : Parser ExprTree
   operand_inside tokens = then_read (whole_expr build tokens) closed
 
   abbrev pub condition_inside : Parser CondTree → Parser CondTree
   condition_inside unit tokens = then_read (condition unit tokens) closed
 
-  -- an expression behind a `(`, of so many levels and behind its first factor, and its `)`
+  -- an expression after a `(`, of so many levels and after its first factor, and its `)`
   abbrev pub operand_from : ℕ → ExprTree → Parser ExprTree
   operand_from levels first tokens = then_read (expr_behind build (factor build levels) first tokens) closed
 
@@ -195,7 +195,7 @@ module _ (build : Builder) where
     unfoldable pub test_from : ℕ → ExprTree → Parser CondTree
     test_from levels first tokens = then_read (expr_behind build (factor build levels) first tokens) (λ of. test_behind build operand of.0 of.1)
 
-    -- a condition behind a `(` whose first unit is such a test, and its `)`
+    -- a condition after a `(` whose first unit is such a test, and its `)`
     abbrev pub condition_from : Parser CondTree → ℕ → ExprTree → Parser CondTree
     condition_from unit levels first tokens =
         then_read (test_from levels first tokens) (λ (found : CondTree × List Token). closed_condition unit found.0 found.1)

@@ -1,4 +1,4 @@
--- What an expression and a condition are read as, where tokens derive them. How they are kept stands in `Bounded`.
+-- What an expression and a condition are read as, where tokens derive them. `Bounded` says how they are kept.
 use Rattle.std.specs.Prelude.{◌≡◌, List, [], ℤ}
 use Rattle.cell_core.specs.declared.cell.Cell.{Cell}
 use Rattle.cell_core.specs.declared.cell.Cell.TheVariants as cell

@@ -57,7 +57,7 @@ name_in (Some (Name name)) = Some name
 name_in (Some (Quoted name)) = Some name
 name_in other = None
 
--- `)` has to stand here, behind what was found
+-- a `)` has to follow what was found
 abbrev pub closed : {X : Type 0} → X × List Token → Found X
 closed found = if is_close (first_token found.1) then Some (found.0, after_first found.1) else None
 
@@ -81,7 +81,7 @@ unfoldable pub date : Parser ExprTree
 date tokens = then_read (text_in (first_token tokens)) (λ text. then_read (day_named text) (λ day. Some (Literal (cell.Day day), after_first tokens)))
 
 module _ (build : Builder) where
-  -- the rest of a term behind its first factor
+  -- the rest of a term after its first factor
   abbrev pub term_behind : Parser ExprTree → ExprTree → Parser ExprTree
   term_behind factor first tokens = chain star_in build.operator factor (length tokens) first tokens
 
@@ -89,7 +89,7 @@ module _ (build : Builder) where
   unfoldable pub term : Parser ExprTree → Parser ExprTree
   term factor tokens = then_read (factor tokens) (λ first. term_behind factor first.0 first.1)
 
-  -- the rest of an expression behind its first factor
+  -- the rest of an expression after its first factor
   unfoldable pub expr_behind : Parser ExprTree → ExprTree → Parser ExprTree
   expr_behind factor first tokens =
       then_read (term_behind factor first tokens) (λ first. chain sign_in build.operator (term factor) (length first.1) first.0 first.1)

@@ -1,5 +1,6 @@
 pub mod TokenReader
 pub mod TokenLaws
+pub mod PieceLaws
 pub mod Unread
 pub mod LimitLaws
 pub mod Bounded

@@ -1,4 +1,4 @@
--- Words and symbols that have to stand at a place, and what the readers of parts make of them.
+-- Words and symbols that are required at a place, and what the readers of parts make of them.
 use Rattle.std.specs.Prelude.{Bool, false, if◌then◌else◌, Option, Some, None}
 use denote.Enum.Bare.{sameb}
 use Rattle.read_laws.specs.Chain.{Parser, first_token, after_first}
@@ -21,11 +21,11 @@ unfoldable pub is_symbol : Symbol → Option Token → Bool
 is_symbol symbol (Some (token.Symbol found)) = sameb the_symbols found symbol
 is_symbol symbol other = false
 
--- a part behind a word that has to stand first
+-- a part after a word that has to come first
 abbrev pub behind_key : {X : Type 0} → Keyword → Parser X → Parser X
 behind_key word part tokens = if is_key word (first_token tokens) then part (after_first tokens) else None
 
--- a part behind a symbol that has to stand first
+-- a part after a symbol that has to come first
 abbrev pub behind_symbol : {X : Type 0} → Symbol → Parser X → Parser X
 behind_symbol symbol part tokens = if is_symbol symbol (first_token tokens) then part (after_first tokens) else None
 

@@ -1,7 +1,7 @@
 -- What the texts of statements read as, and the texts of several scripts.
 use Rattle.std.specs.Prelude.{List, [], ◌∷◌, ℕ, Result}
 use Rattle.read_laws.specs.Answered.{Reads}
-use Rattle.sql_semantics.specs.declared.refusal.Refusal.{Refusal}
+use Rattle.sql_definitions.specs.declared.refusal.Refusal.{Refusal}
 use Rattle.sql_tree.specs.Tree.{StmtTree}
 
 -- each text reads so

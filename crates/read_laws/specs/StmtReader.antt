@@ -33,7 +33,7 @@ use Rattle.sql_tree.specs.declared.tree.Place.TheVariants.{Position, Named}
 use Rattle.sql_tree.specs.declared.tree.SortKey.{SortKey}
 use Rattle.text_bytes.specs.Found.{then_read}
 
--- ## Names, lists and parts that may be left out
+-- ## Names, lists and optional parts
 
 -- a name
 unfoldable pub name : Parser (List ℕ)
@@ -55,19 +55,19 @@ listed part tokens = then_read (part tokens) (λ first. chain comma_in one_more 
 unfoldable pub enclosed : {X : Type 0} → Parser X → Parser (List X)
 enclosed part = behind_symbol symbol.Open (λ tokens. then_read (listed part tokens) closed)
 
--- a value that is found, as one that is there
+-- a value that is found, as a present one
 abbrev pub present : {X : Type 0} → X × List Token → Found (Option X)
 present found = Some (Some found.0, found.1)
 
--- a part behind its word, or none
+-- a part after its word, or none
 abbrev pub optional : {X : Type 0} → Keyword → Parser X → Parser (Option X)
 optional word part tokens = if is_key word (first_token tokens) then then_read (part (after_first tokens)) present else Some (None, tokens)
 
--- a list behind its word and BY, or none
+-- a list after its word and BY, or none
 unfoldable pub listed_by : {X : Type 0} → Keyword → Parser X → Parser (List X)
 listed_by begin part tokens = if is_key begin (first_token tokens) then behind_key word.By (listed part) (after_first tokens) else Some ([], tokens)
 
--- whether a word stands here, which may be left out
+-- whether an optional word is here
 abbrev pub flag : Keyword → Parser Bool
 flag word tokens = if is_key word (first_token tokens) then Some (true, after_first tokens) else Some (false, tokens)
 
@@ -78,7 +78,7 @@ unfoldable pub day_literal : Parser Cell
 day_literal tokens = then_read (text_in (first_token tokens)) (λ text. then_read (day_named text) (λ day. Some (cell.Day day, after_first tokens)))
 
 module _ (build : Builder) where
-  -- the digits behind a `-`
+  -- the digits after a `-`
   unfoldable pub negative_literal : Parser Cell
   negative_literal tokens = then_read (digits_in (first_token tokens)) (λ digits. Some (build.number (negative_of digits), after_first tokens))
 
@@ -102,7 +102,7 @@ not_null tokens =
     if is_key word.Not (first_token tokens) then behind_key word.Null (λ rest. Some (true, rest)) (after_first tokens)
     else Some (false, tokens)
 
--- what follows a default: [NOT NULL], where that doesn't stand before it
+-- what follows a default: [NOT NULL], where that doesn't come before it
 abbrev pub default_end : Bool → Cell → Parser (Bool × Cell)
 default_end true default tokens = Some ((true, default), tokens)
 default_end false default tokens = then_read (not_null tokens) (λ required. Some ((required.0, default), required.1))
@@ -115,7 +115,7 @@ column_end build tokens =
     else Some ((required.0, cell.Nil), required.1))
 
 module _ (long : ℕ → ℕ) where
-  -- the length behind VARCHAR
+  -- the length after VARCHAR
   unfoldable pub varchar : Parser (Kind × ℕ)
   varchar = behind_symbol symbol.Open (λ tokens. then_read (digits_in (first_token tokens)) (λ digits. closed ((kind.Text, long (length_of (number_of digits))), after_first tokens)))
 

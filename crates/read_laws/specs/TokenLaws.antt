@@ -1,4 +1,4 @@
--- What is said of texts without tokens, and of texts with two lists of them.
+-- Texts without tokens, and the law that no text has two lists of them.
 use Rattle.std.specs.Prelude.{◌≡◌, ℕ, List}
 use Rattle.sql_tree.specs.Tokens.{AreTokens}
 use Rattle.sql_tree.specs.declared.token.Placed.{Placed}

@@ -1,5 +1,5 @@
--- A reader of pieces and tokens, on plain lists: a definition for each of its steps. No public clause
--- speaks of these: proofs/ shows that they are the definitions of pieces and tokens.
+-- A reader of pieces and tokens, on plain lists: a definition for each of its steps. No public
+-- clause cites these; proofs/ shows that they equal the definitions of pieces and tokens.
 use Rattle.std.specs.Prelude.{ℕ, zero, suc, ◌+◌, List, [], ◌∷◌, length, map, filter, take, drop, Bool, false, not, ◌&&◌, ◌==◌, if◌then◌else◌, Option, Some, None}
 use Rattle.std.specs.List.{prefix_len}
 use Rattle.sql_tree.specs.Bytes.{is_blank, is_letter, is_digit, is_word_byte, is_in_line, low, begins, begins_with}
@@ -28,15 +28,15 @@ kept_runs runs = filter (says_something Outside) runs
 
 -- ## Parts
 
--- the byte that is kept of one between marks, where a mark stands before it or doesn't
+-- what is kept of a byte between marks, after a mark without its pair or not
 abbrev pub kept_byte : ℕ → Bool → ℕ → List ℕ
 kept_byte mark closing b = if b == mark then (if closing then mark ∷ [] else []) else b ∷ []
 
--- whether a mark stands open behind the byte
+-- whether a mark without its pair comes last, up to this byte
 abbrev pub next_closing : ℕ → Bool → ℕ → Bool
 next_closing mark closing b = if b == mark then not closing else false
 
--- what stands before the mark that isn't doubled, and how many bytes that takes, the mark too
+-- the text before the mark that isn't doubled, and how many bytes it takes, that mark included
 abbrev pub quoted_at : ℕ → Bool → List ℕ → Option (List ℕ × ℕ)
 quoted_at mark closing [] = if closing then Some ([], 0) else None
 quoted_at mark closing (b ∷ bs) =
@@ -61,7 +61,7 @@ single_of b = first_symbol (λ entry. b == entry.0) (λ entry. entry.1) SINGLES
 unfoldable pub pair_of : ℕ → ℕ → Option Symbol
 pair_of b c = first_symbol (λ entry. (b == entry.0.0) && (c == entry.0.1)) (λ entry. entry.1) PAIRS
 
--- the symbol of a byte and the one behind it
+-- the symbol of a byte and the one after it
 abbrev pub pair_at : ℕ → List ℕ → Option Symbol
 pair_at b [] = None
 pair_at b (c ∷ bs) = pair_of b c

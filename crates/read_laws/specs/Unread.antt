@@ -1,5 +1,5 @@
--- Limits of a statement as it is read. A reader can't keep a number of more than 64 bits as a literal,
--- and gives a Huge in its place, which no literal is.
+-- Limits of a statement as it is read. A reader can't keep a number of more than 64 bits as a
+-- literal, and keeps a Huge in its place, which no literal is.
 use Rattle.std.specs.Prelude.{ℕ, List, [], ◌∷◌, pos, Bool, true, false, ◌||◌, if◌then◌else◌}
 use Rattle.std.specs.List.{list_any}
 use Rattle.cell_core.specs.declared.cell.Cell.{Cell}
@@ -60,7 +60,7 @@ with_literal passes other = other
 abbrev pub read_limits : ℕ → List Token → StmtTree → List (Bool × List ℕ)
 read_limits bytes tokens statement = with_literal (passes_literal_as_read statement) (passed_limits bytes tokens statement)
 
--- ## What a reader gives
+-- ## What a reader returns
 
 -- a number of more than 64 bits as a Huge, any other literal as it is
 abbrev pub cell_as_read : Cell → Cell

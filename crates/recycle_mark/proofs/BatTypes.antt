@@ -3,9 +3,10 @@ use Rattle.std.specs.Prelude.{◌≡◌, ℕ, zero, suc, ◌||◌, List, [], ◌
 use Rattle.std.proofs.Common.{ap, sym, ◌∙◌}
 use Rattle.std.specs.Bool.{then_some}
 use Rattle.std.specs.List.{list_any}
-use Rattle.std.specs.Option.{option_map, option_and_then}
+use Rattle.std.specs.Option.{option_map}
 use Rattle.std.proofs.lemmas.Option.{same_Some}
 use Rattle.std.proofs.lemmas.List.{map-append}
+use Rattle.cell_core.proofs.ListLemmas.{both_found}
 use Rattle.cell_core.specs.declared.cell.Cell.TheVariants.{Text}
 use Rattle.cell_core.specs.declared.cell.Kind.{Kind}
 use Rattle.cell_core.specs.declared.cell.Kind.TheVariants as kind
@@ -14,12 +15,11 @@ use Rattle.cell_core.specs.declared.operator.Op.TheVariants as op
 use Rattle.cell_core.specs.declared.operator.Arg.{Arg}
 use Rattle.cell_core.specs.declared.operator.Arg.TheVariants.{Const, Var}
 use Rattle.cell_core.specs.declared.operator.Instr.{Instr}
-use Rattle.cell_core.specs.Forms.{form_of}
+use Rattle.cell_core.specs.Forms.{form_of, is_bat, gives_bat, is_bat_result}
 use Rattle.cell_core.specs.Kinds.{ValueType, OneOf, BatOf, kind_of, named_kind, bind_type, result_type, from_bat, from_bats, from_bat_and_cell, from_range, from_two, from_one, from_any, both_are, are_comparable, calculated_type}
 use Rattle.mal_check.specs.declared.error.PlanError.{PlanError}
 use Rattle.mal_check.specs.Checked.{arg_type, arg_types, type_over, instr_type, fault_or_else, types_from}
 use Rattle.mal_check.proofs.RunLemmas.{types_given}
-use Rattle.recycle_mark.specs.Marks.{is_bat, gives_bat, is_bat_result}
 use Rattle.recycle_mark.specs.Laws.{is_bat_type, bats_from}
 
 -- ## Operators
@@ -127,16 +127,10 @@ arg_tells : (types : List ValueType) (arg : Arg) (t : ValueType) → arg_type ty
 arg_tells types (Const c) t e = ap is_bat_type (same_Some (OneOf (kind_of c)) t e)
 arg_tells types (Var n) t e = at_tells types n t e
 
-split : (x : Option ValueType) (xs : Option (List ValueType)) (zs : List ValueType) → option_and_then (λ y. option_map (λ ys. y ∷ ys) xs) x ≡ Some zs
-    → (y : ValueType) × (ys : List ValueType) × (x ≡ Some y) × (xs ≡ Some ys) × (y ∷ ys ≡ zs)
-split None xs zs e = cc
-split (Some y) None zs e = cc
-split (Some y) (Some ys) zs e = (y, ys, refl, refl, same_Some (y ∷ ys) zs e)
-
 args_tell : (types : List ValueType) (args : List Arg) (found : List ValueType) → arg_types types args ≡ Some found → list_any (is_bat (map is_bat_type types)) args ≡ list_any is_bat_type found
 args_tell types [] found e = ap (list_any is_bat_type) (same_Some [] found e)
 args_tell types (arg ∷ args) found e =
-    let parts = split (arg_type types arg) (arg_types types args) found e in
+    let parts = both_found (arg_type types arg) (arg_types types args) found e in
     ap (λ b. b || list_any (is_bat (map is_bat_type types)) args) (arg_tells types arg parts.0 parts.2)
     ∙ ap (λ b. is_bat_type parts.0 || b) (args_tell types args parts.1 parts.3) ∙ ap (list_any is_bat_type) parts.4
 

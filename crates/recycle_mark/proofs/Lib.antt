@@ -1,1 +1,3 @@
 pub mod BatTypes
+mod Examples
+pub mod PlaceLemmas

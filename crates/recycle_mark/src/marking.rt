@@ -9,14 +9,14 @@ use cell_core::{Arg, Instr, Memory, Sequence};
 use mal_meaning::Plan;
 use std::alloc::Global;
 
-/// Whether an instruction with these arguments is marked, behind those of which this is known.
+/// Whether an instruction with these arguments is marked, after those of which this is known.
 fn is_marked_behind(is_bat: bool, marks: &[bool], args: &[Arg]) -> bool
     ensures { result ≡ (is_bat && list_all (is_marked marks.now) args.now) }
 {
     is_bat && all_marked(marks, args)
 }
 
-/// Notes whether the next instruction gives a BAT, and whether it is marked.
+/// Notes whether the next instruction returns a BAT, and whether it is marked.
 fn mark_next(
     bats: &mut Sequence<bool>,
     marks: &mut Sequence<bool>,
@@ -31,8 +31,8 @@ fn mark_next(
     Ok(())
 }
 
-/// Whether each instruction of a plan is marked, in the plan's order: it gives a BAT, and takes no
-/// results but those of marked instructions.
+/// Whether each instruction of a plan is marked, in the plan's order: it returns a BAT, and takes
+/// no results but those of marked instructions.
 pub fn marks(alloc: Global, plan: &Plan) -> Result<Vec<bool>, Memory>
     ensures { IfOk result (λ marks. marks.items ≡ marks_of plan.now) }
 {

@@ -27,7 +27,7 @@ module _ (p : Inside) (write : Touched) (now : ℕ) where
   pool = pool_shown p
 
   abbrev pub touched : List ℕ
-  touched = touched_ids write.table write.columns p.entries.items
+  touched = touched_ids write.table write.columns p.entries.all.items
 
   abbrev pub backs : List Return
   backs = returns_of write now touched pool
@@ -44,12 +44,12 @@ module _ (p : Inside) (write : Touched) (now : ℕ) where
 
   -- the credits of the shapes then
   pub credit_is : (shown back credit : List ℕ) → shown ≡ touched → back ≡ old_ids
-      → credit ≡ paid_back p.ledger.each (filter (λ (e : PoolEntry). (is_one_of shown e.id && not (is_one_of back e.id)) && pays_at_end e) p.entries.items) → credit ≡ after.credit
-  credit_is shown back credit t b is = is ∙ (λ i. paid_back p.ledger.each (filter (λ (e : PoolEntry). (is_one_of (t i) e.id && not (is_one_of (b i) e.id)) && pays_at_end e) p.entries.items))
+      → credit ≡ paid_back p.entries.ledger.each (filter (λ (e : PoolEntry). (is_one_of shown e.id && not (is_one_of back e.id)) && pays_at_end e) p.entries.all.items) → credit ≡ after.credit
+  credit_is shown back credit t b is = is ∙ (λ i. paid_back p.entries.ledger.each (filter (λ (e : PoolEntry). (is_one_of (t i) e.id && not (is_one_of (b i) e.id)) && pays_at_end e) p.entries.all.items))
 
   -- the entries then
-  pub entries_are : (shown : List ℕ) (left more all : List PoolEntry) → shown ≡ touched → left ≡ left_without shown p.entries.items → more ≡ news → all ≡ left ++ more → all ≡ after.entries
-  entries_are shown left more all t left_is more_is all_is = all_is ∙ (λ i. left_is i ++ more_is i) ∙ ap (λ ids. left_without ids p.entries.items ++ news) t
+  pub entries_are : (shown : List ℕ) (left more all : List PoolEntry) → shown ≡ touched → left ≡ left_without shown p.entries.all.items → more ≡ news → all ≡ left ++ more → all ≡ after.entries
+  entries_are shown left more all t left_is more_is all_is = all_is ∙ (λ i. left_is i ++ more_is i) ∙ ap (λ ids. left_without ids p.entries.all.items ++ news) t
 
   -- the pool at the end
   pub written_is : (mid end_ : List PoolEntry) (paid last gone : List ℕ) (next : ℕ) → mid ≡ after.entries → paid ≡ after.credit → next ≡ p.next + length backs → gone ≡ (evictions_after now after).0
@@ -66,13 +66,13 @@ module _ (p : Inside) (write : Touched) (now : ℕ) where
     kept = returns_keep write now pool known.pool fits later
 
     -- there is a place for each entry that comes back
-    pub places_left : length (left_without touched p.entries.items) + length news ≤ p.options.places
-    places_left = let both = length-append (left_without touched p.entries.items) news in omega (arith, both, kept.places)
+    pub places_left : length (left_without touched p.entries.all.items) + length news ≤ p.options.places
+    places_left = let both = length-append (left_without touched p.entries.all.items) news in omega (arith, both, kept.places)
 
     -- the same, by what the code reads
-    pub places_shown : (shown : List ℕ) (more : List PoolEntry) (count : ℕ) → shown ≡ touched → more ≡ news → count ≡ length more → length (left_without shown p.entries.items) + count ≤ p.options.places
+    pub places_shown : (shown : List ℕ) (more : List PoolEntry) (count : ℕ) → shown ≡ touched → more ≡ news → count ≡ length more → length (left_without shown p.entries.all.items) + count ≤ p.options.places
     places_shown shown more count t m is =
-        let left = ap (λ ids. length (left_without ids p.entries.items)) t in
+        let left = ap (λ ids. length (left_without ids p.entries.all.items)) t in
         let same = ap (λ (es : List PoolEntry). length es) m in
         let places = places_left in
         omega (arith, left, same, is, places)
@@ -91,7 +91,7 @@ module _ (p : Inside) (write : Touched) (now : ℕ) where
       range = λ ids. range_fit ids (pool_bytes after.entries) after now kept early early;
     })
 
-    pub owed_after : (credits : Credits) (shown : List PoolEntry) → credits.start ≡ p.ledger.start → credits.each ≡ after.credit → shown ≡ after.entries → IsOwed credits shown
+    pub owed_after : (credits : Credits) (shown : List PoolEntry) → credits.start ≡ p.entries.ledger.start → credits.each ≡ after.credit → shown ≡ after.entries → IsOwed credits shown
     owed_after credits shown start each same = subst (IsOwed credits) (sym same) (owed_from p.options credits after.credit after.entries (start ∙ known.start) each kept.funded)
 
     pub written_keeps : (new : PoolState) → new ≡ (write_of write now pool).pool → IsPool new
@@ -99,11 +99,11 @@ module _ (p : Inside) (write : Touched) (now : ℕ) where
 
 -- ## What is forgotten
 
-pub forgotten : (p : Inside) (table : List ℕ) (columns : List (List ℕ)) (gone : List ℕ) (left : List PoolEntry) (credit : List ℕ) → gone ≡ touched_ids table columns p.entries.items → left ≡ left_without gone p.entries.items
-    → credit ≡ paid_back p.ledger.each (filter (λ (e : PoolEntry). is_one_of gone e.id && pays_at_end e) p.entries.items) → record (pool_shown p) { entries = left; credit = credit } ≡ forget_of table columns (pool_shown p)
+pub forgotten : (p : Inside) (table : List ℕ) (columns : List (List ℕ)) (gone : List ℕ) (left : List PoolEntry) (credit : List ℕ) → gone ≡ touched_ids table columns p.entries.all.items → left ≡ left_without gone p.entries.all.items
+    → credit ≡ paid_back p.entries.ledger.each (filter (λ (e : PoolEntry). is_one_of gone e.id && pays_at_end e) p.entries.all.items) → record (pool_shown p) { entries = left; credit = credit } ≡ forget_of table columns (pool_shown p)
 forgotten p table columns gone left credit gone_is left_is credit_is =
-    let entries = left_is ∙ ap (λ ids. left_without ids p.entries.items) gone_is in
-    let credits = credit_is ∙ ap (λ ids. paid_back p.ledger.each (filter (λ (e : PoolEntry). is_one_of ids e.id && pays_at_end e) p.entries.items)) gone_is in
+    let entries = left_is ∙ ap (λ ids. left_without ids p.entries.all.items) gone_is in
+    let credits = credit_is ∙ ap (λ ids. paid_back p.entries.ledger.each (filter (λ (e : PoolEntry). is_one_of ids e.id && pays_at_end e) p.entries.all.items)) gone_is in
     λ i. record (pool_shown p) { entries = entries i; credit = credits i }
 
 pub forgotten_keeps : (p : Inside) (table : List ℕ) (columns : List (List ℕ)) (new : PoolState) → IsKept p → new ≡ forget_of table columns (pool_shown p) → IsPool new

@@ -102,7 +102,7 @@ pub pooled_read : (next : ℕ) (es : List PoolEntry) (k : ℕ) (d e : PoolEntry)
 pooled_read next es k d e value up low same =
     pooled_there next es k (slice_index_or es k e) up (slice_get-get_or es k e low) ∙ ap Some (ap (λ (x : PoolEntry). x.value) (read_any es k e d low) ∙ sym same)
 
--- ## What a cover gives
+-- ## What a cover yields
 
 -- where the heads of the parent rise, the chain decides
 pub covered : (parent : ℕ) (target : Span) (es : List PoolEntry) (selections : List Selection) (rising : Bool) (chain : Option (List ℕ)) → rising ≡ true → rising ≡ has_rising_heads parent es → selections ≡ selections_from parent es

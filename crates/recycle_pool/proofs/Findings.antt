@@ -1,5 +1,5 @@
 -- What a look finds, case by case.
-use Rattle.std.proofs.Common.{◌≡◌, ℕ, ◌<◌, List, [], ◌∷◌, Bool, true, false, ◌||◌, refl, ap, sym, ◌∙◌, length, slice_index_or}
+use Rattle.std.proofs.Common.{◌≡◌, ℕ, ◌<◌, List, [], ◌∷◌, Bool, true, false, ◌||◌, None, refl, ap, sym, ◌∙◌, length, slice_index_or}
 use Rattle.std.specs.Prelude.{if◌then◌else◌, ◌==◌}
 use Rattle.std.specs.List.{list_any, slice_get}
 use Rattle.std.proofs.lemmas.Bool.Decides.{Decides-eqb}
@@ -30,3 +30,11 @@ exact_is es key named k d none is found low =
     let other : Finding = target_found (first_parent key) es (span_asked key) in
     ap (λ o. exact_found o other) (sym (slice_get-get_or es k d low) ∙ found)
     ∙ ap (λ b. if b then Miss else exact_found (entry_of_key key es) other) (sym none ∙ is ∙ one_of_is (parents_of key) 0)
+
+-- no entry has the key
+pub none_is : (es all : List PoolEntry) (key : Key) (named : Bool) → named ≡ false → named ≡ is_named key 0 → es ≡ all → None ≡ entry_of_key key es → target_found (first_parent key) es (span_asked key) ≡ found_of all key
+none_is es all key named none is same missing =
+    let other : Finding = target_found (first_parent key) es (span_asked key) in
+    ap (λ o. exact_found o other) missing
+    ∙ ap (λ b. if b then Miss else exact_found (entry_of_key key es) other) (sym none ∙ is ∙ one_of_is (parents_of key) 0)
+    ∙ ap (λ (xs : List PoolEntry). found_of xs key) same

@@ -1,4 +1,5 @@
 pub mod Stands
+pub mod Placing
 pub mod Places
 pub mod Totals
 pub mod Prints

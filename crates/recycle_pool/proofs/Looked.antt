@@ -14,38 +14,28 @@ use Rattle.pool_policy.proofs.Lists.{all_on}
 use Rattle.pool_entries.specs.Usable.{CanUse, HaveRisingIds, IsOwed}
 use Rattle.recycle_pool.specs.declared.pool.Pool.TheInside.{Inside}
 use Rattle.recycle_pool.specs.Usable.{IsLookable}
-use Rattle.recycle_pool.specs.Named.{IsNamed}
-use Rattle.recycle_pool.specs.Indexed.{IsIndexed}
 use Rattle.recycle_pool.specs.Views.{pool_shown, IsKept}
 
--- entries of a pool can be looked at
-pub lookable : (p : Inside) (shown : List PoolEntry) → IsKept p → shown ≡ p.entries.items → IsLookable shown
+-- a look may search the entries of a pool
+pub lookable : (p : Inside) (shown : List PoolEntry) → IsKept p → shown ≡ p.entries.all.items → IsLookable shown
 lookable p shown known same =
     let fit = pools_fit_all (pool_shown p) p.moment known.pool known.few known.budget known.moment known.moment in
     subst IsLookable (sym same) (record { next = p.next; rising = known.pool.rising; few = fit.few; pairs = fit.pairs })
 
 -- their ids rise
-pub rising : (p : Inside) (shown : List PoolEntry) → IsKept p → shown ≡ p.entries.items → HaveRisingIds shown
+pub rising : (p : Inside) (shown : List PoolEntry) → IsKept p → shown ≡ p.entries.all.items → HaveRisingIds shown
 rising p shown known same = subst HaveRisingIds (sym same) (p.next, known.pool.rising)
 
--- they are named
-pub named : (p : Inside) (shown : List PoolEntry) → IsKept p → shown ≡ p.entries.items → IsNamed p.keys shown
-named p shown known same = subst (IsNamed p.keys) (sym same) known.keys
-
--- they are found by their first parents
-pub indexed : (p : Inside) (shown : List PoolEntry) → IsKept p → shown ≡ p.entries.items → IsIndexed p.children shown
-indexed p shown known same = subst (IsIndexed p.children) (sym same) known.children
-
 -- they may pay back
-pub owed : (p : Inside) (shown : List PoolEntry) → IsKept p → shown ≡ p.entries.items → IsOwed p.ledger shown
-owed p shown known same = subst (IsOwed p.ledger) (sym same) (record {
+pub owed : (p : Inside) (shown : List PoolEntry) → IsKept p → shown ≡ p.entries.all.items → IsOwed p.entries.ledger shown
+owed p shown known same = subst (IsOwed p.entries.ledger) (sym same) (record {
   each = λ t some low. let all = known.pool.funded.each t some low in omega (arith, all, known.start);
   numbered = known.pool.funded.numbered;
 })
 
 -- and they can be used
-pub usable : (p : Inside) → IsKept p → AllByRecursion CanUse p.entries.items
-usable p known = all_on (IsCounted p.moment) CanUse p.entries.items (λ e _ k. (omega (arith, k.reuses, known.moment), omega (arith, k.others, known.moment))) known.pool.counted
+pub usable : (p : Inside) → IsKept p → AllByRecursion CanUse p.entries.all.items
+usable p known = all_on (IsCounted p.moment) CanUse p.entries.all.items (λ e _ k. (omega (arith, k.reuses, known.moment), omega (arith, k.others, known.moment))) known.pool.counted
 
 abbrev payers : Who → Finding → List PoolEntry → List PoolEntry
 payers who found entries = filter (λ (e : PoolEntry). is_one_of (ids_used found) e.id && pays_back who e) entries

@@ -8,11 +8,6 @@ use Rattle.pool_policy.specs.Looks.{one_more, paid_back}
 use Rattle.pool_entries.specs.Usable.{IsOwed}
 use Rattle.pool_entries.proofs.Owed.{owed_first}
 
--- a list by its first element and the others
-pub first_and_rest : {X : Type 0} (xs : List X) (x : X) → 1 ≤ length xs → x ≡ get_or xs 0 x → xs ≡ x ∷ take (length xs - 1) (drop 1 xs)
-first_and_rest [] x low e = absurd (omega (arith, low))
-first_and_rest (y ∷ ys) x low e = ap (λ z. z ∷ ys) (sym e) ∙ ap (λ zs. x ∷ zs) (sym (take_all (length (y ∷ ys) - 1) ys (omega arith)))
-
 -- what the first alone may pay back
 pub owed_here : (credits : Credits) (es more : List PoolEntry) (e : PoolEntry) → es ≡ e ∷ more → IsOwed credits es → IsOwed credits (e ∷ [])
 owed_here credits es more e split known = owed_first credits e more (subst (IsOwed credits) split known)

@@ -1,4 +1,4 @@
--- What a plan gives is what the policy gives up.
+-- A plan lists what the policy gives up.
 use Rattle.std.proofs.Common.{◌≡◌, ℕ, ◌-◌, List, [], ◌∷◌, Bool, true, ap, sym, ◌∙◌, subst, length}
 use Rattle.score_hook.specs.declared.stats.Stats.{Stats}
 use Rattle.score_hook.specs.declared.stats.Evict.{Evict}

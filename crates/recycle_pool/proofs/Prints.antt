@@ -18,11 +18,11 @@ use Rattle.pool_policy.proofs.Lists.{all_snoc}
 use Rattle.recycle_pool.specs.declared.keys.Keys.{Keys}
 use Rattle.recycle_pool.specs.Named.{IsNamed}
 
--- its id stands under the print of its key
+-- its id is under the print of its key
 abbrev pub Stands : PrintsView → Face → Type 0
 Stands prints f = id_under prints (print_of f.key) ≡ Some f.id
 
--- an entry with the key has the id that stands under the key's print
+-- an entry with the key has the id that is under the key's print
 pub under_print : (prints : PrintsView) (key : Key) (o : Option ℕ) (es : List PoolEntry) → o ≡ id_under prints (print_of key) → AllByRecursion (Stands prints) (faces es) → AllByRecursion (λ (e : PoolEntry). same_key e.key key ≡ true → Some e.id ≡ o) es
 under_print prints key o [] is all = tt
 under_print prints key o (e ∷ es) is all = (
@@ -30,7 +30,7 @@ under_print prints key o (e ∷ es) is all = (
   under_print prints key o es is all.1,
 )
 
--- where none stands there, no entry has the key
+-- where none is there, no entry has the key
 pub none_under : (key : Key) (es : List PoolEntry) → AllByRecursion (λ (e : PoolEntry). same_key e.key key ≡ true → Some e.id ≡ None) es → None ≡ entry_of_key key es
 none_under key [] all = refl
 none_under key (e ∷ es) all = elim (same_key e.key key) as (λ b. (b ≡ true → Some e.id ≡ None) → None ≡ cond b (Some e) (entry_of_key key es)) [

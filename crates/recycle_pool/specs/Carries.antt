@@ -1,12 +1,9 @@
 -- What comes back in a write.
-use Rattle.std.specs.Prelude.{◌≡◌, ℕ, List, map}
+use Rattle.std.specs.Prelude.{◌≡◌, ℕ, map}
 use Rattle.pool_policy.specs.declared.touched.Touched.{Touched}
 use Rattle.pool_policy.specs.Pool.{PoolState}
-use Rattle.pool_policy.specs.Writes.{Return, returns_of, touched_ids, write_of}
+use Rattle.pool_policy.specs.Writes.{Return, backs_of, write_of}
 use Rattle.recycle_pool.specs.declared.carried.Carried.{Carried}
-
-abbrev pub backs_of : Touched → ℕ → PoolState → List Return
-backs_of write now pool = returns_of write now (touched_ids write.table write.columns pool.entries) pool
 
 -- what was carried is what comes back in a write: the ids as they were, the entries as they are then, and the work
 pub record IsCarried (write : Touched) (now : ℕ) (pool : PoolState) (carried : Carried) : Type 0 where

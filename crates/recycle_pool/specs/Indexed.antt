@@ -17,7 +17,7 @@ use Rattle.pool_policy.specs.Keyed.{entry_of_id, first_parent}
 abbrev pub pair_of : PoolEntry → ℕ × ℕ
 pair_of e = (first_parent e.key, e.id)
 
--- under each parent stand the entries that have it first, in the order of their ids
+-- under each parent are the entries that have it first, in the order of their ids
 abbrev pub IsIndexed : ChildrenView → List PoolEntry → Type 0
 IsIndexed children entries = (parent : ℕ) → under parent children.pairs ≡ under parent (map pair_of entries)
 
@@ -25,7 +25,7 @@ IsIndexed children entries = (parent : ℕ) → under parent children.pairs ≡ 
 abbrev pub kin_of : PoolEntry → Kin
 kin_of e = record { id = e.id; parents = two_parents e.key }
 
--- beside each entry stand its parents, in the same order
+-- each entry has its parents beside it, in the same order
 abbrev pub AreBeside : ParentsView → List PoolEntry → Type 0
 AreBeside parents entries = parents.kin ≡ map kin_of entries
 

@@ -1,4 +1,4 @@
--- Helpers of the proof, which private contracts alone cite: what of a pool the calls on its parts ask for.
+-- Helpers of the proof, which private contracts alone cite: what the calls on the parts of a pool require of it.
 use Rattle.std.specs.Prelude.{◌≡◌, ℕ, ◌^◌, ◌≤◌, ◌<◌, List, All, length, map, nat_eq, None, false}
 use Rattle.std.specs.List.{IsDistinct}
 use Rattle.score_hook.specs.Scores.{IsInRange}
@@ -11,14 +11,14 @@ use Rattle.pool_policy.specs.Keyed.{entry_of_key}
 use Rattle.pool_policy.specs.Admits.{Offer, is_other_version, missing_parent, rows_of}
 use Rattle.pool_policy.specs.Keeps.{Rises, faces}
 
--- entries among which can be looked: their ids rise, and few selections have few pairs
+-- entries among which a look may search: their ids rise, and few selections have few pairs
 pub record IsLookable (entries : List PoolEntry) : Type 0 where
   pub next : ℕ
   pub rising : Rises 1 next (faces entries)
   pub few : (parent : ℕ) → length (selections_from parent entries) ≤ 1024
   pub pairs : (parent : ℕ) → All (λ (s : Selection). s.1.0 < 2 ^ 41) (selections_from parent entries)
 
--- entries that can be weighed against each other
+-- entries of which a plan of evictions can be made
 pub record IsWeighable (now : ℕ) (entries : List PoolEntry) : Type 0 where
   pub few : length entries ≤ 1024
   pub ids : (kept : List ℕ) → All (λ (r : Row). 0 < r.id) (rows_of kept entries)

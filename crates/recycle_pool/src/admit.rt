@@ -6,27 +6,25 @@ ghost use Rattle.pool_policy.specs.Keeps.{IsOffer};
 ghost use Rattle.recycle_pool.specs.Answers.{offer_in};
 ghost use Rattle.recycle_pool.specs.Usable.{IsNew};
 
-use crate::exchange::exchange;
 use crate::offer::{Offered, bytes_of, is_stale, new_entry};
 use crate::pool::Pool;
-use crate::room::make_room;
 use cell_core::Memory;
 use pool_entries::{first_missing, give_number, is_spent, pin_id};
 use pool_policy::{Admitted, Who};
 use score_hook::Scorer;
 
 impl Pool {
-    /// Makes room for so many further shapes at least. Nothing else changes.
+    /// Makes room for at least so many further shapes. Nothing else changes.
     pub fn reserve(&mut self, shapes: u64) -> Result<(), Memory>
         ensures { self.new ≡ self.old }
     {
         self.shapes.reserve(shapes as usize)?;
-        self.ledger.reserve(shapes)?;
+        self.entries.ledger.reserve(shapes)?;
         Ok(())
     }
 
-    /// Keeps a result, where the policy admits it. What goes to make room is scored by the scorer that
-    /// is lent, which is of the kind of the options. Memory leaves all as it was.
+    /// Keeps a result, where the policy admits it. Evictions are scored by the scorer that is lent,
+    /// which is of the kind of the options. Where memory runs out, all is as it was.
     pub fn admit(
         &mut self,
         scorer: &Scorer,
@@ -51,7 +49,7 @@ impl Pool {
         }
     }
 
-    /// The answer to an offer that is pooled already, or that can't be.
+    /// The answer to an offer that is pooled already, or that can't be pooled.
     fn answer_known(&mut self, who: Who, now: u64, offered: &Offered) -> Option<Admitted>
         requires session { who.session < 17 }
         requires later { self.old.moment < now }
@@ -62,11 +60,15 @@ impl Pool {
         ensures none { IfNone result (IsNew (offer_in offered.now) self.old) }
         ensures same { IfNone result (self.new ≡ self.old) }
     {
-        match self.keys.place(self.entries.as_slice(), &offered.key) {
+        match self
+            .entries
+            .keys
+            .place(self.entries.all.as_slice(), &offered.key)
+        {
             None => self.refuse(now, offered),
             Some(place) => {
-                let id = self.entries[place].id;
-                pin_id(&mut self.entries, id, who);
+                let id = self.entries.all[place].id;
+                pin_id(&mut self.entries.all, id, who);
                 self.moment = now;
                 Some(Admitted::There(id))
             }
@@ -88,7 +90,7 @@ impl Pool {
             self.moment = now;
             return Some(Admitted::Stale(offered.present));
         }
-        match first_missing(self.entries.as_slice(), &offered.key) {
+        match first_missing(self.entries.all.as_slice(), &offered.key) {
             None => None,
             Some(id) => {
                 self.moment = now;
@@ -97,7 +99,7 @@ impl Pool {
         }
     }
 
-    /// Keeps a result that can be, where its shape has a credit and there is room.
+    /// Keeps a result that can be pooled, where its shape has a credit and there is room.
     fn admit_new(
         &mut self,
         scorer: &Scorer,
@@ -119,25 +121,22 @@ impl Pool {
     {
         let shape = give_number(
             &mut self.shapes,
-            &mut self.ledger,
+            &mut self.entries.ledger,
             &self.options,
-            self.entries.as_slice(),
+            self.entries.all.as_slice(),
             &offered.key,
         )?;
         self.moment = now;
-        if is_spent(&self.ledger, shape) {
+        if is_spent(&self.entries.ledger, shape) {
             return Ok(Admitted::NoCredit(shape));
         }
         let bytes = bytes_of(&offered.key, &offered.value);
-        let (enough, left) = make_room(
+        let (enough, left) = self.entries.make_room(
             &mut self.lists,
-            self.entries.as_slice(),
-            self.parents.all(),
             &self.options,
             scorer,
             now,
             &offered.key,
-            self.bytes,
             bytes,
         );
         if !enough {
@@ -145,16 +144,8 @@ impl Pool {
         }
         let id = self.next;
         let entry = new_entry(id, shape, offered, bytes, who, now);
-        exchange(
-            &mut self.entries,
-            &mut self.ledger,
-            &mut self.keys,
-            &mut self.children,
-            &mut self.parents,
-            self.lists.gone.as_slice(),
-            entry,
-        );
-        self.bytes = left + bytes;
+        self.entries.exchange(self.lists.gone.as_slice(), entry);
+        self.entries.bytes = left + bytes;
         self.next = id + 1;
         let gone = self.lists.gone.len() as u64;
         Ok(Admitted::Taken { id, bytes, gone })

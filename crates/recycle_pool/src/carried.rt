@@ -5,7 +5,8 @@ use pool_policy::PoolEntry;
 pub struct Carried {
     /// The ids that they had, in order.
     pub ids: Vec<u64>,
-    /// The entries as they come back, in the same order: with fresh ids, renamed keys and grown values.
+    /// The entries as they come back, in the same order: with fresh ids, renamed keys and grown
+    /// values.
     pub entries: Vec<PoolEntry>,
     /// The work of the operators that were run for them.
     pub work: u128,

@@ -1,5 +1,5 @@
-//! What stands of parents beside the entries: under each parent the ids of those that stand on it, and in
-//! the order of the entries the parents of each.
+//! What a pool keeps of parents beside the entries: under each first parent the ids of its entries,
+//! and the parents of each entry, in the order of the entries.
 ghost use Rattle.std.specs.Prelude.{◌≡◌, ◌+◌, ◌<◌, ◌≤◌, ◌++◌, ◌∷◌, [], List, length};
 ghost use Rattle.pool_policy.specs.declared.entry.PoolEntry.{PoolEntry as EntryValue};
 ghost use Rattle.pool_policy.specs.Admits.{left_without};
@@ -8,7 +8,7 @@ ghost use Rattle.recycle_pool.specs.Indexed.{AreBeside, IsIndexed, kin_of};
 use pool_index::{Children, Kin, Parents};
 use pool_policy::PoolEntry;
 
-/// One more entry stands under its parent, and has its parents beside it. It comes behind the others.
+/// Adds an entry under its first parent, and its parents beside it, after the others.
 pub(crate) fn add_child(children: &mut Children, parents: &mut Parents, entry: &PoolEntry)
     requires pairs { length children.old.pairs < children.old.room }
     requires kin { length parents.old.kin < parents.old.room }
@@ -26,7 +26,7 @@ pub(crate) fn add_child(children: &mut Children, parents: &mut Parents, entry: &
     });
 }
 
-/// The entries whose ids are among these stand under no parent any more, and their parents go.
+/// Removes the entries with these ids from under their parents, and their own parents beside them.
 pub(crate) fn take_children(children: &mut Children, parents: &mut Parents, gone: &[u64])
     ensures indexed { (entries : List EntryValue) → IsIndexed children.old entries → IsIndexed children.new (left_without gone.now entries) }
     ensures room { children.old.room ≤ children.new.room }
@@ -40,7 +40,7 @@ pub(crate) fn take_children(children: &mut Children, parents: &mut Parents, gone
     parents.take_out(gone);
 }
 
-/// These entries alone stand under their parents, and have their parents beside them.
+/// Replaces all by these entries, each under its first parent and with its parents beside it.
 pub(crate) fn renew_children(children: &mut Children, parents: &mut Parents, entries: &[PoolEntry])
     requires pairs { length entries.now ≤ children.old.room }
     requires kin { length entries.now ≤ parents.old.room }

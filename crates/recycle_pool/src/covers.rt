@@ -10,7 +10,7 @@ ghost use Rattle.pool_entries.specs.Usable.{HaveRisingIds};
 ghost use Rattle.recycle_pool.specs.Answers.{ArePooled, HandsOut, IsPooledAs, piece_in, told};
 ghost use Rattle.recycle_pool.specs.Usable.{IsLookable};
 
-use crate::found::{Found, Part};
+use crate::found::{CoverPiece, Found};
 use crate::selections::{Selection, priced};
 use bat_core::Shared;
 use cell_core::{Cut, Memory, Span, compare_cuts};
@@ -53,14 +53,14 @@ fn lesser_of(a: &Cut, b: &Cut) -> Result<Cut, Memory>
     }
 }
 
-/// The part of a target that begins with a cut and that the selection at a place has.
+/// The piece of a target that begins at a cut and comes from the selection at a place.
 fn part_at(
     entries: &[PoolEntry],
     selections: &[Selection],
     target: &Span,
     cut: Cut,
     place: usize,
-) -> Result<Part, Memory>
+) -> Result<CoverPiece, Memory>
     requires low { place < length selections.now }
     requires pooled { IsSome (entry_of_id (entry_at selections.now place).0 entries.now) }
     requires rising { HaveRisingIds entries.now }
@@ -70,7 +70,7 @@ fn part_at(
     let selection = &selections[place];
     let high = lesser_of(&selection.1.1.high, &target.high)?;
     let value = value_at(entries, selection.0)?;
-    Ok(Part {
+    Ok(CoverPiece {
         id: selection.0,
         span: Span { low: cut, high },
         value,
@@ -83,7 +83,7 @@ fn cut_up(
     selections: &[Selection],
     target: &Span,
     chain: &[u64],
-    parts: &mut Vec<Part>,
+    parts: &mut Vec<CoverPiece>,
 ) -> Result<(), Memory>
     requires within { AllByRecursion (λ place. place < length selections.now) chain.now }
     requires pooled { AllByRecursion (λ s. IsSome (entry_of_id s.0 entries.now)) selections.now }
@@ -103,7 +103,7 @@ fn cut_up(
     Ok(())
 }
 
-/// The chain of selections that is chosen through a target, by their places, if they cover it.
+/// The chosen chain of selections through a target, by their places, if they cover it.
 fn choose(
     alloc: Global,
     selections: &[Selection],
@@ -128,7 +128,7 @@ pub(crate) fn find_cover(
     parent: u64,
     target: &Span,
     selections: &[Selection],
-    parts: &mut Vec<Part>,
+    parts: &mut Vec<CoverPiece>,
 ) -> Result<Found, Memory>
     requires lookable { IsLookable entries.now }
     requires selections { selections.now ≡ selections_from parent entries.now }

@@ -5,12 +5,12 @@ ghost use Rattle.pool_policy.specs.Keyed.{first_parent as parent_in};
 ghost use Rattle.pool_policy.specs.Looks.{across_found, container_of, cover_of, found_of, target_found, within_found};
 ghost use Rattle.recycle_pool.specs.Answers.{HandsOut, told};
 ghost use Rattle.recycle_pool.specs.Indexed.{IsIndexed};
-ghost use Rattle.recycle_pool.specs.Named.{IsNamed};
+ghost use Rattle.recycle_pool.specs.Placed.{AreFound};
 ghost use Rattle.recycle_pool.specs.Usable.{IsLookable};
 
 use crate::covers::{find_cover, value_at};
-use crate::found::{Found, Part};
-use crate::keys::Keys;
+use crate::entries::Entries;
+use crate::found::{CoverPiece, Found};
 use crate::selections::{container, selections_of};
 use cell_core::{Memory, Span};
 use lineage_key::{Key, span_of};
@@ -23,7 +23,7 @@ fn find_selection(
     entries: &[PoolEntry],
     parent: u64,
     target: &Span,
-    parts: &mut Vec<Part>,
+    parts: &mut Vec<CoverPiece>,
 ) -> Result<Found, Memory>
     requires indexed { IsIndexed children.now entries.now }
     requires lookable { IsLookable entries.now }
@@ -49,7 +49,7 @@ fn find_range(
     children: &Children,
     entries: &[PoolEntry],
     key: &Key,
-    parts: &mut Vec<Part>,
+    parts: &mut Vec<CoverPiece>,
 ) -> Result<Found, Memory>
     requires indexed { IsIndexed children.now entries.now }
     requires lookable { IsLookable entries.now }
@@ -66,55 +66,44 @@ fn find_range(
     }
 }
 
-/// What a look finds: an entry with the key, or what serves its range; nothing where a parent isn't
-/// pooled.
-pub(crate) fn find(
-    keys: &Keys,
-    children: &Children,
-    entries: &[PoolEntry],
-    key: &Key,
-    parts: &mut Vec<Part>,
-) -> Result<Found, Memory>
-    requires named { IsNamed keys.now entries.now }
-    requires indexed { IsIndexed children.now entries.now }
-    requires lookable { IsLookable entries.now }
-    requires empty { parts.old.items ≡ [] }
-    ensures found { IfOk result (λ found. told found parts.new.items ≡ found_of entries.now key.now) }
-    ensures values { IfOk result (λ found. HandsOut entries.now found parts.new.items) }
-{
-    if key.names(0) {
-        return Ok(Found::Miss);
-    }
-    match keys.place(entries, key) {
-        None => find_range(children, entries, key, parts),
-        Some(place) => {
-            let value = entries[place].value.share()?;
-            Ok(Found::Exact(entries[place].id, value))
+impl Entries {
+    /// What a look finds: an entry with the key, or what serves its range; nothing where a parent isn't
+    /// pooled.
+    fn find(&self, key: &Key, parts: &mut Vec<CoverPiece>) -> Result<Found, Memory>
+        requires known { AreFound self.now }
+        requires lookable { IsLookable self.now.all.items }
+        requires empty { parts.old.items ≡ [] }
+        ensures found { IfOk result (λ found. told found parts.new.items ≡ found_of self.now.all.items key.now) }
+        ensures values { IfOk result (λ found. HandsOut self.now.all.items found parts.new.items) }
+    {
+        if key.names(0) {
+            return Ok(Found::Miss);
+        }
+        let entries = self.all.as_slice();
+        match self.keys.place(entries, key) {
+            None => find_range(&self.children, entries, key, parts),
+            Some(place) => {
+                let value = entries[place].value.share()?;
+                Ok(Found::Exact(entries[place].id, value))
+            }
         }
     }
-}
 
-/// The same; where memory runs out, there are no parts.
-pub(crate) fn find_whole(
-    keys: &Keys,
-    children: &Children,
-    entries: &[PoolEntry],
-    key: &Key,
-    parts: &mut Vec<Part>,
-) -> Result<Found, Memory>
-    requires named { IsNamed keys.now entries.now }
-    requires indexed { IsIndexed children.now entries.now }
-    requires lookable { IsLookable entries.now }
-    requires empty { parts.old.items ≡ [] }
-    ensures found { IfOk result (λ found. told found parts.new.items ≡ found_of entries.now key.now) }
-    ensures values { IfOk result (λ found. HandsOut entries.now found parts.new.items) }
-    ensures err { OnErr result (parts.new.items ≡ []) }
-{
-    match find(keys, children, entries, key, parts) {
-        Ok(found) => Ok(found),
-        Err(memory) => {
-            parts.clear();
-            Err(memory)
+    /// The same; where memory runs out, there are no parts.
+    pub(crate) fn find_whole(&self, key: &Key, parts: &mut Vec<CoverPiece>) -> Result<Found, Memory>
+        requires known { AreFound self.now }
+        requires lookable { IsLookable self.now.all.items }
+        requires empty { parts.old.items ≡ [] }
+        ensures found { IfOk result (λ found. told found parts.new.items ≡ found_of self.now.all.items key.now) }
+        ensures values { IfOk result (λ found. HandsOut self.now.all.items found parts.new.items) }
+        ensures err { OnErr result (parts.new.items ≡ []) }
+    {
+        match self.find(key, parts) {
+            Ok(found) => Ok(found),
+            Err(memory) => {
+                parts.clear();
+                Err(memory)
+            }
         }
     }
 }

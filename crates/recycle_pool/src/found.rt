@@ -15,7 +15,7 @@ pub enum Found {
 }
 
 /// A piece of a range, and the selection that has it.
-pub struct Part {
+pub struct CoverPiece {
     /// The id of the selection.
     pub id: u64,
     /// The piece.
@@ -24,10 +24,10 @@ pub struct Part {
     pub value: Shared,
 }
 
-// By a call of its own, so that proofs needn't go through its forms where one is let go.
-impl Drop for Part {
+// By a call of its own, so that proofs needn't go through its forms where one is dropped.
+impl Drop for CoverPiece {
     fn drop(self) {
-        let Part {
+        let CoverPiece {
             id: _,
             span: _,
             value: _,

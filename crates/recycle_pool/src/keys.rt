@@ -1,4 +1,5 @@
-//! By what an entry with a key is found at once: the ids of entries under the prints of their keys.
+//! The index by which the entry with a key is found without a search of all: the ids of entries
+//! under the prints of their keys.
 ghost use Rattle.std.specs.Prelude.{◌≡◌, ◌+◌, ◌*◌, ◌<◌, ◌≤◌, ◌++◌, ◌∷◌, ◌&&◌, [], IfOk, IfSome, false, length, not, true};
 ghost use Rattle.std.specs.List.{AllByRecursion, slice_get};
 ghost use Rattle.std.specs.Option.{is_some, option_and_then, option_map_or};
@@ -15,14 +16,14 @@ use pool_index::{Prints, print_of};
 use pool_policy::{PoolEntry, place_of_id, place_of_key};
 use std::alloc::Global;
 
-/// The ids of entries under the prints of their keys. Ids of entries that left may stand there too.
+/// The ids of entries under the prints of their keys. Ids of entries that left may be among them.
 pub(crate) struct Keys {
     pub(crate) prints: Prints,
-    /// Whether no two entries had one print; where they had, each entry is looked at.
+    /// Whether no two entries had one print; where they had, each entry is read.
     pub(crate) is_sure: bool,
 }
 
-// By a call of its own, so that proofs needn't go through its forms where one is let go.
+// By a call of its own, so that proofs needn't go through its forms where one is dropped.
 impl Drop for Keys {
     fn drop(self) {
         let Keys {
@@ -62,7 +63,7 @@ impl Keys {
         }
     }
 
-    /// Names one more entry, which comes behind these.
+    /// Adds the id of an entry that comes after these.
     pub(crate) fn add(&mut self, entries: &[PoolEntry], entry: &PoolEntry)
         requires named { IsNamed self.old entries.now }
         requires room { length entries.now < self.old.prints.room }
@@ -73,7 +74,7 @@ impl Keys {
         self.put(entries, entry);
     }
 
-    /// Afterwards there is a place for one name more.
+    /// Makes room for one more id.
     fn make_place(&mut self, entries: &[PoolEntry])
         requires named { IsNamed self.old entries.now }
         requires room { length entries.now < self.old.prints.room }
@@ -86,7 +87,7 @@ impl Keys {
         }
     }
 
-    /// Names these entries alone.
+    /// Replaces all ids by those of these entries.
     pub(crate) fn renew(&mut self, entries: &[PoolEntry])
         requires { length entries.now ≤ self.old.prints.room }
         ensures named { IsNamed self.new entries.now }
@@ -100,7 +101,7 @@ impl Keys {
         }
     }
 
-    /// Names one more entry, which comes behind these, where there is room.
+    /// Adds the id of an entry that comes after these, where there is room.
     fn put(&mut self, entries: &[PoolEntry], entry: &PoolEntry)
         requires { length self.old.prints.names < self.old.prints.room }
         ensures named { IsNamed self.old entries.now → IsNamed self.new (entries.now ++ entry.now ∷ []) }
@@ -112,14 +113,14 @@ impl Keys {
         self.prints.put(print, entry.id);
     }
 
-    /// Whether it is still sure once another entry comes under a print.
+    /// Whether the prints are still sure after another entry with this print.
     fn stays_sure(&self, entries: &[PoolEntry], print: u64) -> bool
         ensures { result ≡ (self.now.is_sure && not (option_map_or (λ id. is_some (entry_of_id id entries.now)) (id_under self.now.prints print) false)) }
     {
         self.is_sure && !self.is_taken(entries, print)
     }
 
-    /// Whether the id of one of these entries stands under a print.
+    /// Whether the id of one of these entries is under a print.
     fn is_taken(&self, entries: &[PoolEntry], print: u64) -> bool
         ensures { result ≡ option_map_or (λ id. is_some (entry_of_id id entries.now)) (id_under self.now.prints print) false }
     {

@@ -5,17 +5,17 @@ use cell_core::Memory;
 use evict_admit::Row;
 use std::alloc::Global;
 
-/// Lists that a step fills, whose room is taken at the start: so that a write takes no memory.
+/// Lists that a step fills. Their room is taken at the start, so that a write takes no memory.
 pub(crate) struct Lists {
     /// The ids of what is touched.
     pub(crate) touched: Vec<u64>,
-    /// The ids of what is given up.
+    /// The ids of what is evicted.
     pub(crate) gone: Vec<u64>,
-    /// The entries as they are weighed.
+    /// The entries as rows of the plan of evictions.
     pub(crate) rows: Vec<Row>,
 }
 
-// By a call of its own, so that proofs needn't go through its forms where one is let go.
+// By a call of its own, so that proofs needn't go through its forms where one is dropped.
 impl Drop for Lists {
     fn drop(self) {
         let Lists {

@@ -2,8 +2,7 @@ ghost use Rattle.std.specs.Prelude.{◌≡◌, ◌<◌, ◌^◌, [], IfOk, OnErr
 ghost use Rattle.pool_policy.specs.Looks.{after_look, look_of};
 ghost use Rattle.recycle_pool.specs.Answers.{HandsOut, told};
 
-use crate::finding::find_whole;
-use crate::found::{Found, Part};
+use crate::found::{CoverPiece, Found};
 use crate::pool::Pool;
 use crate::uses::{pay_uses, pin_found, use_all};
 use cell_core::Memory;
@@ -11,15 +10,15 @@ use lineage_key::Key;
 use pool_policy::Who;
 
 impl Pool {
-    /// What is pooled for a key: an equal result, which is used and held by the session; or a selection
-    /// whose range contains that of the key, or the pieces of the cheapest cover of it, each of which is
-    /// used. `parts` gets the pieces. Memory leaves all as it was.
+    /// What is pooled for a key: an equal result, which the session uses and holds; or a selection
+    /// whose range contains that of the key, or the pieces of the cheapest cover of it, each of
+    /// which is used. `parts` gets the pieces. Where memory runs out, all is as it was.
     pub fn look(
         &mut self,
         who: Who,
         now: u64,
         key: &Key,
-        parts: &mut Vec<Part>,
+        parts: &mut Vec<CoverPiece>,
     ) -> Result<Found, Memory>
         requires session { who.session < 17 }
         requires later { self.old.moment < now }
@@ -33,17 +32,17 @@ impl Pool {
         ensures err { OnErr result (self.new ≡ self.old) }
         ensures none { OnErr result (parts.new.items ≡ []) }
     {
-        let found = find_whole(
-            &self.keys,
-            &self.children,
-            self.entries.as_slice(),
-            key,
-            parts,
-        )?;
+        let found = self.entries.find_whole(key, parts)?;
         let used = parts.as_slice();
-        pay_uses(&mut self.ledger, self.entries.as_slice(), &found, used, who);
-        use_all(&mut self.entries, &found, used, who, now);
-        pin_found(&mut self.entries, &found, who);
+        pay_uses(
+            &mut self.entries.ledger,
+            self.entries.all.as_slice(),
+            &found,
+            used,
+            who,
+        );
+        use_all(&mut self.entries.all, &found, used, who, now);
+        pin_found(&mut self.entries.all, &found, who);
         self.moment = now;
         Ok(found)
     }

@@ -1,4 +1,4 @@
-//! What is asked of an offer before there is room for it.
+//! What is checked of an offer before there is room for it.
 ghost use Rattle.std.specs.Prelude.{◌≡◌, ◌<◌, ◌^◌};
 ghost use Rattle.pool_policy.specs.Keyed.{class_of};
 ghost use Rattle.pool_policy.specs.Admits.{is_other_version, new_entry as entry_of, offer_bytes, stated_bytes};
@@ -13,7 +13,7 @@ use score_hook::Stats;
 /// A result that is to be admitted.
 #[derive(Drop)]
 pub struct Offered {
-    /// What names it.
+    /// Its key.
     pub key: Key,
     /// Its value.
     pub value: Shared,

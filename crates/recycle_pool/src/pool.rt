@@ -3,37 +3,27 @@ ghost use Rattle.std.specs.List.{slice_get};
 ghost use Rattle.pool_policy.specs.Pool.{empty_pool, pool_bytes};
 ghost use Rattle.pool_policy.specs.Admits.{release_of};
 
-use crate::keys::Keys;
+use crate::entries::Entries;
 use crate::lists::Lists;
 use bat_core::Shared;
 use cell_core::Memory;
-use evict_admit::Ledger;
 use lineage_key::{Key, Shape};
 use pool_entries::unpin_all;
-use pool_index::{Children, Parents};
 use pool_policy::{PoolEntry, PoolOptions};
 use std::alloc::Global;
 use std::marker::Model;
 
-/// Results that are kept, which contracts see as the state of the policy.
+/// Kept results. Contracts see them as the state of the policy.
 pub struct Pool {
     pub(crate) options: PoolOptions,
-    pub(crate) entries: Vec<PoolEntry>,
+    pub(crate) entries: Entries,
     pub(crate) next: u64,
     pub(crate) moment: u64,
     pub(crate) shapes: Vec<Shape>,
-    pub(crate) ledger: Ledger,
     pub(crate) lists: Lists,
-    pub(crate) keys: Keys,
-    /// The ids of the entries under those of their first parents.
-    pub(crate) children: Children,
-    /// The parents of each entry, in the order of the entries.
-    pub(crate) parents: Parents,
-    /// The stated bytes of all entries.
-    pub(crate) bytes: u64,
 }
 
-// By a call of its own, so that proofs needn't go through its forms where one is let go.
+// By a call of its own, so that proofs needn't go through its forms where one is dropped.
 impl Drop for Pool {
     fn drop(self) {
         let Pool {
@@ -42,12 +32,7 @@ impl Drop for Pool {
             next: _,
             moment: _,
             shapes: _,
-            ledger: _,
             lists: _,
-            keys: _,
-            children: _,
-            parents: _,
-            bytes: _,
         } = self;
     }
 }
@@ -71,33 +56,24 @@ impl Pool {
         requires budget { options.budget ≤ 2 ^ 40 }
         ensures { IfOk result (λ pool. pool ≡ empty_pool options) }
     {
-        let entries = Vec::with_capacity(alloc, options.places as usize)?;
+        let entries = Entries::new(alloc, options.places, options.credits)?;
         let lists = Lists::new(alloc, options.places as usize)?;
-        let keys = Keys::new(alloc, options.places as usize)?;
-        let children = Children::new(alloc, options.places as usize)?;
-        let parents = Parents::new(alloc, options.places as usize)?;
-        let ledger = Ledger::new(alloc, options.credits);
         Ok(Pool {
             options,
             entries,
             next: 1,
             moment: 0,
             shapes: Vec::new(alloc),
-            ledger,
             lists,
-            keys,
-            children,
-            parents,
-            bytes: 0,
         })
     }
 
-    /// The end of a statement: all pins of the session go. Takes no memory.
+    /// Ends a statement: the session holds no entry any more. Takes no memory.
     pub fn release(&mut self, session: u32)
         requires { session < 17 }
         ensures { self.new ≡ release_of session self.old }
     {
-        unpin_all(&mut self.entries, session);
+        unpin_all(&mut self.entries.all, session);
     }
 
     /// How many entries there are, and how many stated bytes they have. Takes no memory.
@@ -105,7 +81,7 @@ impl Pool {
         ensures entries { result.0 ≡ length self.now.entries }
         ensures bytes { result.1 ≡ pool_bytes self.now.entries }
     {
-        (self.entries.len() as u64, self.bytes)
+        (self.entries.all.len() as u64, self.entries.bytes)
     }
 
     /// The entries, in the order of their ids. Takes no memory.
@@ -113,7 +89,7 @@ impl Pool {
         ensures entries { result.now ≡ self.now.entries }
         ensures few { length result.now ≤ 1024 }
     {
-        self.entries.as_slice()
+        self.entries.all.as_slice()
     }
 
     /// The id that the next entry gets. Takes no memory.
@@ -129,6 +105,6 @@ impl Pool {
         requires { place < length self.now.entries }
         ensures { slice_get self.now.entries place ≡ Some result.now }
     {
-        &self.entries[place as usize]
+        &self.entries.all[place as usize]
     }
 }

@@ -6,16 +6,16 @@ ghost use Rattle.std.specs.Vec.{vec_capacity};
 ghost use Rattle.evict_admit.specs.Runs.{is_one_of};
 ghost use Rattle.pool_policy.specs.Looks.{at_ids, ids_pinned, ids_used, paid_back, pays_back, pinned, used};
 ghost use Rattle.pool_entries.specs.Usable.{CanUse, HaveRisingIds, IsOwed};
-ghost use Rattle.recycle_pool.specs.declared.found.Part.{Part as PartValue};
+ghost use Rattle.recycle_pool.specs.declared.found.CoverPiece.{CoverPiece as PartValue};
 ghost use Rattle.recycle_pool.specs.Answers.{piece_in, told};
 
-use crate::found::{Found, Part};
+use crate::found::{CoverPiece, Found};
 use evict_admit::Ledger;
 use pool_entries::{pay_back_id, pay_back_if, pin_id, use_id};
 use pool_policy::{PoolEntry, Who};
 
 /// Whether a part has this id.
-fn is_part(parts: &[Part], id: u64) -> bool
+fn is_part(parts: &[CoverPiece], id: u64) -> bool
     ensures { result ≡ is_one_of (map (λ piece. piece.0) (map piece_in parts.now)) id }
 {
     let mut rest = parts;
@@ -29,7 +29,7 @@ fn is_part(parts: &[Part], id: u64) -> bool
 }
 
 /// Whether a look that finds this uses the entry with this id.
-fn is_used(found: &Found, parts: &[Part], id: u64) -> bool
+fn is_used(found: &Found, parts: &[CoverPiece], id: u64) -> bool
     ensures { result ≡ is_one_of (ids_used (told found.now parts.now)) id }
 {
     match found {
@@ -39,8 +39,8 @@ fn is_used(found: &Found, parts: &[Part], id: u64) -> bool
     }
 }
 
-/// The entry is used, if a look that finds this uses it.
-fn use_if(entry: &mut PoolEntry, found: &Found, parts: &[Part], who: Who, now: u64)
+/// Uses the entry, if a look that finds this uses it.
+fn use_if(entry: &mut PoolEntry, found: &Found, parts: &[CoverPiece], who: Who, now: u64)
     requires { CanUse entry.old }
     ensures { entry.new ≡ (if is_one_of (ids_used (told found.now parts.now)) entry.old.id then used who now entry.old else entry.old) }
 {
@@ -49,8 +49,8 @@ fn use_if(entry: &mut PoolEntry, found: &Found, parts: &[Part], who: Who, now: u
     }
 }
 
-/// Each entry that a look uses is used.
-fn use_each(entries: &mut Vec<PoolEntry>, found: &Found, parts: &[Part], who: Who, now: u64)
+/// Uses each entry that a look uses, in one pass over all.
+fn use_each(entries: &mut Vec<PoolEntry>, found: &Found, parts: &[CoverPiece], who: Who, now: u64)
     requires { AllByRecursion CanUse entries.old.items }
     ensures entries { entries.new.items ≡ at_ids (ids_used (told found.now parts.now)) (used who now) entries.old.items }
     ensures room { vec_capacity entries.new ≡ vec_capacity entries.old }
@@ -60,11 +60,11 @@ fn use_each(entries: &mut Vec<PoolEntry>, found: &Found, parts: &[Part], who: Wh
     }
 }
 
-/// All that a look uses is used.
+/// Uses each entry that a look uses.
 pub(crate) fn use_all(
     entries: &mut Vec<PoolEntry>,
     found: &Found,
-    parts: &[Part],
+    parts: &[CoverPiece],
     who: Who,
     now: u64,
 )
@@ -90,7 +90,7 @@ fn exact_id(found: &Found) -> Option<u64>
     }
 }
 
-/// A session holds an exact result from now on.
+/// Lets a session hold an exact result from now on.
 pub(crate) fn pin_found(entries: &mut Vec<PoolEntry>, found: &Found, who: Who)
     requires session { who.session < 17 }
     requires rising { HaveRisingIds entries.old.items }
@@ -103,15 +103,22 @@ pub(crate) fn pin_found(entries: &mut Vec<PoolEntry>, found: &Found, who: Who)
     }
 }
 
-/// Whether a look that finds this has the entry's credit paid back.
-fn pays_now(entry: &PoolEntry, found: &Found, parts: &[Part], who: Who) -> bool
+/// Whether a look that finds this pays the entry's credit back.
+fn pays_now(entry: &PoolEntry, found: &Found, parts: &[CoverPiece], who: Who) -> bool
     ensures { result ≡ (is_one_of (ids_used (told found.now parts.now)) entry.now.id && pays_back who entry.now) }
 {
     is_used(found, parts, entry.id) && entry.pays_back(who)
 }
 
-/// Each entry that a look uses pays its credit back, where its use does.
-fn pay_each(ledger: &mut Ledger, entries: &[PoolEntry], found: &Found, parts: &[Part], who: Who)
+/// Pays back the credit of each entry that a look uses, where its use does so, in one pass over
+/// all.
+fn pay_each(
+    ledger: &mut Ledger,
+    entries: &[PoolEntry],
+    found: &Found,
+    parts: &[CoverPiece],
+    who: Who,
+)
     requires { IsOwed ledger.old entries.now }
     ensures each { ledger.new.each ≡ paid_back ledger.old.each (filter (λ e. is_one_of (ids_used (told found.now parts.now)) e.id && pays_back who e) entries.now) }
     ensures start { ledger.new.start ≡ ledger.old.start }
@@ -124,12 +131,12 @@ fn pay_each(ledger: &mut Ledger, entries: &[PoolEntry], found: &Found, parts: &[
     }
 }
 
-/// What a look uses pays its credit back.
+/// Pays back the credits that the uses of a look pay back.
 pub(crate) fn pay_uses(
     ledger: &mut Ledger,
     entries: &[PoolEntry],
     found: &Found,
-    parts: &[Part],
+    parts: &[CoverPiece],
     who: Who,
 )
     requires rising { HaveRisingIds entries.now }

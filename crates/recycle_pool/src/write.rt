@@ -4,38 +4,32 @@ ghost use Rattle.pool_policy.specs.WriteLaws.{IsWrite};
 ghost use Rattle.recycle_pool.specs.Carries.{IsCarried};
 
 use crate::carried::Carried;
-use crate::exchange::{bring_back, give_up};
 use crate::pool::Pool;
-use crate::written::plan_last;
 use cell_core::Word;
 use pool_entries::total_bytes;
 use pool_policy::{Touched, note_touched};
 use score_hook::Scorer;
 
 impl Pool {
-    /// All that was computed from one of these columns of a table leaves, held or not. Takes no memory.
+    /// Removes all that was computed from one of these columns of a table, held or not. Takes no
+    /// memory.
     pub fn forget(&mut self, table: &Word, columns: &[Word])
         ensures { self.new ≡ forget_of table.now columns.now self.old }
     {
         note_touched(
             &mut self.lists.touched,
-            self.entries.as_slice(),
+            self.entries.all.as_slice(),
             table,
             columns,
         );
-        give_up(
-            &mut self.entries,
-            &mut self.ledger,
-            &mut self.children,
-            &mut self.parents,
-            self.lists.touched.as_slice(),
-        );
-        self.bytes = total_bytes(self.entries.as_slice());
+        self.entries.give_up(self.lists.touched.as_slice());
+        self.entries.bytes = total_bytes(self.entries.all.as_slice());
     }
 
-    /// An accepted write: what it touches leaves, what `carry` made of it comes back, and then entries
-    /// go until the bytes are within the budget. Answers how many were dropped, as they are touched and
-    /// don't come back, and how many went at the end. Takes no memory.
+    /// Applies an accepted write: what it touches leaves, what `carry` made of it comes back, and
+    /// then entries are evicted until the bytes are within the budget. Returns how many were
+    /// dropped, which are touched and don't come back, and how many were evicted at the end. Takes
+    /// no memory.
     pub fn put_carried(
         &mut self,
         scorer: &Scorer,
@@ -57,38 +51,20 @@ impl Pool {
     {
         note_touched(
             &mut self.lists.touched,
-            self.entries.as_slice(),
+            self.entries.all.as_slice(),
             &touched.table,
             touched.columns.as_slice(),
         );
         let back = carried.ids.len() as u64;
         let dropped = (self.lists.touched.len() as u64).saturating_sub(back);
-        bring_back(
-            &mut self.entries,
-            &mut self.ledger,
-            &mut self.keys,
-            &mut self.children,
-            &mut self.parents,
-            self.lists.touched.as_slice(),
-            carried,
-        );
+        self.entries
+            .bring_back(self.lists.touched.as_slice(), carried);
         self.next += back;
         self.moment = now;
-        plan_last(
-            &mut self.lists,
-            self.entries.as_slice(),
-            &self.options,
-            scorer,
-            now,
-        );
-        give_up(
-            &mut self.entries,
-            &mut self.ledger,
-            &mut self.children,
-            &mut self.parents,
-            self.lists.gone.as_slice(),
-        );
-        self.bytes = total_bytes(self.entries.as_slice());
+        self.entries
+            .plan_last(&mut self.lists, &self.options, scorer, now);
+        self.entries.give_up(self.lists.gone.as_slice());
+        self.entries.bytes = total_bytes(self.entries.all.as_slice());
         (dropped, self.lists.gone.len() as u64)
     }
 }

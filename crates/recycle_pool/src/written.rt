@@ -1,13 +1,15 @@
 //! What a write does to the entries of a pool.
-ghost use Rattle.std.specs.Prelude.{◌≡◌, ◌&&◌, ◌++◌, ◌-◌, ◌+◌, ◌≤◌, [], filter, length, not, vec_len};
+ghost use Rattle.std.specs.Prelude.{◌≡◌, ◌&&◌, ◌++◌, ◌-◌, ◌+◌, ◌≤◌, [], ℕ, filter, length, not, vec_len};
 ghost use Rattle.std.specs.Vec.{vec_capacity};
 ghost use Rattle.evict_admit.specs.Runs.{given_up, is_one_of};
 ghost use Rattle.pool_policy.specs.Pool.{pool_bytes, score_at};
 ghost use Rattle.pool_policy.specs.Looks.{paid_back};
 ghost use Rattle.pool_policy.specs.Admits.{left_without, pays_at_end, rows_of};
 ghost use Rattle.pool_entries.specs.Usable.{IsOwed};
+ghost use Rattle.recycle_pool.specs.Placed.{HaveRoom};
 ghost use Rattle.recycle_pool.specs.Usable.{IsWeighable};
 
+use crate::entries::Entries;
 use crate::lists::Lists;
 use crate::room::{push_row, take_out};
 use evict_admit::{Ledger, Row, plan_evictions};
@@ -22,7 +24,7 @@ fn pays_dropped(entry: &PoolEntry, touched: &[u64], back: &[u64]) -> bool
     is_among(touched, entry.id) && !is_among(back, entry.id) && entry.pays_at_end()
 }
 
-/// What is touched and doesn't come back pays its credit back, where others used it.
+/// Pays back the credit of what is touched and doesn't come back, where others used it.
 fn pay_dropped(ledger: &mut Ledger, entries: &[PoolEntry], touched: &[u64], back: &[u64])
     requires { IsOwed ledger.old entries.now }
     ensures each { ledger.new.each ≡ paid_back ledger.old.each (filter (λ e. (is_one_of touched.now e.id && not (is_one_of back.now e.id)) && pays_at_end e) entries.now) }
@@ -36,7 +38,7 @@ fn pay_dropped(ledger: &mut Ledger, entries: &[PoolEntry], touched: &[u64], back
     }
 }
 
-/// What is touched leaves. What comes back, by the ids that it had, pays no credit.
+/// Removes what is touched. What comes back, by the ids that it had, pays no credit.
 pub(crate) fn take_touched(
     entries: &mut Vec<PoolEntry>,
     ledger: &mut Ledger,
@@ -53,7 +55,7 @@ pub(crate) fn take_touched(
     take_out(entries, touched);
 }
 
-/// Entries come last, for which there is room.
+/// Adds entries as the last ones, for which there is room.
 pub(crate) fn enter_all(entries: &mut Vec<PoolEntry>, more: Vec<PoolEntry>)
     requires { vec_len entries.old + vec_len more ≤ vec_capacity entries.old }
     ensures items { entries.new.items ≡ entries.old.items ++ more.items }
@@ -77,7 +79,7 @@ fn wide_bytes(entries: &[PoolEntry]) -> u128
     total
 }
 
-/// The entries as they are weighed at the end of a write.
+/// The rows of entries in the plan of evictions at the end of a write.
 fn fill_rows_alone(rows: &mut Vec<Row>, entries: &[PoolEntry])
     requires { length entries.now ≤ vec_capacity rows.old }
     ensures rows { rows.new.items ≡ rows_of [] entries.now }
@@ -89,26 +91,26 @@ fn fill_rows_alone(rows: &mut Vec<Row>, entries: &[PoolEntry])
     }
 }
 
-/// Which entries go until the bytes are within the budget.
-pub(crate) fn plan_last(
-    lists: &mut Lists,
-    entries: &[PoolEntry],
-    options: &PoolOptions,
-    scorer: &Scorer,
-    now: u64,
-)
-    requires kind { scorer.now.kind ≡ options.now.evict }
-    requires weights { scorer.now.weights.items ≡ options.now.weights }
-    requires plan { IsWeighable now entries.now }
-    requires rows { length entries.now ≤ vec_capacity lists.old.rows }
-    requires gone { length entries.now ≤ vec_capacity lists.old.gone }
-    ensures gone { lists.new.gone.items ≡ (given_up (score_at options.now now) (rows_of [] entries.now) (pool_bytes entries.now - options.now.budget) 0).0 }
-    ensures gone_room { vec_capacity lists.old.gone ≤ vec_capacity lists.new.gone }
-    ensures rows_room { vec_capacity lists.old.rows ≤ vec_capacity lists.new.rows }
-    ensures touched { lists.new.touched ≡ lists.old.touched }
-{
-    fill_rows_alone(&mut lists.rows, entries);
-    lists.gone.clear();
-    let need = wide_bytes(entries).saturating_sub(u128::from(options.budget));
-    plan_evictions(lists.rows.as_slice(), need, 0, scorer, now, &mut lists.gone);
+impl Entries {
+    /// Lists which entries go until the bytes are within the budget.
+    pub(crate) fn plan_last(
+        &self,
+        lists: &mut Lists,
+        options: &PoolOptions,
+        scorer: &Scorer,
+        now: u64,
+    )
+        requires kind { scorer.now.kind ≡ options.now.evict }
+        requires weights { scorer.now.weights.items ≡ options.now.weights }
+        requires plan { IsWeighable now self.now.all.items }
+        requires room { HaveRoom (length self.now.all.items) lists.old }
+        ensures gone { lists.new.gone.items ≡ (given_up (score_at options.now now) (rows_of [] self.now.all.items) (pool_bytes self.now.all.items - options.now.budget) 0).0 }
+        ensures room { (places : ℕ) → HaveRoom places lists.old → HaveRoom places lists.new }
+    {
+        let entries = self.all.as_slice();
+        fill_rows_alone(&mut lists.rows, entries);
+        lists.gone.clear();
+        let need = wide_bytes(entries).saturating_sub(u128::from(options.budget));
+        plan_evictions(lists.rows.as_slice(), need, 0, scorer, now, &mut lists.gone);
+    }
 }

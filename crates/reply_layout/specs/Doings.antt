@@ -4,15 +4,15 @@ use Rattle.cell_core.specs.declared.cell.Cell.{Cell}
 use Rattle.cell_core.specs.declared.table.Db.{Db}
 use Rattle.sql_tree.specs.Tree.{QueryTree, StmtTree}
 use Rattle.sql_tree.specs.Tree.StmtTree.{Select, ExplainSelect}
-use Rattle.sql_semantics.specs.Answer.{answer}
-use Rattle.sql_semantics.specs.Check.{check_refusal}
-use Rattle.sql_semantics.specs.Effect.{effect}
-use Rattle.sql_semantics.specs.Refusals.{refusal_number}
-use Rattle.sql_semantics.specs.Sources.{schema_of}
-use Rattle.sql_semantics.specs.declared.refusal.Refusal.{Refusal}
-use Rattle.sql_semantics.specs.declared.refusal.Refusal.TheVariants.{Overflow}
-use Rattle.sql_semantics.specs.declared.refusal.Reply.{Reply}
-use Rattle.sql_semantics.specs.declared.refusal.Reply.TheVariants as reply
+use Rattle.sql_definitions.specs.Answer.{answer}
+use Rattle.sql_definitions.specs.Check.{check_refusal}
+use Rattle.sql_definitions.specs.Effect.{effect}
+use Rattle.sql_definitions.specs.Refusals.{refusal_number}
+use Rattle.sql_definitions.specs.Sources.{schema_of}
+use Rattle.sql_definitions.specs.declared.refusal.Refusal.{Refusal}
+use Rattle.sql_definitions.specs.declared.refusal.Refusal.TheVariants.{Overflow}
+use Rattle.sql_definitions.specs.declared.refusal.Reply.{Reply}
+use Rattle.sql_definitions.specs.declared.refusal.Reply.TheVariants as reply
 use Rattle.reply_layout.specs.declared.shown.Shown.{Shown}
 use Rattle.reply_layout.specs.declared.shown.Shown.TheVariants as shown
 
@@ -24,7 +24,7 @@ shown_reply reply.Done = shown.Done
 shown_reply (reply.Rows n) = shown.Count n
 shown_reply (reply.Refused refusal) = shown.Refused refusal
 
--- what a query shows that nothing refuses: its rows, or that a number left its range
+-- what an accepted query shows: its rows, or that a number left its range
 abbrev pub shown_rows : Option (List (List Cell)) → Shown
 shown_rows (Some rows) = shown.Rows rows
 shown_rows None = shown.Refused Overflow
@@ -32,7 +32,7 @@ shown_rows None = shown.Refused Overflow
 -- what an EXPLAIN shows: the refusal of its query, or the text of the plan by which the query is run
 abbrev pub shown_explain : Option Refusal → List ℕ → Shown
 shown_explain (Some refusal) text = shown.Refused refusal
-shown_explain None text = shown.Plan text
+shown_explain None text = shown.Mal text
 
 -- 0, or the refusal's number
 abbrev pub code_of : Shown → ℕ
@@ -50,15 +50,15 @@ count_of _ = 0
 pub data Doing (P : Type 0) : Type 0 where
   -- it is one event, of a change or of a text that is refused
   Writing : Option StmtTree → Shown → Doing P
-  -- it begins, with the plan that is run then where there is one, and ends
+  -- two events: it begins, with the plan that is run, if any; and it ends
   Beginning : Option P → Shown → Doing P
 
--- a query is refused, or run by this plan to these rows
+-- a query is refused, or this plan is run and yields these rows
 abbrev pub query_doing : {P : Type 0} → Option Refusal → P → Option (List (List Cell)) → Doing P
 query_doing (Some refusal) plan rows = Beginning None (shown.Refused refusal)
 query_doing None plan rows = Beginning (Some plan) (shown_rows rows)
 
--- what a text does that reads so, over tables, by plans of queries that have texts
+-- what a text with this reading does over tables, by plans of queries that have texts
 abbrev pub doing_by : {P : Type 0} → (Db → QueryTree → P) → (P → List ℕ) → Db → Result StmtTree Refusal → Doing P
 doing_by plan_of text_of db (Err refusal) = Writing None (shown.Refused refusal)
 doing_by plan_of text_of db (Ok (Select query)) = query_doing (check_refusal (Select query) (schema_of db)) (plan_of db query) (answer query db)

@@ -5,13 +5,13 @@ use Rattle.cell_core.specs.declared.cell.Cell.{Cell}
 use Rattle.cell_core.specs.CellText.{cell_text}
 use Rattle.sql_print.specs.Canon.{canonical}
 use Rattle.sql_tree.specs.Tree.{StmtTree}
-use Rattle.sql_semantics.specs.Refusals.{refusal_number, refusal_words}
+use Rattle.sql_definitions.specs.Refusals.{refusal_number, refusal_words}
 use Rattle.reply_layout.specs.declared.shown.Shown.{Shown}
 use Rattle.reply_layout.specs.declared.shown.Shown.TheVariants as shown
 
 -- ## Records
 
--- a comma, a quote, CR or LF, which make a field stand in quotes
+-- a comma, a quote, CR or LF: a field with one of these is quoted
 abbrev pub is_special : ℕ → Bool
 is_special b = (b == 44) || (b == 34) || (b == 13) || (b == 10)
 
@@ -50,7 +50,7 @@ abbrev pub reply_text : ℕ → Shown → List ℕ
 reply_text k shown.Done = decimal k ++ codes " ok\n"
 reply_text k (shown.Count n) = decimal k ++ codes " ok " ++ decimal n ++ codes "\n"
 reply_text k (shown.Rows rows) = decimal k ++ codes " rows " ++ decimal (length rows) ++ codes "\n" ++ flat_map row_record rows
-reply_text k (shown.Plan text) = decimal k ++ codes " plan " ++ decimal (line_count text) ++ codes "\n" ++ text
+reply_text k (shown.Mal text) = decimal k ++ codes " plan " ++ decimal (line_count text) ++ codes "\n" ++ text
 reply_text k (shown.Refused refusal) = decimal k ++ codes " refused " ++ decimal (refusal_number refusal) ++ codes " " ++ refusal_words refusal ++ codes "\n"
 
 -- the line of a session
@@ -72,17 +72,17 @@ change_from session statement (Some stmt) = Some (record { session = session; st
 abbrev pub change_line : ℕ → Change → List ℕ
 change_line i change = decimal i ++ codes " " ++ decimal change.session ++ codes " " ++ decimal change.statement ++ codes " " ++ change.text ++ codes ";\n"
 
--- the history: how many changes were accepted, and a line for each
+-- the history: the number of accepted changes, and a line for each
 abbrev pub history_of : List Change → List ℕ
 history_of changes = codes "history " ++ decimal (length changes) ++ codes "\n" ++ flat_map (λ (i, change). change_line i change) (enumerate_from 1 changes)
 
 -- ## Sessions
 
--- the replies of a session, where a statement shows this by its number and by what it reads as
+-- the replies of a session, where `shows` is the reply by a statement's number and its reading
 abbrev pub replies_by : {R : Type 0} → (ℕ → R → Shown) → List R → List ℕ
 replies_by shows readings = flat_map (λ (k, reading). reply_text k (shows k reading)) (enumerate_from 1 readings)
 
--- a session under the name of its file, where each statement shows this
+-- a session under the name of its file, where `shows` is the reply of each statement
 abbrev pub session_by : {R : Type 0} → (ℕ → ℕ → R → Shown) → ℕ → List ℕ → List R → List ℕ
 session_by shows session name readings = session_line session name ++ replies_by (shows session) readings
 

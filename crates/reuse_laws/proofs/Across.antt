@@ -23,14 +23,14 @@ head_order = ranks_by cell_cmp_total (λ (p : Cell × Cell). p.0)
 abbrev pub between : Cut → Cut → Span
 between from to = record { low = from; high = to }
 
--- between two cuts of which the second isn't behind the first lies no cut
+-- between two cuts of which the second isn't after the first lies no cut
 none_between : (from to cut : Cut) → is_cut_below from to ≡ false → lies_in (between from to) cut ≡ false
 none_between from to cut e = elim (lies_in (between from to) cut) as (λ b. lies_in (between from to) cut ≡ b → b ≡ false) [
   | true ↦ λ h. let wrong : true ≡ false = sym (up_to_below from cut to (unnot (is_cut_below cut from) (sym (up_to_is from cut) ∙ first_so (is_cut_up_to from cut) (is_cut_below cut to) h)) (second_so (is_cut_up_to from cut) (is_cut_below cut to) h)) ∙ e in cc
   | false ↦ λ _. refl
 ] refl
 
--- a cut between two lies before a third in between or behind it
+-- a cut between two lies before a third in between, or after it
 split_at : (from mid to cut : Cut) → is_cut_below from mid ≡ true → is_cut_below to mid ≡ false
     → ((lies_in (between from mid) cut ≡ lies_in (between from to) cut) × (lies_in (between mid to) cut ≡ false))
     ⊎ ((lies_in (between from mid) cut ≡ false) × (lies_in (between mid to) cut ≡ lies_in (between from to) cut))
@@ -59,7 +59,7 @@ split_at from mid to cut some inside = elim (is_cut_below cut mid) as (λ b. is_
 abbrev pub parts : List Entry → Pairs → Pairs
 parts pieces b = flat_map (λ (e : Entry). picked e.1 b) pieces
 
--- one pair more stands once among the parts
+-- one pair more is once among the parts
 pub record IsTaken (pieces : List Entry) (p : Cell × Cell) (ps : Pairs) : Type 0 where
   pub before : Pairs
   pub behind : Pairs
@@ -129,7 +129,7 @@ placed from to [] p ps cell known =
     (λ in_. let wrong : true ≡ false = sym in_ ∙ none_between from to (Before p.1) known in cc, λ out_. record { same = refl })
 placed from to (piece ∷ pieces) p ps cell known = placed_step from to piece pieces p ps cell known (placed piece.1.high to pieces p ps cell known.3)
 
--- what stands before all pairs stands before all that a part keeps
+-- what is before all pairs is before all that a part keeps
 first_filter : (p : Cell × Cell) (test : Cell × Cell → Bool) (qs : Pairs) → IsFirst by_head head_order p qs → IsFirst by_head head_order p (filter test qs)
 first_filter p test [] all = tt
 first_filter p test (q ∷ qs) all = elim (test q) as (λ b. IsFirst by_head head_order p (cond b (q ∷ filter test qs) (filter test qs))) [ true ↦ (all.0, first_filter p test qs all.1) | false ↦ first_filter p test qs all.1 ]

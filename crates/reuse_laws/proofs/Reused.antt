@@ -21,7 +21,7 @@ use Rattle.reuse_laws.proofs.Across.{merged_across}
 
 -- ## Pieces
 
--- a cut at which a selection may end, and which another cut is behind, is one at which one may begin
+-- a cut at which a selection may end, and which is before another cut, is one at which one may begin
 begins_on : (cut other : Cut) → is_high_end cut ≡ true → is_cut_below cut other ≡ true → is_low_end cut ≡ true
 begins_on Low other e low = cc
 begins_on (Before c) other e low = e
@@ -58,7 +58,7 @@ same_parts entries value b (piece ∷ pieces) values of ask =
     ∙ picked_within piece.1 entry.1 b of.0.3 in
     ap (λ x. x ∷ map (λ (p : Entry). selected_in p.1 (value p.0)) pieces) one ∙ ap (λ xs. picked piece.1 b ∷ xs) (same_parts entries value b pieces values of.1 ask.1)
 
--- a selection from what a containing selection gave is the plain selection
+-- a selection from the result of a containing selection is the plain selection
 pub reused_within : (low high li hi low2 high2 li2 hi2 : Cell) (b : Pairs) → is_contained (span_for low high li hi) (span_for low2 high2 li2 hi2) ≡ true
     → selected low high (is_true li) (is_true hi) (selected low2 high2 (is_true li2) (is_true hi2) b) ≡ selected low high (is_true li) (is_true hi) b
 reused_within low high li hi low2 high2 li2 hi2 b inside =

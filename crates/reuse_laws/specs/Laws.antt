@@ -19,7 +19,7 @@ abbrev pub SelectionsWithin : Type 0
 SelectionsWithin = (low high li hi low2 high2 li2 hi2 : Cell) (b : Pairs) → is_contained (span_for low high li hi) (span_for low2 high2 li2 hi2) ≡ true
     → selected low high (is_true li) (is_true hi) (selected low2 high2 (is_true li2) (is_true hi2) b) ≡ selected low high (is_true li) (is_true hi) b
 
--- pieces that follow each other from a target's low to its high, each selected from the value of an entry that contains it, give, merged by their heads, what the target selects from all; the values are the selections of their entries from pairs whose heads rise
+-- pieces that follow each other from a target's low to its high, each selected from the value of an entry that contains it and merged by their heads, are what the target selects from all; the values are the selections of their entries from pairs whose heads rise
 abbrev pub SelectionsAcross : Type 0
 SelectionsAcross = (target : Span) (entries : List Entry) (value : ℕ → Pairs) (b : Pairs) (pieces : List Entry)
     → ((e : Entry) → Contains entries e → value e.0 ≡ picked e.1 b) → Rises b

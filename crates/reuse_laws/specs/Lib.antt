@@ -1,2 +1,4 @@
 pub mod Reuse
 pub mod Laws
+pub mod Grown
+pub mod GrowthLaws

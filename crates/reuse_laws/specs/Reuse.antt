@@ -22,11 +22,11 @@ holds span cell = not (is_nil cell) && lies_in span (Before cell)
 abbrev pub picked : Span → Pairs → Pairs
 picked span b = filter (λ p. holds span p.1) b
 
--- a pair's head stands before that of another
+-- a pair's head is before that of another
 abbrev pub by_head : Cell × Cell → Cell × Cell → Bool
 by_head p q = is_lt (cell_cmp p.0 q.0)
 
--- all pairs of the parts in the order of their heads, where ties stand as they stood
+-- all pairs of the parts in the order of their heads, where ties keep their order
 abbrev pub merged : List Pairs → Pairs
 merged parts = sorted_by by_head (flat_map (λ part. part) parts)
 

@@ -1,29 +1,20 @@
-//! That a selection which is computed from other selections is the plain selection.
+//! The laws by which a pooled result serves another query, or a later one.
 //!
-//! It stands on `lineage_key` for the spans of bounds and on `subsume` for pieces. Its public calls
-//! state laws and run nothing: a selection keeps what lies in its span; one that is selected from a
-//! containing one is the plain one; and so is what the selections of a cover's pieces give, merged by
-//! their heads, order included.
+//! They build on `cell_core` for what operators mean, on `lineage_key` for the spans of bounds and on
+//! `subsume` for pieces. The public calls state laws and run nothing.
+//!
+//! **Selections.** A selection keeps what lies in its span. One that is selected from a containing
+//! selection is the plain one. So is what the selections of a cover's pieces make, merged by their heads,
+//! order included.
+//!
+//! **Growth.** Over BATs that have grown at their end, an operator returns its old result, followed by
+//! what is new. This holds of selections, reverses, mirrors, projections and marks; of a join whose left
+//! side grows, or whose right side grows by rows that nothing on the left meets; and of a calculation
+//! over BATs that had one length. So a pooled result takes in new rows by work on these alone.
 #![tactic(auto)]
 
-ghost use Rattle.reuse_laws.specs.Laws.{BoundsAreSpans, CuttingsServe, PiecesServe, SelectionsAcross, SelectionsWithin};
+mod growth;
+mod selections;
 
-/// A selection by four bounds keeps exactly what lies in the span of these bounds, and a span that
-/// some selection asks for has its bounds.
-pub fn bounds_are_spans()
-    ensures { BoundsAreSpans }
-{}
-
-/// A selection from a selection whose span contains its own is the plain selection.
-pub fn selections_within()
-    ensures { SelectionsWithin }
-{}
-
-/// Selections of pieces that follow each other through a target, each from a selection that contains
-/// it, merged by heads that rise, are the plain selection. Pieces that cut up the target are such, and
-/// so those of a greedy cutting.
-pub fn selections_across()
-    ensures across { SelectionsAcross }
-    ensures pieces { PiecesServe }
-    ensures cuttings { CuttingsServe }
-{}
+pub use growth::{bats_grow, calculations_grow, joins_grow};
+pub use selections::{bounds_are_spans, selections_across, selections_within};

@@ -5,8 +5,8 @@ use Rattle.std.specs.Option.{option_and_then}
 use Rattle.cell_core.specs.declared.cell.Cell.{Cell}
 use Rattle.cell_core.specs.declared.cell.Cell.TheVariants.{Nil}
 use Rattle.sql_tree.specs.declared.tree.ColRef.{ColRef}
-use Rattle.sql_semantics.specs.Sources.{NamedSource, place_of}
-use Rattle.sql_semantics.specs.Values.{Choice, cell_at, column_cell}
+use Rattle.sql_definitions.specs.Sources.{NamedSource, place_of}
+use Rattle.sql_definitions.specs.Values.{Choice, cell_at, column_cell}
 
 pub column_cell_is : (sources : List NamedSource) (choice : Choice) (ref : ColRef) (table : Option (List ℕ)) (place : ℕ × ℕ) (found cell : Cell)
     → table ≡ ref.table → Some place ≡ place_of sources (record { table = table; column = ref.column }) → Some found ≡ cell_at choice place → cell ≡ found

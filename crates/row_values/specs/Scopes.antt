@@ -1,9 +1,9 @@
--- What expressions and conditions are taken over: a choice of rows, or a group of choices.
+-- What expressions and conditions are evaluated over: a choice of rows, or a group of choices.
 use Rattle.std.specs.Prelude.{List}
 use Rattle.cell_core.specs.declared.cell.Cell.{Cell}
 use Rattle.sql_tree.specs.Tree.{ExprTree}
-use Rattle.sql_semantics.specs.Sources.{NamedSource}
-use Rattle.sql_semantics.specs.Values.{cell_over, group_cell}
+use Rattle.sql_definitions.specs.Sources.{NamedSource}
+use Rattle.sql_definitions.specs.Values.{cell_over, group_cell}
 use Rattle.row_values.specs.declared.scope.Scope.{Scope}
 use Rattle.row_values.specs.declared.scope.Scope.TheVariants.{Choice, Group}
 

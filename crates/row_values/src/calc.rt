@@ -1,8 +1,8 @@
 //! The functions and the aggregates of cells, by the operators of SQL.
 ghost use Rattle.std.specs.Prelude.{◌≡◌, pos, IfOk};
 ghost use Rattle.cell_core.specs.declared.cell.Cell.TheVariants.{Int};
-ghost use Rattle.sql_semantics.specs.Truth.{compared};
-ghost use Rattle.sql_semantics.specs.Values.{aggregated, result_of};
+ghost use Rattle.sql_definitions.specs.Truth.{compared};
+ghost use Rattle.sql_definitions.specs.Values.{aggregated, result_of};
 
 use cell_calc::{
     Aggregate, aggregate_cells, difference, is_above, is_at_least, is_at_most, is_below, is_equal,
@@ -37,7 +37,7 @@ pub(crate) fn compare_by(op: CmpOp, x: &Cell, y: &Cell) -> Cell
     }
 }
 
-/// The aggregate of cells, of which it skips those that are Nil.
+/// The aggregate of cells, which skips those that are Nil.
 pub(crate) fn aggregate(which: AggOp, cells: &[Cell]) -> Result<Cell, Memory>
     ensures { IfOk result (λ cell. cell ≡ aggregated which cells.now) }
 {

@@ -4,18 +4,18 @@ ghost use Rattle.std.specs.List.{list_any};
 ghost use Rattle.std.specs.Option.{option_map};
 ghost use Rattle.sql_tree.specs.Exprs.{cond_exprs};
 ghost use Rattle.sql_tree.specs.Tree.{cond_tree};
-ghost use Rattle.sql_semantics.specs.Kept.{cond_overflows as cond_overflows_of, is_kept as is_kept_of};
-ghost use Rattle.sql_semantics.specs.Values.{constant_overflows as constant_overflows_of};
+ghost use Rattle.sql_definitions.specs.Kept.{cond_overflows as cond_overflows_of, is_kept as is_kept_of};
+ghost use Rattle.sql_definitions.specs.Values.{constant_overflows as constant_overflows_of};
 
 use crate::row::LentRow;
 use crate::scope::{Scope, holds};
 use crate::value::constant_overflows;
 use cell_core::Memory;
-use sql_semantics::Called;
+use sql_definitions::Called;
 use sql_tree::Cond;
 use std::alloc::Global;
 
-/// Whether a condition is true of a choice, or there is none.
+/// Whether a condition is true of a choice, or there is no condition.
 pub fn is_kept(
     alloc: Global,
     sources: &[Called<'_>],
@@ -46,7 +46,7 @@ fn tree_overflows(cond: &Cond) -> Result<bool, Memory>
     }
 }
 
-/// Whether arithmetic over constants alone leaves the range in a condition that may be there.
+/// Whether arithmetic over constants alone leaves the range in a condition, where there is one.
 pub fn cond_overflows(cond: &Option<Cond>) -> Result<bool, Memory>
     ensures { IfOk result (λ overflows. overflows ≡ cond_overflows_of (option_map cond_tree cond.now)) }
 {

@@ -1,9 +1,10 @@
 //! The values of expressions and the truth of conditions over rows, and the cells that a column refuses.
 //!
-//! It stands on `sql_semantics`, whose definitions it gives exactly, and on `cell_calc` for the functions
-//! and aggregates of cells. An expression is taken over a choice of rows, one of each table, or over a
-//! group of choices; the rows are lent (`LentRow`), so none is copied. What a query answers
-//! (`sql_meaning`) and what a change does (`sql_changes`) are computed over these values.
+//! It builds on `sql_definitions`, whose definitions it computes exactly, and on `cell_calc` for the
+//! functions and aggregates of cells. An expression is evaluated over a choice of rows, one of each
+//! table, or over a group of choices. The rows are lent (`LentRow`), and none is copied.
+//! `sql_meaning` computes the answers of queries over these values, and `sql_changes` what changes
+//! do.
 #![tactic(auto)]
 
 mod calc;

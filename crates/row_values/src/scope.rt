@@ -2,8 +2,8 @@
 ghost use Rattle.std.specs.Prelude.{◌≡◌, map, IfOk};
 ghost use Rattle.std.specs.Option.{option_map};
 ghost use Rattle.sql_tree.specs.Tree.{cond_tree, expr_tree};
-ghost use Rattle.sql_semantics.specs.Values.{cell_over as cell_over_of, group_cell as group_cell_of, first_choice as first_choice_of};
-ghost use Rattle.sql_semantics.specs.Truth.{truth as truth_of, holds as holds_of};
+ghost use Rattle.sql_definitions.specs.Values.{cell_over as cell_over_of, group_cell as group_cell_of, first_choice as first_choice_of};
+ghost use Rattle.sql_definitions.specs.Truth.{truth as truth_of, holds as holds_of};
 ghost use Rattle.row_values.specs.Scopes.{cell_in as cell_in_of};
 
 use crate::calc::{aggregate, compare_by, count};
@@ -11,11 +11,11 @@ use crate::row::LentRow;
 use crate::value::cell_over;
 use cell_calc::{both, either, opposite};
 use cell_core::{Cell, Memory, Sequence};
-use sql_semantics::Called;
+use sql_definitions::Called;
 use sql_tree::{CmpOp, Cond, Expr};
 use std::alloc::Global;
 
-/// What an expression is taken over.
+/// What an expression is evaluated over.
 #[derive(Drop)]
 pub enum Scope<'a> {
     /// A choice of one row for each table.
@@ -132,7 +132,7 @@ fn truth(
     }
 }
 
-/// Whether a condition is true, or there is none.
+/// Whether a condition is true, or there is no condition.
 pub fn holds(
     alloc: Global,
     sources: &[Called<'_>],
@@ -145,5 +145,5 @@ pub fn holds(
         return Ok(true);
     };
     let outcome = truth(alloc, sources, scope, cond)?;
-    Ok(matches!(&outcome, Cell::Bit(true)))
+    Ok(outcome.is_true())
 }

@@ -1,7 +1,7 @@
 //! Cells that their column refuses: texts that are too long, and Nil.
 ghost use Rattle.std.specs.Prelude.{◌≡◌, chars, length, zip};
 ghost use Rattle.std.specs.List.{list_any};
-ghost use Rattle.sql_semantics.specs.Effect.{is_long_default, is_null_refused as is_null_refused_of, is_null_row as is_null_row_of, is_too_long as is_too_long_of, is_too_long_row as is_too_long_row_of};
+ghost use Rattle.sql_definitions.specs.Effect.{is_long_default, is_null_refused as is_null_refused_of, is_null_row as is_null_row_of, is_too_long as is_too_long_of, is_too_long_row as is_too_long_row_of};
 
 use cell_core::{Cell, Column, Sequence};
 

@@ -2,13 +2,13 @@
 ghost use Rattle.std.specs.Prelude.{◌≡◌, is_none, IfOk};
 ghost use Rattle.std.specs.Option.{option_copied};
 ghost use Rattle.sql_tree.specs.Tree.{expr_tree};
-ghost use Rattle.sql_semantics.specs.References.{is_constant as is_constant_of};
-ghost use Rattle.sql_semantics.specs.Values.{cell_at as cell_at_of, column_cell as column_cell_of, value as value_of, cell_over as cell_over_of, constant_overflows as constant_overflows_of};
+ghost use Rattle.sql_definitions.specs.References.{is_constant as is_constant_of};
+ghost use Rattle.sql_definitions.specs.Values.{cell_at as cell_at_of, column_cell as column_cell_of, value as value_of, cell_over as cell_over_of, constant_overflows as constant_overflows_of};
 
 use crate::calc::calculate;
 use crate::row::LentRow;
 use cell_core::{Cell, Memory};
-use sql_semantics::{Called, column_place};
+use sql_definitions::{Called, column_place};
 use sql_tree::{ColRef, Expr};
 
 /// The cell of the column that a reference means, which is Nil where it means none.
@@ -90,7 +90,7 @@ pub fn overflows_over(
     Ok(value_over(sources, choice, expr)?.is_none())
 }
 
-/// Whether no column stands in an expression.
+/// Whether an expression has no column.
 fn is_constant(expr: &Expr) -> bool
     ensures { result ≡ is_constant_of (expr_tree expr.now) }
 {

@@ -12,9 +12,9 @@ use Rattle.sql_tree.specs.Exprs.{cond_exprs}
 use Rattle.sql_tree.specs.declared.tree.ArithOp.{ArithOp}
 use Rattle.sql_tree.specs.declared.tree.CmpOp.{CmpOp}
 use Rattle.sql_tree.specs.declared.tree.CmpOp.TheVariants as cmp
-use Rattle.sql_semantics.specs.Sources.{NamedSource}
-use Rattle.sql_semantics.specs.References.{is_constant}
-use Rattle.sql_semantics.specs.Values.{value, result_of, constant_overflows}
+use Rattle.sql_definitions.specs.Sources.{NamedSource}
+use Rattle.sql_definitions.specs.References.{is_constant}
+use Rattle.sql_definitions.specs.Values.{value, result_of, constant_overflows}
 use Rattle.pick_laws.proofs.ListLemmas.{any_append}
 use Rattle.rows_to_mal.specs.Candidates.{Leaf, Least, Most, Same, Between, ColumnCond, Within, Outside, Either}
 use Rattle.rows_to_mal.specs.Reading.{placed, column_of, is_known, left_leaf, right_leaf, both, read_compare, read_leaf, of_one_column, read_cond}

@@ -16,7 +16,7 @@ use Rattle.sql_tree.specs.Tree.{ExprTree, CondTree}
 use Rattle.sql_tree.specs.Tree.ExprTree.{Literal, ColumnOf, Operator, AggregateAll, Aggregate}
 use Rattle.sql_tree.specs.Tree.{CondTree as tree}
 use Rattle.sql_tree.specs.declared.tree.CmpOp.TheVariants as cmp
-use Rattle.sql_semantics.specs.declared.source.Source.{Source}
+use Rattle.sql_definitions.specs.declared.source.Source.{Source}
 use Rattle.pick_laws.proofs.ListLemmas.{all_append, all_map, all_along}
 use Rattle.rows_to_mal.specs.Candidates.{no_column}
 use Rattle.rows_to_mal.specs.Laws.{rows_in}
@@ -26,11 +26,11 @@ use Rattle.rows_to_mal.proofs.FinalLemmas.{Alike, EqualsAlike}
 use Rattle.rows_to_mal.proofs.FoundLemmas.{InDb, rows_fit, columns_valid}
 use Rattle.rows_to_mal.proofs.PlaceLemmas.{scope_of, called_at}
 use Rattle.rows_to_mal.proofs.ScopeLemmas.{column_there}
-use Rattle.sql_semantics.specs.Sources.{NamedSource}
-use Rattle.sql_semantics.specs.Values.{Choice}
-use Rattle.sql_semantics.specs.Kept.{choices}
-use Rattle.sql_semantics.specs.Kinds.{column_at, kind_of_expr, compares, is_misfit, is_cond_misfit}
-use Rattle.sql_semantics.specs.Valid.{is_stored, is_valid_column, fits_columns}
+use Rattle.sql_definitions.specs.Sources.{NamedSource}
+use Rattle.sql_definitions.specs.Values.{Choice}
+use Rattle.sql_definitions.specs.Kept.{choices}
+use Rattle.sql_definitions.specs.Kinds.{column_at, kind_of_expr, compares, is_misfit, is_cond_misfit}
+use Rattle.sql_definitions.specs.Valid.{is_stored, is_valid_column, fits_columns}
 use Rattle.sql_kinds.proofs.CellLemmas.{cell_fits}
 use Rattle.sql_kinds.proofs.RowLemmas.{columns_valid as all_valid}
 

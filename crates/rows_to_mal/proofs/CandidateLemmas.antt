@@ -20,8 +20,8 @@ use Rattle.sql_tree.specs.Tree.{ExprTree}
 use Rattle.sql_tree.specs.Tree.ExprTree.{Literal, ColumnOf, Operator, AggregateAll, Aggregate}
 use Rattle.sql_tree.specs.declared.tree.ArithOp.{ArithOp}
 use Rattle.sql_tree.specs.declared.tree.ArithOp.TheVariants as arith_op
-use Rattle.sql_semantics.specs.Values.{value, result_of}
-use Rattle.sql_semantics.specs.declared.source.Source.{Source}
+use Rattle.sql_definitions.specs.Values.{value, result_of}
+use Rattle.sql_definitions.specs.declared.source.Source.{Source}
 use Rattle.mal_emit.specs.Emitters.{followed}
 use Rattle.mal_emit.specs.Machines.{over, Gives}
 use Rattle.mal_emit.proofs.GivesLemmas.{emits_gives, gives_same, known_gives, constant_gives, then_some, then_maybe}
@@ -29,7 +29,7 @@ use Rattle.mal_emit.proofs.MachineLemmas.{At, Lit}
 use Rattle.pick_laws.specs.Picks.{row_numbers, cell_in, beside}
 use Rattle.pick_laws.proofs.HeadLemmas.{bind_by_numbers, head_of_selection, head_of_kdifference, head_of_kunion}
 use Rattle.pick_laws.proofs.ListLemmas.{filter_all, filter_map_swaps, filter_filter}
-use Rattle.rows_to_mal.specs.Candidates.{bind, column_name, column_kind, kind_word, calc_of, constant, Leaf, Least, Most, Same, Between, ColumnCond, Within, Outside, Either, select_leaf, leaf_rows, cond_rows, all_rows, narrowed, candidates}
+use Rattle.rows_to_mal.specs.Candidates.{bind, column_name, column_kind, kind_word, calc_of, constant, Leaf, Least, Most, Same, Between, ColumnCond, Within, Outside, Either, select_leaf, leaf_tests, cond_rows, all_rows, narrowed, candidates}
 
 -- ## Binds
 
@@ -129,7 +129,7 @@ module _ (db : Db) (source : Source) (rows : List (List Cell)) (binds : Binds db
   bind_is place h = emits_gives op.Bind (Lit (Text source.table) ∷ Lit (Text (column_name source place)) ∷ Lit (Text (kind_word (column_kind source place))) ∷ []) (ap (λ o. Some (Bat (unwrap_or o []))) (binds.column place h))
 
   leaf_is : {args : List Arg} {are : List Value} (place : ℕ) → place < length source.columns → (leaf : Leaf)
-      → Gives (over db) args are (leaf_rows source place leaf) (option_map (λ r. Bat (selected_by r (column place))) (leaf_bounds leaf))
+      → Gives (over db) args are (leaf_tests source place leaf) (option_map (λ r. Bat (selected_by r (column place))) (leaf_bounds leaf))
   leaf_is place h leaf = then_some (bind_is place h) (λ b. select_is leaf)
 
   -- ## Conditions

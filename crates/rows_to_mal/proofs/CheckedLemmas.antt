@@ -15,7 +15,7 @@ use Rattle.sql_tree.specs.Tree.{CondTree as tree}
 use Rattle.sql_tree.specs.declared.tree.CmpOp.{CmpOp}
 use Rattle.sql_tree.specs.declared.tree.CmpOp.TheVariants as cmp
 use Rattle.sql_grammar.specs.Written.{IsPlainCond, IsPlain as IsWritten}
-use Rattle.sql_semantics.specs.declared.source.Source.{Source}
+use Rattle.sql_definitions.specs.declared.source.Source.{Source}
 use Rattle.rows_to_mal.specs.Candidates.{no_column, column_kind, Leaf, Least, Most, Same, Between, ColumnCond, Within, Outside}
 use Rattle.rows_to_mal.specs.Conjuncts.{no_source, Scope}
 use Rattle.rows_to_mal.specs.Joins.{Link}
@@ -28,9 +28,9 @@ use Rattle.rows_to_mal.proofs.PlaceLemmas.{scope_of, table_at, PlaceIn, column_i
 use Rattle.rows_to_mal.proofs.ReadLemmas.{both_parts, mapped, one_column}
 use Rattle.rows_to_mal.proofs.TypedLemmas.{ConstFits, LeafFits, ColumnFits}
 use Rattle.rows_to_mal.proofs.TypedValueLemmas.{column_kind_is, IsChecked}
-use Rattle.sql_semantics.specs.Sources.{NamedSource}
-use Rattle.sql_semantics.specs.Kinds.{kind_of_expr, is_misfit, compares, is_cond_misfit}
-use Rattle.sql_semantics.specs.Valid.{is_stored}
+use Rattle.sql_definitions.specs.Sources.{NamedSource}
+use Rattle.sql_definitions.specs.Kinds.{kind_of_expr, is_misfit, compares, is_cond_misfit}
+use Rattle.sql_definitions.specs.Valid.{is_stored}
 use Rattle.sql_kinds.proofs.RowLemmas.{columns_valid as all_valid}
 
 twice : (c : Bool) → not c ≡ false → c ≡ true

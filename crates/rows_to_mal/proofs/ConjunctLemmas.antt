@@ -21,9 +21,9 @@ use Rattle.sql_tree.specs.declared.tree.ArithOp.{ArithOp}
 use Rattle.sql_tree.specs.declared.tree.ArithOp.TheVariants as arith_op
 use Rattle.sql_tree.specs.declared.tree.CmpOp.{CmpOp}
 use Rattle.sql_tree.specs.declared.tree.CmpOp.TheVariants as cmp
-use Rattle.sql_semantics.specs.Sources.{place_of}
-use Rattle.sql_semantics.specs.Values.{result_of}
-use Rattle.sql_semantics.specs.Truth.{compared}
+use Rattle.sql_definitions.specs.Sources.{place_of}
+use Rattle.sql_definitions.specs.Values.{result_of}
+use Rattle.sql_definitions.specs.Truth.{compared}
 use Rattle.mal_emit.specs.Emitters.{Emitter, emits, followed}
 use Rattle.mal_emit.specs.Machines.{over, Holds, Gives, GivesAll}
 use Rattle.mal_emit.specs.Phrases.{keep, gather}
@@ -105,7 +105,7 @@ module _ {P : Type 0} (picks : List P) where
   calc_two db arith_op.Minus s t = two_is (result_of arith_op.Minus) s t
   calc_two db arith_op.Times s t = two_is (result_of arith_op.Times) s t
 
-  -- a function that always gives a cell
+  -- a function that always returns a cell
   abbrev pub sure : (Cell → Cell → Cell) → Cell → Cell → Option Cell
   sure f x y = Some (f x y)
 

@@ -7,10 +7,10 @@ use Rattle.cell_core.specs.declared.table.Table.{Table}
 use Rattle.cell_core.specs.Keys.{is_keyed_below}
 use Rattle.cell_core.specs.Sorted.{sorted_by}
 use Rattle.sql_tree.specs.Tree.{ExprTree, CondTree}
-use Rattle.sql_semantics.specs.Effect.{own_table, overflows_in, is_any_set}
-use Rattle.sql_semantics.specs.Kept.{choices, cond_overflows, is_kept}
-use Rattle.sql_semantics.specs.Sources.{NamedSource}
-use Rattle.sql_semantics.specs.Values.{Choice, value, constant_overflows}
+use Rattle.sql_definitions.specs.Effect.{own_table, overflows_in, is_any_set}
+use Rattle.sql_definitions.specs.Kept.{choices, cond_overflows, is_kept}
+use Rattle.sql_definitions.specs.Sources.{NamedSource}
+use Rattle.sql_definitions.specs.Values.{Choice, value, constant_overflows}
 use Rattle.pick_laws.proofs.ListLemmas.{any_map, filter_map_swaps}
 use Rattle.rows_to_mal.specs.Choices.{choice_at, number_choices}
 use Rattle.rows_to_mal.specs.Laws.{UpdatesOverflow}

@@ -14,7 +14,7 @@ use Rattle.sql_tree.specs.Exprs.{cond_exprs}
 use Rattle.sql_tree.specs.declared.tree.ColRef.{ColRef}
 use Rattle.sql_grammar.specs.Written.{IsPlainCond, IsPlain as IsWritten}
 use Rattle.sql_grammar.specs.Refused.{has_column, is_column_arithmetic, has_column_arithmetic}
-use Rattle.sql_semantics.specs.declared.source.Source.{Source}
+use Rattle.sql_definitions.specs.declared.source.Source.{Source}
 use Rattle.pick_laws.proofs.ListLemmas.{longer, all_append}
 use Rattle.rows_to_mal.specs.Conjuncts.{Scope, no_source}
 use Rattle.rows_to_mal.specs.Joins.{Link}
@@ -28,9 +28,9 @@ use Rattle.rows_to_mal.proofs.JoinLemmas.{Seat, more_seats, seat_of, LinkFits, S
 use Rattle.rows_to_mal.proofs.KeptLemmas.{seats, all_steps}
 use Rattle.rows_to_mal.proofs.PlaceLemmas.{scope_of, PlaceIn, table_at, column_in, IfLink, conds_in, links_in}
 use Rattle.rows_to_mal.proofs.SaidLemmas.{IsPlain, AllPlain}
-use Rattle.sql_semantics.specs.Sources.{NamedSource, places, place_of, only}
-use Rattle.sql_semantics.specs.References.{references, is_constant}
-use Rattle.sql_semantics.specs.Check.{misplaced, bad_in_exprs}
+use Rattle.sql_definitions.specs.Sources.{NamedSource, places, place_of, only}
+use Rattle.sql_definitions.specs.References.{references, is_constant}
+use Rattle.sql_definitions.specs.Check.{misplaced, bad_in_exprs}
 use Rattle.sql_kinds.proofs.NameLemmas.{left_empty, right_empty}
 
 -- ## Seats

@@ -11,9 +11,9 @@ use Rattle.cell_core.specs.declared.operator.Value.TheVariants.{Bat}
 use Rattle.cell_core.specs.declared.table.Db.{Db}
 use Rattle.cell_core.specs.Pairs.{numbered}
 use Rattle.sql_tree.specs.Tree.{CondTree, StmtTree}
-use Rattle.sql_semantics.specs.Sources.{NamedSource}
+use Rattle.sql_definitions.specs.Sources.{NamedSource}
 use Rattle.cell_core.specs.declared.cell.Cell.{Cell}
-use Rattle.sql_semantics.specs.declared.source.Source.{Source}
+use Rattle.sql_definitions.specs.declared.source.Source.{Source}
 use Rattle.mal_emit.specs.Machines.{over}
 use Rattle.mal_emit.proofs.MachineLemmas.{start}
 use Rattle.mal_emit.proofs.PlanLemmas.{values_told}
@@ -29,8 +29,8 @@ use Rattle.rows_to_mal.proofs.JoinLemmas.{Pick, Seat, seat_oids, columns}
 use Rattle.rows_to_mal.proofs.PlaceLemmas.{scope_of}
 use Rattle.rows_to_mal.proofs.StatementLemmas.{statement_is}
 use Rattle.rows_to_mal.proofs.WhereLemmas.{CondChecked, seats_where, seats_rows, picks_where, rows_kept, picks_numbered}
-use Rattle.sql_semantics.specs.Check.{called_in, tables_of, sources_called}
-use Rattle.sql_semantics.specs.Kept.{choices, is_kept}
+use Rattle.sql_definitions.specs.Check.{called_in, tables_of, sources_called}
+use Rattle.sql_definitions.specs.Kept.{choices, is_kept}
 
 -- ## Columns
 

@@ -6,7 +6,7 @@ use Rattle.sql_tree.specs.Tree.{ExprTree, CondTree}
 use Rattle.sql_tree.specs.Tree.{CondTree as tree}
 use Rattle.sql_tree.specs.declared.tree.CmpOp.{CmpOp}
 use Rattle.sql_tree.specs.declared.tree.CmpOp.TheVariants as cmp
-use Rattle.sql_semantics.specs.Sources.{NamedSource}
+use Rattle.sql_definitions.specs.Sources.{NamedSource}
 use Rattle.rows_to_mal.specs.Candidates.{ColumnCond, Within, Outside, Either, Leaf}
 use Rattle.rows_to_mal.specs.Lent.{is_one_range, is_ranged}
 use Rattle.rows_to_mal.specs.Reading.{read_compare, read_leaf, read_test, read_cond, of_one_column, placed}

@@ -7,7 +7,7 @@ use Rattle.std.proofs.lemmas.Option.{same_Some, slice_get_within, get_or_from_sl
 use Rattle.sql_tree.specs.Tree.{ExprTree, CondTree}
 use Rattle.sql_tree.specs.Tree.{CondTree as tree}
 use Rattle.sql_tree.specs.declared.tree.CmpOp.TheVariants as cmp
-use Rattle.sql_semantics.specs.declared.source.Source.{Source}
+use Rattle.sql_definitions.specs.declared.source.Source.{Source}
 use Rattle.rows_to_mal.specs.Candidates.{ColumnCond}
 use Rattle.rows_to_mal.specs.Conjuncts.{Scope, no_source}
 use Rattle.rows_to_mal.specs.Joins.{Link}
@@ -15,7 +15,7 @@ use Rattle.rows_to_mal.specs.Parts.{Role, OfColumn, OfLink, Other, link_to, equa
 use Rattle.rows_to_mal.specs.Reading.{column_of, read_cond}
 use Rattle.rows_to_mal.proofs.ChoiceLemmas.{LinkBack, LinksBack}
 use Rattle.rows_to_mal.proofs.ScopeLemmas.{IsThere, column_there, cond_there}
-use Rattle.sql_semantics.specs.Sources.{NamedSource, called_sources}
+use Rattle.sql_definitions.specs.Sources.{NamedSource, called_sources}
 
 -- tables under the names that a statement calls them
 abbrev pub scope_of : List (List ℕ) → List Source → Scope

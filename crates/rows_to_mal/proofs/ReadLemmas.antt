@@ -19,9 +19,9 @@ use Rattle.sql_tree.specs.declared.tree.ArithOp.{ArithOp}
 use Rattle.sql_tree.specs.declared.tree.ArithOp.TheVariants as arith_op
 use Rattle.sql_tree.specs.declared.tree.CmpOp.{CmpOp}
 use Rattle.sql_tree.specs.declared.tree.CmpOp.TheVariants as cmp
-use Rattle.sql_semantics.specs.Sources.{NamedSource}
-use Rattle.sql_semantics.specs.Truth.{compared, truth}
-use Rattle.sql_semantics.specs.Values.{Choice, value, cell_over, result_of, cell_at}
+use Rattle.sql_definitions.specs.Sources.{NamedSource}
+use Rattle.sql_definitions.specs.Truth.{compared, truth}
+use Rattle.sql_definitions.specs.Values.{Choice, value, cell_over, result_of, cell_at}
 use Rattle.pick_laws.proofs.ListLemmas.{and_swaps}
 use Rattle.rows_to_mal.specs.Candidates.{Leaf, Least, Most, Same, Between, ColumnCond, Within, Outside, Either}
 use Rattle.rows_to_mal.specs.Reading.{placed, column_of, is_known, left_leaf, right_leaf, both, read_compare, read_leaf, of_one_column, read_cond}

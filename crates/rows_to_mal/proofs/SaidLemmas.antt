@@ -15,12 +15,12 @@ use Rattle.sql_tree.specs.Tree.ExprTree.{Literal, ColumnOf, Operator, AggregateA
 use Rattle.sql_tree.specs.Tree.CondTree.{Compare, Within, IsNull, Negation, Both, Either}
 use Rattle.sql_tree.specs.declared.tree.ArithOp.{ArithOp}
 use Rattle.sql_tree.specs.declared.tree.CmpOp.TheVariants as cmp
-use Rattle.sql_semantics.specs.Sources.{NamedSource, place_of}
-use Rattle.sql_semantics.specs.References.{is_constant}
-use Rattle.sql_semantics.specs.Values.{Choice, cell_over, value, column_cell, result_of, constant_overflows}
+use Rattle.sql_definitions.specs.Sources.{NamedSource, place_of}
+use Rattle.sql_definitions.specs.References.{is_constant}
+use Rattle.sql_definitions.specs.Values.{Choice, cell_over, value, column_cell, result_of, constant_overflows}
 use Rattle.sql_tree.specs.Exprs.{cond_exprs}
 use Rattle.sql_tree.specs.declared.tree.CmpOp.{CmpOp}
-use Rattle.sql_semantics.specs.Truth.{compared, truth}
+use Rattle.sql_definitions.specs.Truth.{compared, truth}
 use Rattle.pick_laws.specs.Shapes.{Shape, Alone, Each, at}
 use Rattle.pick_laws.proofs.ListLemmas.{all_any, all_both, any_append, all_along}
 use Rattle.rows_to_mal.specs.Conjuncts.{Scope}
@@ -75,7 +75,7 @@ module _ (db : Db) (scope : Scope) (picks : List Pick) (seats : List Seat) where
   value_at expr p = value scope.called (choice_of seats p) expr
 
   place_said : (place : Option (ℕ × ℕ)) → PlaceFits db scope seats place → (p : Pick)
-      → unwrap_or (option_and_then (Rattle.sql_semantics.specs.Values.cell_at (choice_of seats p)) place) Nil ≡ at (place_shape seats place) p
+      → unwrap_or (option_and_then (Rattle.sql_definitions.specs.Values.cell_at (choice_of seats p)) place) Nil ≡ at (place_shape seats place) p
   place_said None fits p = absurd fits
   place_said (Some place) fits p = cell_at_is (choice_of seats p) place.0 place.1 ∙ ap (λ row. slice_index_or row place.1 Nil) (row_of_seat seats p place.0)
 

@@ -1,4 +1,4 @@
--- Values are the same or they aren't, and a Bool tells which: so an equation that has a proof under a premise which is merely known to hold has one without it.
+-- Values are the same or they aren't, and a Bool shows which: so an equation that has a proof under a premise which is merely known to hold has one without it.
 use Rattle.std.proofs.Common.{◌≡◌, List, [], ◌∷◌, Bool, true, false, Option, Some, None, refl, ap, ◌∙◌, subst}
 use Rattle.std.specs.Prelude.{◌&&◌, is_none}
 use Rattle.std.proofs.Props.{props}

@@ -11,7 +11,7 @@ use Rattle.sql_tree.specs.Tree.{CondTree as tree}
 use Rattle.sql_tree.specs.declared.tree.ColRef.{ColRef}
 use Rattle.sql_tree.specs.declared.tree.CmpOp.{CmpOp}
 use Rattle.sql_tree.specs.declared.tree.CmpOp.TheVariants as cmp
-use Rattle.sql_semantics.specs.Sources.{NamedSource, means, places_in, places, only}
+use Rattle.sql_definitions.specs.Sources.{NamedSource, means, places_in, places, only}
 use Rattle.pick_laws.proofs.ListLemmas.{longer, all_filter, all_map, all_append, all_along}
 use Rattle.rows_to_mal.specs.Candidates.{Leaf, Within, Outside, ColumnCond, Between}
 use Rattle.rows_to_mal.specs.Reading.{placed, column_of, is_known, left_leaf, right_leaf, both, read_compare, read_leaf, of_one_column, read_cond}

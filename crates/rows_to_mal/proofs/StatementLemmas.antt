@@ -17,21 +17,21 @@ use Rattle.sql_tree.specs.declared.tree.FromItem.{FromItem}
 use Rattle.sql_grammar.specs.Formed.{IsFormed, IfWritten}
 use Rattle.sql_grammar.specs.Refused.{cond_left_out}
 use Rattle.sql_grammar.specs.Written.{IsPlainCond}
-use Rattle.sql_semantics.specs.declared.refusal.Refusal.{Refusal}
-use Rattle.sql_semantics.specs.declared.refusal.Refusal.TheVariants.{NoTable, KindsDiffer}
-use Rattle.sql_semantics.specs.declared.source.Source.{Source}
+use Rattle.sql_definitions.specs.declared.refusal.Refusal.{Refusal}
+use Rattle.sql_definitions.specs.declared.refusal.Refusal.TheVariants.{NoTable, KindsDiffer}
+use Rattle.sql_definitions.specs.declared.source.Source.{Source}
 use Rattle.pick_laws.proofs.ListLemmas.{all_along}
 use Rattle.rows_to_mal.specs.Rows.{condition_of, keeps_rows}
 use Rattle.rows_to_mal.specs.Writes.{is_write, new_values}
 use Rattle.rows_to_mal.proofs.FitLemmas.{ArePlaced, all_parts, all_placed}
 use Rattle.rows_to_mal.proofs.FoundLemmas.{InDb}
 use Rattle.rows_to_mal.proofs.WhereLemmas.{CondChecked}
-use Rattle.sql_semantics.specs.declared.source.Schema.{Schema}
-use Rattle.sql_semantics.specs.Sources.{NamedSource, places, source_named, schema_of, from_name, from_sources, called_sources}
-use Rattle.sql_semantics.specs.References.{references, item_exprs}
-use Rattle.sql_semantics.specs.Kinds.{is_misfit}
-use Rattle.sql_semantics.specs.Check.{refused_if, misplaced, unknown_names, over_table, own_source, delete_refusals, update_refusals, query_refusals, missing_tables, names_twice, column_refusals, bad_in_exprs, bad_references, bad_keys, not_grouped, is_misfit_set, is_misfit_cond, is_misfit_query, refusals_of, check_refusal, sources_named, tables_of, called_in}
-use Rattle.sql_semantics.specs.Valid.{IsValid}
+use Rattle.sql_definitions.specs.declared.source.Schema.{Schema}
+use Rattle.sql_definitions.specs.Sources.{NamedSource, places, source_named, schema_of, from_name, from_sources, called_sources}
+use Rattle.sql_definitions.specs.References.{references, item_exprs}
+use Rattle.sql_definitions.specs.Kinds.{is_misfit}
+use Rattle.sql_definitions.specs.Check.{refused_if, misplaced, unknown_names, over_table, own_source, delete_refusals, update_refusals, query_refusals, missing_tables, names_twice, column_refusals, bad_in_exprs, bad_references, bad_keys, not_grouped, is_misfit_set, is_misfit_cond, is_misfit_query, refusals_of, check_refusal, sources_named, tables_of, called_in}
+use Rattle.sql_definitions.specs.Valid.{IsValid}
 use Rattle.sql_kinds.proofs.NameLemmas.{same_name, map_empty, left_empty, right_empty, none_left as none_first}
 use Rattle.sql_kinds.proofs.TableLemmas.{as_source, source_is}
 

@@ -22,19 +22,19 @@ use Rattle.sql_tree.specs.Tree.{ExprTree}
 use Rattle.sql_tree.specs.Tree.ExprTree.{Literal, ColumnOf, Operator, AggregateAll, Aggregate}
 use Rattle.sql_tree.specs.declared.tree.ArithOp.{ArithOp}
 use Rattle.sql_tree.specs.declared.tree.ArithOp.TheVariants as arith_op
-use Rattle.sql_semantics.specs.declared.source.Source.{Source}
+use Rattle.sql_definitions.specs.declared.source.Source.{Source}
 use Rattle.mal_emit.specs.Machines.{Gives, checking}
 use Rattle.mal_emit.proofs.GivesLemmas.{emits_gives, constant_gives, known_gives, then_some}
 use Rattle.mal_emit.proofs.MachineLemmas.{Lit, At}
 use Rattle.mal_emit.proofs.TypeLemmas.{oids_type}
-use Rattle.rows_to_mal.specs.Candidates.{no_column, kind_word, column_kind, column_name, bind, calc_of, constant, Leaf, Least, Most, Same, Between, ColumnCond, Within, Outside, Either, select_leaf, leaf_rows, cond_rows, narrowed, all_rows, candidates}
+use Rattle.rows_to_mal.specs.Candidates.{no_column, kind_word, column_kind, column_name, bind, calc_of, constant, Leaf, Least, Most, Same, Between, ColumnCond, Within, Outside, Either, select_leaf, leaf_tests, cond_rows, narrowed, all_rows, candidates}
 use Rattle.rows_to_mal.specs.Laws.{rows_in}
 use Rattle.rows_to_mal.specs.Reading.{is_known}
 use Rattle.rows_to_mal.proofs.AlikeLemmas.{stored_at, own_kind}
 use Rattle.rows_to_mal.proofs.FoundLemmas.{InDb, columns_valid, binds_in, rows_fit, has_columns}
-use Rattle.sql_semantics.specs.Sources.{NamedSource}
-use Rattle.sql_semantics.specs.Kinds.{kind_of_expr, is_misfit, is_no_int}
-use Rattle.sql_semantics.specs.Valid.{is_stored, fits_columns}
+use Rattle.sql_definitions.specs.Sources.{NamedSource}
+use Rattle.sql_definitions.specs.Kinds.{kind_of_expr, is_misfit, is_no_int}
+use Rattle.sql_definitions.specs.Valid.{is_stored, fits_columns}
 use Rattle.sql_kinds.proofs.CellLemmas.{cell_fits}
 use Rattle.sql_kinds.proofs.RowLemmas.{columns_valid as all_valid}
 
@@ -175,7 +175,7 @@ module _ (db : Db) where
       CondFitsColumn at = (at.0 < length source.columns) × ColumnFits (column_kind source at.0) at.1
 
       leaf_typed : {args : List Arg} {types : List ValueType} (place : ℕ) → place < length source.columns → (leaf : Leaf) → LeafFits (column_kind source place) leaf
-          → Gives (checking db) args types (leaf_rows source place leaf) (Some (column_type (column_kind source place)))
+          → Gives (checking db) args types (leaf_tests source place leaf) (Some (column_type (column_kind source place)))
       leaf_typed place few leaf fits = then_some (bind_typed source there place few) (λ b. select_typed (column_kind source place) leaf fits)
 
       column_typed : (place : ℕ) → place < length source.columns → (c : ColumnCond) → ColumnFits (column_kind source place) c → {args : List Arg} {types : List ValueType}

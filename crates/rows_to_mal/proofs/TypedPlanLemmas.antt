@@ -14,7 +14,7 @@ use Rattle.sql_tree.specs.Tree.{ExprTree, CondTree, StmtTree}
 use Rattle.sql_tree.specs.Tree.{CondTree as tree}
 use Rattle.sql_tree.specs.Exprs.{cond_exprs}
 use Rattle.sql_grammar.specs.Written.{IsPlain as IsWritten}
-use Rattle.sql_semantics.specs.declared.source.Source.{Source}
+use Rattle.sql_definitions.specs.declared.source.Source.{Source}
 use Rattle.mal_emit.specs.Emitters.{Emitter, followed, gives}
 use Rattle.mal_emit.specs.Machines.{GivesAll, checking, Holds}
 use Rattle.mal_emit.proofs.GivesLemmas.{all_then, gives_all_same, nothing_gives, cons_gives}
@@ -39,8 +39,8 @@ use Rattle.rows_to_mal.proofs.TypedRowLemmas.{LinkTyped, StepsTyped, sources_of,
 use Rattle.rows_to_mal.proofs.TypedValueLemmas.{IsChecked, keep_all_typed, value_type, expr_typed}
 use Rattle.rows_to_mal.proofs.WhereLemmas.{CondChecked}
 use Rattle.rows_to_mal.proofs.WriteLemmas.{write_keeps, values_plain}
-use Rattle.sql_semantics.specs.Kinds.{kind_of_expr, is_misfit, is_cond_misfit}
-use Rattle.sql_semantics.specs.Check.{sources_called, called_in, tables_of}
+use Rattle.sql_definitions.specs.Kinds.{kind_of_expr, is_misfit, is_cond_misfit}
+use Rattle.sql_definitions.specs.Check.{sources_called, called_in, tables_of}
 
 module _ (db : Db) (names : List (List ℕ)) (sources : List Source) (there : AllByRecursion (InDb db) sources) (cs : List CondTree) (checked : AllByRecursion (IsChecked db names sources there) cs) where
   abbrev scope : Scope

@@ -24,7 +24,7 @@ use Rattle.sql_tree.specs.declared.tree.ColRef.{ColRef}
 use Rattle.sql_tree.specs.declared.tree.CmpOp.{CmpOp}
 use Rattle.sql_tree.specs.declared.tree.CmpOp.TheVariants as cmp
 use Rattle.sql_grammar.specs.Written.{IsPlainCond, IsPlain as IsWritten}
-use Rattle.sql_semantics.specs.declared.source.Source.{Source}
+use Rattle.sql_definitions.specs.declared.source.Source.{Source}
 use Rattle.mal_emit.specs.Emitters.{Emitter, followed, emits}
 use Rattle.mal_emit.specs.Machines.{Gives, GivesAll, checking}
 use Rattle.mal_emit.proofs.GivesLemmas.{gives_same, then_some, behind_one, emits_gives, constant_gives, known_gives, all_then, then_all}
@@ -39,9 +39,9 @@ use Rattle.rows_to_mal.proofs.FoundLemmas.{InDb}
 use Rattle.rows_to_mal.proofs.PlaceLemmas.{scope_of, table_at, column_in}
 use Rattle.rows_to_mal.proofs.TypedLemmas.{int_parts, calc_typed}
 use Rattle.rows_to_mal.proofs.TypedRowLemmas.{column_value_typed, oid_at}
-use Rattle.sql_semantics.specs.Sources.{place_of, places}
-use Rattle.sql_semantics.specs.References.{references}
-use Rattle.sql_semantics.specs.Kinds.{kind_of_expr, is_misfit, compares, is_cond_misfit}
+use Rattle.sql_definitions.specs.Sources.{place_of, places}
+use Rattle.sql_definitions.specs.References.{references}
+use Rattle.sql_definitions.specs.Kinds.{kind_of_expr, is_misfit, compares, is_cond_misfit}
 
 -- a cell of a kind, or a BAT with such a cell for each row so far
 abbrev pub value_type : Bool → Option Kind → ValueType

@@ -10,8 +10,8 @@ use Rattle.cell_core.specs.declared.operator.Arg.{Arg}
 use Rattle.cell_core.specs.declared.table.Db.{Db}
 use Rattle.cell_core.specs.Calc.{all_or_none}
 use Rattle.sql_tree.specs.Tree.{ExprTree}
-use Rattle.sql_semantics.specs.Values.{cell_over, constant_overflows}
-use Rattle.sql_semantics.specs.Rows.{choice_row}
+use Rattle.sql_definitions.specs.Values.{cell_over, constant_overflows}
+use Rattle.sql_definitions.specs.Rows.{choice_row}
 use Rattle.mal_emit.specs.Machines.{GivesAll, over}
 use Rattle.mal_emit.proofs.GivesLemmas.{cons_gives, nothing_gives, gives_all_same}
 use Rattle.pick_laws.specs.Shapes.{Shape, at, as_value, cells_at}

@@ -17,13 +17,13 @@ use Rattle.sql_tree.specs.Exprs.{cond_exprs, exprs_of_cond}
 use Rattle.sql_grammar.specs.Written.{IsPlainCond}
 use Rattle.sql_grammar.specs.Formed.{IfWritten}
 use Rattle.sql_grammar.specs.Refused.{cond_left_out}
-use Rattle.sql_semantics.specs.Sources.{NamedSource}
-use Rattle.sql_semantics.specs.Values.{Choice, cell_over, constant_overflows}
-use Rattle.sql_semantics.specs.Truth.{truth}
-use Rattle.sql_semantics.specs.Kept.{choices, cond_overflows, is_kept}
-use Rattle.sql_semantics.specs.Kinds.{is_cond_misfit}
-use Rattle.sql_semantics.specs.Check.{bad_in_exprs, is_misfit_cond}
-use Rattle.sql_semantics.specs.declared.source.Source.{Source}
+use Rattle.sql_definitions.specs.Sources.{NamedSource}
+use Rattle.sql_definitions.specs.Values.{Choice, cell_over, constant_overflows}
+use Rattle.sql_definitions.specs.Truth.{truth}
+use Rattle.sql_definitions.specs.Kept.{choices, cond_overflows, is_kept}
+use Rattle.sql_definitions.specs.Kinds.{is_cond_misfit}
+use Rattle.sql_definitions.specs.Check.{bad_in_exprs, is_misfit_cond}
+use Rattle.sql_definitions.specs.declared.source.Source.{Source}
 use Rattle.mal_emit.specs.Machines.{over, GivesAll}
 use Rattle.pick_laws.proofs.ListLemmas.{each_append, any_append}
 use Rattle.rows_to_mal.specs.Choices.{choice_at, number_choices, kept_numbers}
@@ -161,7 +161,7 @@ module _ (db : Db) (names : List (List ℕ)) (source : Source) (sources : List S
   abbrev pub picks_where : Option (List Pick)
   picks_where = kept_picks (rows_in db) scope cs source sources
 
-  -- behind the plan there are their oids
+  -- after the plan there are their oids
   pub rows_kept : {args : List Arg} {are : List Value} → GivesAll (over db) args are (kept_rows scope condition) (option_map (λ ps. columns ps seats_where) picks_where)
   rows_kept =
       kept_rows_are (rows_in db) scope cs source sources db

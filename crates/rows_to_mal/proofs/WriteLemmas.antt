@@ -1,4 +1,4 @@
--- The plans of DELETE and UPDATE give the oids of the rows that they keep and their new cells.
+-- The plans of DELETE and UPDATE return the oids of the rows that they keep and their new cells.
 use Rattle.std.proofs.Common.{◌≡◌, ℕ, ◌<◌, List, [], ◌∷◌, ◌++◌, length, map, true, ◌||◌, cond, Option, Some, None, refl, ap, sym, ◌∙◌, subst, arith}
 use Rattle.std.specs.Prelude.{is_none}
 use Rattle.std.specs.List.{AllByRecursion, list_any}
@@ -17,7 +17,7 @@ use Rattle.sql_tree.specs.Tree.{ExprTree, CondTree, StmtTree}
 use Rattle.sql_tree.specs.Tree.StmtTree.{CreateTable, DropTable, AlterTable, InsertInto, DeleteFrom, UpdateTable, Select, ExplainSelect}
 use Rattle.sql_grammar.specs.Formed.{IsFormed}
 use Rattle.sql_grammar.specs.Written.{IsPlain as IsWritten}
-use Rattle.sql_semantics.specs.declared.source.Source.{Source}
+use Rattle.sql_definitions.specs.declared.source.Source.{Source}
 use Rattle.mal_emit.specs.Emitters.{Emitter, followed, gives}
 use Rattle.mal_emit.specs.Machines.{Holds, Told, over}
 use Rattle.mal_emit.proofs.MachineLemmas.{append_holds, none_after, stays, start}
@@ -39,8 +39,8 @@ use Rattle.rows_to_mal.proofs.PlaceLemmas.{scope_of}
 use Rattle.rows_to_mal.proofs.StatementLemmas.{statement_is, values_placed}
 use Rattle.rows_to_mal.proofs.ValueLemmas.{expr_overflows, ExprsSaid, shapes_of, exprs_said, values_are}
 use Rattle.rows_to_mal.proofs.WhereLemmas.{CondChecked, seats_where, seats_rows, some_where, picks_where, picks_inside, rows_kept, picks_numbered}
-use Rattle.sql_semantics.specs.Values.{cell_over, value, constant_overflows}
-use Rattle.sql_semantics.specs.Check.{sources_called, called_in, tables_of}
+use Rattle.sql_definitions.specs.Values.{cell_over, value, constant_overflows}
+use Rattle.sql_definitions.specs.Check.{sources_called, called_in, tables_of}
 
 -- ## Columns
 
@@ -102,7 +102,7 @@ module _ (db : Db) (names : List (List ℕ)) (source : Source) (sources : List S
       (all_along (λ p. cells_at shapes p ≡ map (cell_over scope.called (choice_of seats p)) exprs) (λ p. cells_at (map seat_shape seats ++ shapes) p ≡ pick_row p)
       (λ p e. cells_append (map seat_shape seats) shapes p ∙ ap (λ r. r ++ cells_at shapes p) (seat_cells_are seats p) ∙ ap (λ r. map (λ n. Oid n) (numbers_of seats p) ++ r) e) ps a)
 
-  -- what picks give
+  -- the rows of picks, or None where a value overflows
   abbrev given : List Pick → Option (List (List Cell))
   given ps = cond (list_any (expr_overflows db scope ps seats) exprs) None (Some (sorted_by (is_keyed_below []) (map pick_row ps)))
 

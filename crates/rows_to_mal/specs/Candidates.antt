@@ -12,7 +12,7 @@ use Rattle.sql_tree.specs.Tree.{ExprTree}
 use Rattle.sql_tree.specs.Tree.ExprTree.{Literal, Operator}
 use Rattle.sql_tree.specs.declared.tree.ArithOp.{ArithOp}
 use Rattle.sql_tree.specs.declared.tree.ArithOp.TheVariants as arith
-use Rattle.sql_semantics.specs.declared.source.Source.{Source}
+use Rattle.sql_definitions.specs.declared.source.Source.{Source}
 use Rattle.mal_emit.specs.Emitters.{Emitter, emits, gives, followed}
 use Rattle.mal_emit.specs.Phrases.{selects}
 
@@ -44,7 +44,7 @@ calc_of arith.Plus = op.Plus
 calc_of arith.Minus = op.Minus
 calc_of arith.Times = op.Times
 
--- an expression in which no column stands: a literal is a constant, an operator is computed
+-- an expression without columns: a literal is a constant, an operator is computed
 abbrev pub constant : ExprTree → Emitter Arg
 constant (Literal cell) = gives (Const cell)
 constant (Operator operator left right) = followed (constant left) (λ x. followed (constant right) (λ y. emits (calc_of operator) (x ∷ y ∷ [])))
@@ -72,14 +72,14 @@ select_leaf b (Most high hi) = followed (constant high) (λ y. selects b (Const 
 select_leaf b (Same of) = followed (constant of) (λ x. selects b x x true true)
 select_leaf b (Between low high) = followed (constant low) (λ x. followed (constant high) (λ y. selects b x y true true))
 
-abbrev pub leaf_rows : Source → ℕ → Leaf → Emitter Arg
-leaf_rows source place leaf = followed (bind source place) (λ b. select_leaf b leaf)
+abbrev pub leaf_tests : Source → ℕ → Leaf → Emitter Arg
+leaf_tests source place leaf = followed (bind source place) (λ b. select_leaf b leaf)
 
 -- the pairs of a column for which a condition is true
 abbrev pub cond_rows : Source → ℕ → ColumnCond → Emitter Arg
-cond_rows source place (Within leaf) = leaf_rows source place leaf
+cond_rows source place (Within leaf) = leaf_tests source place leaf
 cond_rows source place (Outside leaf) =
-    followed (followed (bind source place) (λ b. selects b (Const Nil) (Const Nil) true true)) (λ a. followed (leaf_rows source place leaf) (λ b. emits op.Kdifference (a ∷ b ∷ [])))
+    followed (followed (bind source place) (λ b. selects b (Const Nil) (Const Nil) true true)) (λ a. followed (leaf_tests source place leaf) (λ b. emits op.Kdifference (a ∷ b ∷ [])))
 cond_rows source place (Either left right) = followed (cond_rows source place left) (λ a. followed (cond_rows source place right) (λ b. emits op.Kunion (a ∷ b ∷ [])))
 
 -- ## Candidates
@@ -95,5 +95,5 @@ narrowed source c (cond ∷ more) = followed (followed (cond_rows source cond.0 
 
 abbrev pub candidates : Source → List (ℕ × ColumnCond) → Emitter Arg
 candidates source [] = all_rows source
-candidates source ((place, Within leaf) ∷ more) = followed (followed (leaf_rows source place leaf) (λ s. emits op.Mirror (s ∷ []))) (λ c. narrowed source c more)
+candidates source ((place, Within leaf) ∷ more) = followed (followed (leaf_tests source place leaf) (λ s. emits op.Mirror (s ∷ []))) (λ c. narrowed source c more)
 candidates source (cond ∷ more) = followed (all_rows source) (λ c. narrowed source c (cond ∷ more))

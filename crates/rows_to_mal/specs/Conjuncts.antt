@@ -10,14 +10,14 @@ use Rattle.sql_tree.specs.Tree.ExprTree.{Literal, ColumnOf, Operator, AggregateA
 use Rattle.sql_tree.specs.Tree.CondTree.{Compare, Within, IsNull, Negation, Both, Either}
 use Rattle.sql_tree.specs.declared.tree.CmpOp.{CmpOp}
 use Rattle.sql_tree.specs.declared.tree.CmpOp.TheVariants as cmp
-use Rattle.sql_semantics.specs.Sources.{NamedSource, place_of}
-use Rattle.sql_semantics.specs.declared.source.Source.{Source}
+use Rattle.sql_definitions.specs.Sources.{NamedSource, place_of}
+use Rattle.sql_definitions.specs.declared.source.Source.{Source}
 use Rattle.mal_emit.specs.Emitters.{Emitter, emits, gives, followed}
 use Rattle.mal_emit.specs.Phrases.{keep}
 use Rattle.rows_to_mal.specs.Candidates.{calc_of}
 use Rattle.rows_to_mal.specs.Joins.{column_value}
 
--- the tables that a statement speaks of, in its order: under the names that it calls them, and as the database has them
+-- the tables that a statement names, in its order: under the names by which it calls them, and as the database has them
 pub record Scope : Type 0 where
   pub called : List NamedSource
   pub sources : List Source
@@ -59,7 +59,7 @@ cond_value scope rs (Either left right) = followed (cond_value scope rs left) (Î
 
 -- ## Conjuncts
 
--- no column stands in it
+-- it has no column
 abbrev pub is_alone : ExprTree â†’ Bool
 is_alone (Literal cell) = true
 is_alone (ColumnOf ref) = false

@@ -21,16 +21,16 @@ use Rattle.mal_check.specs.Checked.{plan_fault}
 use Rattle.mal_check.specs.Runnable.{FitsDb}
 use Rattle.sql_tree.specs.Tree.{ExprTree, CondTree, StmtTree}
 use Rattle.sql_grammar.specs.Formed.{IsFormed}
-use Rattle.sql_semantics.specs.declared.source.Source.{Source}
+use Rattle.sql_definitions.specs.declared.source.Source.{Source}
 use Rattle.rows_to_mal.specs.Choices.{choice_at, kept_numbers}
 use Rattle.rows_to_mal.specs.Rows.{condition_of, keeps_rows, statement_rows}
 use Rattle.rows_to_mal.specs.Writes.{is_write, new_values, write_plan, written_rows}
-use Rattle.sql_semantics.specs.Sources.{schema_of}
-use Rattle.sql_semantics.specs.Check.{check_refusal, sources_named, sources_called, tables_of}
-use Rattle.sql_semantics.specs.Effect.{own_table, is_hit, overflows_in, is_any_set}
-use Rattle.sql_semantics.specs.Kept.{kept, cond_overflows}
-use Rattle.sql_semantics.specs.Values.{constant_overflows}
-use Rattle.sql_semantics.specs.Valid.{IsValid}
+use Rattle.sql_definitions.specs.Sources.{schema_of}
+use Rattle.sql_definitions.specs.Check.{check_refusal, sources_named, sources_called, tables_of}
+use Rattle.sql_definitions.specs.Effect.{own_table, is_hit, overflows_in, is_any_set}
+use Rattle.sql_definitions.specs.Kept.{kept, cond_overflows}
+use Rattle.sql_definitions.specs.Values.{constant_overflows}
+use Rattle.sql_definitions.specs.Valid.{IsValid}
 
 -- the database is valid, and these are the tables of the statement in it
 pub record HoldsTables (stmt : StmtTree) (sources : List Source) (db : Db) : Type 0 where
@@ -41,7 +41,7 @@ pub record HoldsTables (stmt : StmtTree) (sources : List Source) (db : Db) : Typ
 abbrev pub rows_in : Db → Source → List (List Cell)
 rows_in db source = option_map_or (λ (t : Table). t.rows) (named_table source.table db) []
 
--- the values of arguments behind instructions, or None where one of these has no value
+-- the values of arguments after instructions, or None where one of these has no value
 abbrev pub values_behind : Db → List Instr → List Arg → Option (List Value)
 values_behind db instrs args = option_map (λ values. map (value_in values) args) (all_or_none (plan_values db instrs))
 
@@ -53,13 +53,13 @@ table_oids choices n = Bat (numbered (map (λ numbers. Oid (get_or numbers n 0))
 abbrev pub oids_of_tables : ℕ → List (List ℕ) → List Value
 oids_of_tables count choices = map (table_oids choices) (range_with_len 0 count)
 
--- behind the rows of a statement there are the oids of the choices that its condition keeps, in order; they have no value exactly where the condition overflows
+-- the instructions of a statement's rows compute the oids of the choices that its condition keeps, in order; they have no value exactly where the condition overflows
 abbrev pub KeepsRows : StmtTree → List Source → Db → Type 0
 KeepsRows stmt sources db =
     values_behind db ((statement_rows stmt sources).run []).0 ((statement_rows stmt sources).run []).1
     ≡ option_map (oids_of_tables (length sources)) (kept_numbers (sources_called stmt sources) (condition_of stmt) (map (rows_in db) sources))
 
--- so it is of each checked statement with rows, over each database that has its tables
+-- this holds of each checked statement with rows, over each database that has its tables
 abbrev pub StatementsKeepRows : Type 0
 StatementsKeepRows = (stmt : StmtTree) (sources : List Source) (db : Db) → keeps_rows stmt ≡ true → IsFormed stmt → check_refusal stmt (record { tables = sources }) ≡ None
     → HoldsTables stmt sources db → KeepsRows stmt sources db
@@ -70,7 +70,7 @@ NumbersAreChoices = (stmt : StmtTree) (sources : List Source) (db : Db) → cond
     → option_map (map (choice_at (map (rows_in db) sources))) (kept_numbers (sources_called stmt sources) (condition_of stmt) (map (rows_in db) sources))
     ≡ Some (kept (sources_called stmt sources) (condition_of stmt) (map (rows_in db) sources))
 
--- the plan of a checked DELETE or UPDATE gives the oids of the rows that it keeps and their new cells, and overflows where the condition or a new value does
+-- the plan of a checked DELETE or UPDATE returns the oids of the rows that it keeps and their new cells, and overflows where the condition or a new value does
 abbrev pub WritesAreMeant : Type 0
 WritesAreMeant = (stmt : StmtTree) (sources : List Source) (db : Db) → is_write stmt ≡ true → IsFormed stmt → check_refusal stmt (record { tables = sources }) ≡ None
     → HoldsTables stmt sources db → plan_rows (write_plan stmt sources) db ≡ written_rows (sources_called stmt sources) (condition_of stmt) (new_values stmt) (map (rows_in db) sources)
@@ -81,12 +81,12 @@ pub record RunsOver (plan : Plan) (db : Db) : Type 0 where
   pub fits : FitsDb plan db
   pub runs : Runs plan db
 
--- so it is of the plan of each checked DELETE and UPDATE over each database that has its tables
+-- this holds of the plan of each checked DELETE and UPDATE over each database that has its tables
 abbrev pub WritePlansRun : Type 0
 WritePlansRun = (stmt : StmtTree) (sources : List Source) (db : Db) → is_write stmt ≡ true → IsFormed stmt → check_refusal stmt (record { tables = sources }) ≡ None
     → HoldsTables stmt sources db → RunsOver (write_plan stmt sources) db
 
--- over the rows of its table, the plan of an UPDATE has no rows exactly where the statement's effect is an overflow, should it be refused for no other cause
+-- over the rows of its table, the plan of an UPDATE has no rows exactly where the statement's effect is an overflow, if it is refused for no other cause
 abbrev pub UpdatesOverflow : Type 0
 UpdatesOverflow = (table : Table) (sets : List (List ℕ × ExprTree)) (condition : Option CondTree)
     → is_none (written_rows (own_table table) condition (map (λ (set : List ℕ × ExprTree). set.1) sets) (table.rows ∷ []))

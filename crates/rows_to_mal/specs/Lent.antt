@@ -6,20 +6,20 @@ use Rattle.cell_core.specs.declared.operator.Arg.TheVariants.{Var}
 use Rattle.sql_tree.specs.Tree.{CondTree, expr_tree}
 use Rattle.sql_tree.specs.Tree.{CondTree as tree}
 use Rattle.sql_tree.specs.declared.tree.CmpOp.TheVariants as cmp
-use Rattle.sql_semantics.specs.declared.source.Source.{Source}
+use Rattle.sql_definitions.specs.declared.source.Source.{Source}
 use Rattle.mal_emit.specs.Emitters.{Emitter}
-use Rattle.rows_to_mal.specs.declared.reading.Range.{Range}
-use Rattle.rows_to_mal.specs.declared.reading.Range.TheVariants as range
+use Rattle.rows_to_mal.specs.declared.reading.ColumnRange.{ColumnRange}
+use Rattle.rows_to_mal.specs.declared.reading.ColumnRange.TheVariants as range
 use Rattle.rows_to_mal.specs.Candidates.{Leaf, Least, Most, Same, Between, ColumnCond, Within, Outside, Either, narrowed, candidates}
 
-abbrev pub leaf_of : Range → Leaf
+abbrev pub leaf_of : ColumnRange → Leaf
 leaf_of (range.Least of included) = Least (expr_tree of.now) included
 leaf_of (range.Most of included) = Most (expr_tree of.now) included
 leaf_of (range.Same of) = Same (expr_tree of.now)
 leaf_of (range.Between low high) = Between (expr_tree low.now) (expr_tree high.now)
 
 -- a column and its range
-abbrev pub placed_leaf : (ℕ × ℕ) × Range → (ℕ × ℕ) × Leaf
+abbrev pub placed_leaf : (ℕ × ℕ) × ColumnRange → (ℕ × ℕ) × Leaf
 placed_leaf at = (at.0, leaf_of at.1)
 
 -- a range itself
@@ -35,7 +35,7 @@ is_ranged (tree.Compare operator left right) = true
 is_ranged (tree.Within of low high) = true
 is_ranged _ = false
 
--- the candidates by these column conditions, behind those that were met so far: the number of their candidates, or none where none was met
+-- the candidates by these column conditions and by those met before them, whose candidates have this number; None where none was met
 abbrev pub candidates_from : Source → Option ℕ → List (ℕ × ColumnCond) → Emitter Arg
 candidates_from source None conds = candidates source conds
 candidates_from source (Some number) conds = narrowed source (Var number) conds

@@ -7,7 +7,7 @@ use Rattle.sql_tree.specs.Tree.ExprTree.{Literal, ColumnOf, Operator}
 use Rattle.sql_tree.specs.Tree.{CondTree as tree}
 use Rattle.sql_tree.specs.declared.tree.CmpOp.{CmpOp}
 use Rattle.sql_tree.specs.declared.tree.CmpOp.TheVariants as cmp
-use Rattle.sql_semantics.specs.Sources.{NamedSource, place_of}
+use Rattle.sql_definitions.specs.Sources.{NamedSource, place_of}
 use Rattle.rows_to_mal.specs.Candidates.{Leaf, Least, Most, Same, Between, ColumnCond, Within, Outside, Either}
 
 -- the place of an expression that is a column
@@ -15,7 +15,7 @@ abbrev pub column_of : List NamedSource → ExprTree → Option (ℕ × ℕ)
 column_of sources (ColumnOf ref) = place_of sources ref
 column_of sources _ = None
 
--- no column, no aggregate and no NULL stands in it
+-- it has no column, no aggregate and no NULL
 abbrev pub is_known : ExprTree → Bool
 is_known (Literal cell) = not (is_nil cell)
 is_known (Operator operator left right) = is_known left && is_known right

@@ -10,13 +10,13 @@ use Rattle.cell_core.specs.Sorted.{sorted_by}
 use Rattle.mal_meaning.specs.declared.plan.Plan.{Plan}
 use Rattle.sql_tree.specs.Tree.{ExprTree, CondTree, StmtTree}
 use Rattle.sql_tree.specs.Tree.StmtTree.{DeleteFrom, UpdateTable}
-use Rattle.sql_semantics.specs.declared.source.Source.{Source}
+use Rattle.sql_definitions.specs.declared.source.Source.{Source}
 use Rattle.mal_emit.specs.Emitters.{Emitter, gives, followed}
 use Rattle.rows_to_mal.specs.Choices.{choice_at, kept_numbers}
 use Rattle.rows_to_mal.specs.Conjuncts.{Scope, expr_value}
 use Rattle.rows_to_mal.specs.Rows.{statement_scope, statement_rows}
-use Rattle.sql_semantics.specs.Sources.{NamedSource}
-use Rattle.sql_semantics.specs.Values.{Choice, value, cell_over, constant_overflows}
+use Rattle.sql_definitions.specs.Sources.{NamedSource}
+use Rattle.sql_definitions.specs.Values.{Choice, value, cell_over, constant_overflows}
 
 -- ## Plans
 

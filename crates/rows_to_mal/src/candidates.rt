@@ -5,18 +5,18 @@ ghost use Rattle.std.specs.Option.{option_map, option_and_then};
 ghost use Rattle.cell_core.specs.declared.operator.Op.TheVariants as op;
 ghost use Rattle.sql_tree.specs.Tree.{CondTree, expr_tree, cond_tree};
 ghost use Rattle.mal_emit.specs.Emitters.{emits, followed};
-ghost use Rattle.rows_to_mal.specs.Candidates.{ColumnCond, select_leaf as select_leaf_of, leaf_rows as leaf_rows_of, cond_rows as cond_rows_of, narrowed as narrowed_of, candidates as candidates_of};
+ghost use Rattle.rows_to_mal.specs.Candidates.{ColumnCond, select_leaf as select_leaf_of, leaf_tests as leaf_rows_of, cond_rows as cond_rows_of, narrowed as narrowed_of, candidates as candidates_of};
 ghost use Rattle.rows_to_mal.specs.Candidates.ColumnCond.{Within, Outside};
 ghost use Rattle.rows_to_mal.specs.Parts.{conds_of};
 ghost use Rattle.rows_to_mal.specs.Lent.{leaf_of, placed_leaf, is_ranged, candidates_from};
 ghost use Rattle.rows_to_mal.specs.Reading.{placed, read_test, read_cond};
 
 use crate::joins::{all_rows, constant};
-use crate::reading::Range;
+use crate::reading::ColumnRange;
 use crate::tables::{Tables, bind};
 use cell_core::{Arg, Cell, Instr, Memory, Op, Sequence};
 use mal_emit::{emit, selects};
-use sql_semantics::Source;
+use sql_definitions::Source;
 use sql_tree::{CmpOp, Cond, Expr};
 use std::alloc::Global;
 
@@ -25,26 +25,26 @@ fn select_range(
     alloc: Global,
     instrs: &mut Sequence<Instr>,
     column: u32,
-    range: Range<'_>,
+    range: ColumnRange<'_>,
 ) -> Result<u32, Memory>
     ensures { IfOk result (λ number. (instrs.new, Var number) ≡ (select_leaf_of (Var column) (leaf_of range.entry)).run instrs.old) }
 {
     match range {
-        Range::Least(of, included) => {
+        ColumnRange::Least(of, included) => {
             let low = constant(alloc, instrs, of)?;
             let open = Arg::Const(Cell::Nil);
             selects(alloc, instrs, column, low, open, included, true)
         }
-        Range::Most(of, included) => {
+        ColumnRange::Most(of, included) => {
             let high = constant(alloc, instrs, of)?;
             let open = Arg::Const(Cell::Nil);
             selects(alloc, instrs, column, open, high, true, included)
         }
-        Range::Same(of) => {
+        ColumnRange::Same(of) => {
             let same = constant(alloc, instrs, of)?;
             selects(alloc, instrs, column, same.share()?, same, true, true)
         }
-        Range::Between(low, high) => {
+        ColumnRange::Between(low, high) => {
             let low = constant(alloc, instrs, low)?;
             let high = constant(alloc, instrs, high)?;
             selects(alloc, instrs, column, low, high, true, true)
@@ -58,7 +58,7 @@ fn range_rows(
     instrs: &mut Sequence<Instr>,
     source: &Source,
     place: usize,
-    range: Range<'_>,
+    range: ColumnRange<'_>,
 ) -> Result<u32, Memory>
     ensures { IfOk result (λ number. (instrs.new, Var number) ≡ (leaf_rows_of source.now place (leaf_of range.entry)).run instrs.old) }
 {
@@ -72,7 +72,7 @@ fn outside_rows(
     instrs: &mut Sequence<Instr>,
     source: &Source,
     place: usize,
-    range: Range<'_>,
+    range: ColumnRange<'_>,
 ) -> Result<u32, Memory>
     ensures { IfOk result (λ number. (instrs.new, Var number) ≡ (cond_rows_of source.now place (Outside (leaf_of range.entry))).run instrs.old) }
 {
@@ -94,13 +94,13 @@ fn outside_rows(
     )
 }
 
-/// Adds the pairs of a column that lie in the range that was read.
+/// Adds the pairs of a column that lie in the range that was found.
 fn inside(
     alloc: Global,
     instrs: &mut Sequence<Instr>,
     source: &Source,
     place: usize,
-    found: Option<((usize, usize), Range<'_>)>,
+    found: Option<((usize, usize), ColumnRange<'_>)>,
 ) -> Result<u32, Memory>
     requires { IsSome (option_map (placed Within) (option_map placed_leaf found)) }
     ensures { IfOk result (λ number. (at : (ℕ × ℕ) × ColumnCond) → option_map (placed Within) (option_map placed_leaf found.entry) ≡ Some at → (instrs.new, Var number) ≡ (cond_rows_of source.now place at.1).run instrs.old) }
@@ -111,13 +111,13 @@ fn inside(
     }
 }
 
-/// Adds the pairs of a column whose cells are there and lie outside the range that was read.
+/// Adds the pairs of a column whose cells are there and lie outside the range that was found.
 fn outside(
     alloc: Global,
     instrs: &mut Sequence<Instr>,
     source: &Source,
     place: usize,
-    found: Option<((usize, usize), Range<'_>)>,
+    found: Option<((usize, usize), ColumnRange<'_>)>,
 ) -> Result<u32, Memory>
     requires { IsSome (option_map (placed Outside) (option_map placed_leaf found)) }
     ensures { IfOk result (λ number. (at : (ℕ × ℕ) × ColumnCond) → option_map (placed Outside) (option_map placed_leaf found.entry) ≡ Some at → (instrs.new, Var number) ≡ (cond_rows_of source.now place at.1).run instrs.old) }
@@ -157,7 +157,7 @@ impl<'a> Tables<'a> {
 
     /// Adds pairs of a column, and those for which a condition of it is true.
     #[cycle(cond_rows)]
-    fn and_rows(
+    fn or_rows(
         &self,
         alloc: Global,
         instrs: &mut Sequence<Instr>,
@@ -198,7 +198,7 @@ impl<'a> Tables<'a> {
             Cond::Not(of) => outside(alloc, instrs, source, place, self.range(of)),
             Cond::Or(left, right) => {
                 let pairs = self.cond_rows(alloc, instrs, source, place, left)?;
-                self.and_rows(alloc, instrs, source, place, pairs, right)
+                self.or_rows(alloc, instrs, source, place, pairs, right)
             }
             Cond::IsNull(_) | Cond::And(_, _) => unreachable!(),
         }
@@ -271,8 +271,8 @@ impl<'a> Tables<'a> {
         }
     }
 
-    /// Adds the candidates of a table once one more conjunct is looked at. There are none yet as long as
-    /// none of its column conditions was met.
+    /// Adds the candidates of a table after one more conjunct. There are none as long as none of
+    /// its column conditions was met.
     fn next_candidates(
         &self,
         alloc: Global,

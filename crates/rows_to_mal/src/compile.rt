@@ -6,8 +6,8 @@ ghost use Rattle.sql_tree.specs.Tree.{cond_tree, set_tree, stmt_tree};
 ghost use Rattle.mal_meaning.specs.Meaning.{plan_rows};
 ghost use Rattle.rows_to_mal.specs.Choices.{kept_numbers};
 ghost use Rattle.rows_to_mal.specs.Laws.{HoldsTables, RunsOver, rows_in, values_behind, oids_of_tables};
-ghost use Rattle.sql_semantics.specs.Sources.{from_name as from_name_of, called_sources};
-ghost use Rattle.sql_semantics.specs.Typed.{typed_sources};
+ghost use Rattle.sql_definitions.specs.Sources.{from_name as from_name_of, called_sources};
+ghost use Rattle.sql_definitions.specs.Typed.{typed_sources};
 ghost use Rattle.mal_emit.specs.Phrases.{variables};
 ghost use Rattle.rows_to_mal.specs.Rows.{condition_of, keeps_rows, statement_rows};
 ghost use Rattle.rows_to_mal.specs.Writes.{is_write, expr_values as expr_values_of, new_values, write_columns, write_plan, written_rows};
@@ -17,7 +17,7 @@ use crate::tables::Tables;
 use cell_core::{Arg, Instr, Memory, Sequence, Word};
 use mal_check::checked_plans_run;
 use mal_meaning::{Out, Plan};
-use sql_semantics::{Called, Source, Typed, from_name};
+use sql_definitions::{Called, Source, Typed, from_name};
 use sql_tree::{Cond, Expr, FromItem, Stmt};
 use std::alloc::Global;
 
@@ -25,18 +25,19 @@ use std::alloc::Global;
 pub struct Rows {
     /// The instructions.
     pub instrs: Sequence<Instr>,
-    /// For each table of the statement, the number of the instruction that gives the oids of its rows.
+    /// For each table of the statement, the number of the instruction that computes the oids of its
+    /// rows.
     pub rows: Vec<u32>,
 }
 
-// By a call of its own, so that proofs needn't go through its forms where one is let go.
+// By a call of its own, so that proofs needn't go through its forms where one is dropped.
 impl Drop for Rows {
     fn drop(self) {
         let Rows { instrs: _, rows: _ } = self;
     }
 }
 
-/// The tables of FROM, under the names that the query calls them.
+/// The tables of FROM, under the names by which the query calls them.
 pub fn called_in_from<'a>(
     alloc: Global,
     froms: &'a [FromItem],
@@ -71,7 +72,7 @@ fn called_itself<'a>(
     }
 }
 
-/// The tables of a checked statement, under the names that it calls them.
+/// The tables of a checked statement, under the names by which it calls them.
 pub fn called_tables<'a>(alloc: Global, typed: &'a Typed) -> Result<Vec<Called<'a>>, Memory>
     ensures { IfOk result (λ called. called.items ≡ typed_sources typed.now) }
 {
@@ -109,7 +110,7 @@ fn add_rows(alloc: Global, instrs: &mut Sequence<Instr>, typed: &Typed) -> Resul
     tables.kept_rows(alloc, instrs, condition(&typed.stmt))
 }
 
-/// The rows of a statement, exactly.
+/// The rows of a statement, as the definition has them.
 fn statement_kept(alloc: Global, typed: &Typed) -> Result<Rows, Memory>
     ensures { IfOk result (λ rows. (rows.instrs, variables rows.rows.items) ≡ (statement_rows (stmt_tree typed.now.stmt) typed.now.sources).run []) }
 {
@@ -120,9 +121,9 @@ fn statement_kept(alloc: Global, typed: &Typed) -> Result<Rows, Memory>
 
 /// The instructions of the rows that a SELECT, EXPLAIN, DELETE or UPDATE keeps.
 ///
-/// Over every valid database that has the statement's tables, they give for each table the oids
-/// of its rows in the choices that the condition keeps, in order; they have no value exactly where the
-/// condition overflows.
+/// Over every valid database that has the statement's tables, they compute for each table the oids
+/// of its rows in the choices that the condition keeps, in order; they have no value exactly where
+/// the condition overflows.
 pub fn compile_rows(alloc: Global, typed: &Typed) -> Result<Rows, Memory>
     requires { keeps_rows (stmt_tree typed.now.stmt) ≡ true }
     ensures rows { IfOk result (λ rows. (rows.instrs, variables rows.rows.items) ≡ (statement_rows (stmt_tree typed.now.stmt) typed.now.sources).run []) }
@@ -133,7 +134,7 @@ pub fn compile_rows(alloc: Global, typed: &Typed) -> Result<Rows, Memory>
     statement_kept(alloc, typed)
 }
 
-/// The arguments that these instructions give, and then others.
+/// The results of these instructions as arguments, and then others.
 fn and_args(alloc: Global, rows: &[u32], values: &[Arg]) -> Result<Vec<Arg>, Memory>
     ensures { IfOk result (λ args. args.items ≡ variables rows.now ++ values.now) }
 {
@@ -198,7 +199,7 @@ fn add_columns(
     and_args(alloc, &rows, &values)
 }
 
-/// The plan of a change, exactly.
+/// The plan of a change, as the definition has it.
 fn change_plan(alloc: Global, typed: &Typed) -> Result<Plan, Memory>
     ensures { IfOk result (λ plan. plan ≡ write_plan (stmt_tree typed.now.stmt) typed.now.sources) }
 {
@@ -216,8 +217,8 @@ fn change_plan(alloc: Global, typed: &Typed) -> Result<Plan, Memory>
 /// The plan of a DELETE or an UPDATE.
 ///
 /// Over every valid database that has the statement's table, the plan has no fault, fits its
-/// columns and can be run; it gives, for each row of which the condition is true, the row's oid and the
-/// cells of the values that columns are set to, or it overflows.
+/// columns and can be run. For each row of which the condition is true, it returns the row's oid
+/// and the cells of the values that columns are set to; or it overflows.
 pub fn compile_write(alloc: Global, typed: &Typed) -> Result<Plan, Memory>
     requires { is_write (stmt_tree typed.now.stmt) ≡ true }
     ensures plan { IfOk result (λ plan. plan ≡ write_plan (stmt_tree typed.now.stmt) typed.now.sources) }

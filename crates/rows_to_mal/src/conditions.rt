@@ -28,7 +28,7 @@ pub fn comparison(operator: CmpOp) -> Op
     }
 }
 
-/// Whether no column stands in a condition.
+/// Whether a condition has no column.
 pub fn is_cond_alone(cond: &Cond) -> bool
     ensures { result ≡ is_cond_alone_tree (cond_tree cond.now) }
 {
@@ -43,7 +43,7 @@ pub fn is_cond_alone(cond: &Cond) -> bool
     }
 }
 
-/// Adds a truth for each row so far, where there is one for all of them.
+/// Adds a truth for each row so far, where a single one holds for all of them.
 fn spread_value(
     alloc: Global,
     instrs: &mut Sequence<Instr>,
@@ -140,7 +140,8 @@ impl<'a> Tables<'a> {
         two(alloc, instrs, op, left, right)
     }
 
-    /// Adds the truth of a condition for each row so far, or one for all of them.
+    /// Adds the truth of a condition for each row so far, or one for all of them. On `Memory`, `instrs`
+    /// keeps what it had, and the first of its new instructions may follow.
     #[cycle(cond_value)]
     pub fn cond_value(
         &self,
@@ -175,7 +176,8 @@ impl<'a> Tables<'a> {
         }
     }
 
-    /// Adds the rows so far for which a conjunct is true.
+    /// Adds the rows so far for which a conjunct is true. On `Memory`, `instrs` keeps what it had, and
+    /// the first of its new instructions may follow.
     pub fn keep_true(
         &self,
         alloc: Global,

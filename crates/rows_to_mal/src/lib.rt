@@ -1,12 +1,12 @@
 //! The rows that a query, a DELETE or an UPDATE keeps, as instructions of a plan.
 //!
-//! The translation is told as a pure definition, phrase by phrase (`specs/Candidates` to `specs/Rows`):
-//! the candidates of each table by its column conditions, the tables side by side by links or as a
-//! cross product, and then all other conjuncts. `specs/Laws` says what it means: behind its
-//! instructions there is a BAT for each table, whose tails are the oids of the rows in the choices that
-//! the condition keeps, in order; and the plan of a change gives their oids and new cells
-//! (`specs/Writes`). The proofs find what is known behind each phrase, an overflow
-//! included, by the machine of `mal_emit` and the list laws of `pick_laws`.
+//! The translation is a pure definition, phrase by phrase (`specs/Candidates` to `specs/Rows`): the
+//! candidates of each table by its column conditions, the tables side by side by links or as a
+//! cross product, and then all other conjuncts. `specs/Laws` says what it means. Its instructions
+//! compute a BAT for each table, whose tails are the oids of the rows in the choices that the
+//! condition keeps, in order; and the plan of a change returns their oids and new cells
+//! (`specs/Writes`). The proofs find what is known after each phrase, an overflow included, by the
+//! machine of `mal_emit` and the list laws of `pick_laws`.
 #![tactic(auto)]
 
 mod candidates;

@@ -11,7 +11,7 @@ use sql_tree::{CmpOp, Cond, Expr};
 
 /// A range of a column.
 #[derive(Clone, Copy)]
-pub(crate) enum Range<'a> {
+pub(crate) enum ColumnRange<'a> {
     /// From a constant on, which is included or not.
     Least(&'a Expr, bool),
     /// Up to a constant, which is included or not.
@@ -22,7 +22,7 @@ pub(crate) enum Range<'a> {
     Between(&'a Expr, &'a Expr),
 }
 
-/// Whether no column, no aggregate and no NULL stands in an expression.
+/// Whether an expression has no column, no aggregate and no NULL.
 fn is_known(expr: &Expr) -> bool
     ensures { result ≡ is_known_tree (expr_tree expr.now) }
 {
@@ -37,30 +37,30 @@ fn is_known(expr: &Expr) -> bool
 }
 
 /// The range of a column on the left of a constant.
-fn left_range(op: CmpOp, of: &Expr) -> Option<Range<'_>>
+fn left_range(op: CmpOp, of: &Expr) -> Option<ColumnRange<'_>>
     ensures { option_map leaf_of result ≡ left_leaf op (expr_tree of.now) }
 {
     match op {
-        CmpOp::Eq => Some(Range::Same(of)),
+        CmpOp::Eq => Some(ColumnRange::Same(of)),
         CmpOp::Ne => None,
-        CmpOp::Lt => Some(Range::Most(of, false)),
-        CmpOp::Le => Some(Range::Most(of, true)),
-        CmpOp::Gt => Some(Range::Least(of, false)),
-        CmpOp::Ge => Some(Range::Least(of, true)),
+        CmpOp::Lt => Some(ColumnRange::Most(of, false)),
+        CmpOp::Le => Some(ColumnRange::Most(of, true)),
+        CmpOp::Gt => Some(ColumnRange::Least(of, false)),
+        CmpOp::Ge => Some(ColumnRange::Least(of, true)),
     }
 }
 
 /// The range of a column on the right of a constant.
-fn right_range(op: CmpOp, of: &Expr) -> Option<Range<'_>>
+fn right_range(op: CmpOp, of: &Expr) -> Option<ColumnRange<'_>>
     ensures { option_map leaf_of result ≡ right_leaf op (expr_tree of.now) }
 {
     match op {
-        CmpOp::Eq => Some(Range::Same(of)),
+        CmpOp::Eq => Some(ColumnRange::Same(of)),
         CmpOp::Ne => None,
-        CmpOp::Lt => Some(Range::Least(of, false)),
-        CmpOp::Le => Some(Range::Least(of, true)),
-        CmpOp::Gt => Some(Range::Most(of, false)),
-        CmpOp::Ge => Some(Range::Most(of, true)),
+        CmpOp::Lt => Some(ColumnRange::Least(of, false)),
+        CmpOp::Le => Some(ColumnRange::Least(of, true)),
+        CmpOp::Gt => Some(ColumnRange::Most(of, false)),
+        CmpOp::Ge => Some(ColumnRange::Most(of, true)),
     }
 }
 
@@ -83,7 +83,7 @@ impl<'a> Tables<'a> {
         op: CmpOp,
         left: &'e Expr,
         right: &'e Expr,
-    ) -> Option<((usize, usize), Range<'e>)>
+    ) -> Option<((usize, usize), ColumnRange<'e>)>
         ensures { option_map placed_leaf result ≡ read_compare self.now.called op (expr_tree left.now) (expr_tree right.now) }
     {
         if is_known(right) {
@@ -96,14 +96,14 @@ impl<'a> Tables<'a> {
     }
 
     /// The column and the range of a comparison or a BETWEEN of a column with constants.
-    pub(crate) fn range<'e>(&self, cond: &'e Cond) -> Option<((usize, usize), Range<'e>)>
+    pub(crate) fn range<'e>(&self, cond: &'e Cond) -> Option<((usize, usize), ColumnRange<'e>)>
         ensures { option_map placed_leaf result ≡ read_leaf self.now.called (cond_tree cond.now) }
     {
         match cond {
             Cond::Cmp { op, left, right } => self.compared(*op, left, right),
             Cond::Between { of, low, high } => {
                 if is_known(low) && is_known(high) {
-                    beside(self.column_at(of), Some(Range::Between(low, high)))
+                    beside(self.column_at(of), Some(ColumnRange::Between(low, high)))
                 } else {
                     None
                 }
@@ -148,15 +148,15 @@ impl<'a> Tables<'a> {
 /// A column and its range, where both are there.
 fn beside<'e>(
     place: Option<(usize, usize)>,
-    range: Option<Range<'e>>,
-) -> Option<((usize, usize), Range<'e>)>
+    range: Option<ColumnRange<'e>>,
+) -> Option<((usize, usize), ColumnRange<'e>)>
     ensures { option_map placed_leaf result ≡ both place (option_map leaf_of range.entry) }
 {
     Some((place?, range?))
 }
 
-/// The column, of a column and a range.
-fn only_place(found: Option<((usize, usize), Range<'_>)>) -> Option<(usize, usize)>
+/// The column alone.
+fn only_place(found: Option<((usize, usize), ColumnRange<'_>)>) -> Option<(usize, usize)>
     ensures { result ≡ option_map (λ at. at.0) (option_map placed_leaf found.entry) }
 {
     match found {
@@ -165,7 +165,7 @@ fn only_place(found: Option<((usize, usize), Range<'_>)>) -> Option<(usize, usiz
     }
 }
 
-/// A place that is there twice.
+/// The place, where both are the same.
 fn same_place(left: (usize, usize), right: (usize, usize)) -> Option<(usize, usize)>
     ensures { result ≡ (if (left.0 == right.0) && (left.1 == right.1) then Some left else None) }
 {

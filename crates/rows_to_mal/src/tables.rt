@@ -5,8 +5,8 @@ ghost use Rattle.cell_core.specs.declared.operator.Op.TheVariants as op;
 ghost use Rattle.cell_core.specs.declared.operator.Arg.TheVariants.{Const, Var};
 ghost use Rattle.sql_tree.specs.Tree.{expr_tree};
 ghost use Rattle.sql_tree.specs.Tree.ExprTree.{ColumnOf};
-ghost use Rattle.sql_semantics.specs.Found.{place_found};
-ghost use Rattle.sql_semantics.specs.Sources.{place_of};
+ghost use Rattle.sql_definitions.specs.Found.{place_found};
+ghost use Rattle.sql_definitions.specs.Sources.{place_of};
 ghost use Rattle.mal_emit.specs.Emitters.{emits, followed};
 ghost use Rattle.mal_emit.specs.Phrases.{variables};
 ghost use Rattle.rows_to_mal.specs.Candidates.{kind_word, bind as bind_of, calc_of};
@@ -15,13 +15,13 @@ ghost use Rattle.rows_to_mal.specs.Conjuncts.{no_source, place_value as place_va
 
 use cell_core::{Arg, Cell, Column, Instr, Kind, Memory, Op, Sequence, Word, word_of};
 use mal_emit::{emit, two};
-use sql_semantics::{Called, Found, Source, find_column};
+use sql_definitions::{Called, Resolved, Source, find_column};
 use sql_tree::{ArithOp, ColRef, Expr};
 use std::alloc::Global;
 use std::marker::Model;
 
-/// The tables that a statement speaks of: under the names that it calls them, and as the database has
-/// them. Contracts see the scope of the translation.
+/// The tables that a statement names: under the names by which it calls them, and as the database
+/// has them. Contracts see the scope of the translation.
 #[derive(Drop)]
 pub struct Tables<'a> {
     called: &'a [Called<'a>],
@@ -37,7 +37,7 @@ impl<'a> Model for Tables<'a> {
 }
 
 impl<'a> Tables<'a> {
-    /// Tables under the names that a statement calls them, and as the database has them.
+    /// Tables under the names by which a statement calls them, and as the database has them.
     pub fn new(called: &'a [Called<'a>], sources: &'a [Source]) -> Tables<'a>
         ensures called { result.called ≡ called.now }
         ensures sources { result.sources ≡ sources.now }
@@ -58,8 +58,8 @@ impl<'a> Tables<'a> {
         ensures { result ≡ place_of self.now.called column.now }
     {
         match find_column(self.called, column.table.as_ref(), &column.column) {
-            Found::At(source, place) => Some((source, place)),
-            Found::Nowhere | Found::Twice => None,
+            Resolved::At(source, place) => Some((source, place)),
+            Resolved::Nowhere | Resolved::Twice => None,
         }
     }
 
@@ -83,7 +83,8 @@ impl<'a> Tables<'a> {
         Ok(Arg::Var(found))
     }
 
-    /// Adds the value of a column for each row so far.
+    /// Adds the value of a column for each row so far. On `Memory`, `instrs` keeps what it had, and the
+    /// first of its new instructions may follow.
     pub fn column(
         &self,
         alloc: Global,
@@ -113,7 +114,8 @@ impl<'a> Tables<'a> {
         two(alloc, instrs, op, left, right)
     }
 
-    /// Adds an expression's value for each row so far, or one for all of them.
+    /// Adds an expression's value for each row so far, or one for all of them. On `Memory`, `instrs` keeps
+    /// what it had, and the first of its new instructions may follow.
     #[cycle(expr_value)]
     pub fn expr_value(
         &self,
@@ -228,7 +230,7 @@ fn column_value(
     emit(instrs, Op::Join, vec![in alloc; row, Arg::Var(column)]?)
 }
 
-/// The operator that computes an arithmetic one.
+/// The operator of plans that computes an arithmetic operator.
 pub(crate) fn calc(operator: ArithOp) -> Op
     ensures { result ≡ calc_of operator }
 {
@@ -239,7 +241,7 @@ pub(crate) fn calc(operator: ArithOp) -> Op
     }
 }
 
-/// Whether no column stands in an expression.
+/// Whether an expression has no column.
 pub fn is_alone(expr: &Expr) -> bool
     ensures { result ≡ is_alone_tree (expr_tree expr.now) }
 {

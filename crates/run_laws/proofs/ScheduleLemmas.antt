@@ -139,7 +139,7 @@ module _ (options : PoolOptions) (scripts : List (List (List ℕ))) where
           ap (progress_of session) is ∙ other_progress session log event (ne_eqb event.session session (λ same. omega (arith, same, own, above)))
       go (Rests pieces here done is) = ap (progress_of session) is
 
-  -- so a session that has more to do is not below them, where all come to their ends
+  -- a session that has more to do is not below them, where all come to their ends
   not_below : {P : Type 0} (session low : ℕ) (turns : List ℕ) (log later : List EventTree) (pieces : List (List ℕ)) (event : EventTree) → RiseFrom low turns → session < low → Plays options scripts log turns later → AreAllDone scripts later
       → 1 ≤ session → slice_get scripts (session - 1) ≡ Some pieces → IsNext InPlan options pieces session log event → P
   not_below session low turns log later pieces event rises under plays done one here next =

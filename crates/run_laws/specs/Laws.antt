@@ -1,4 +1,4 @@
--- What holds of whole logs.
+-- Laws of whole logs.
 use Rattle.std.specs.Prelude.{◌≡◌, ℕ, ◌-◌, ◌≤◌, ◌<◌, List, ◌++◌, length, take, Bool, Some, slice_get}
 use Rattle.sql_tree.specs.Tree.{StmtTree}
 use Rattle.pool_policy.specs.declared.options.PoolOptions.{PoolOptions}
@@ -31,7 +31,7 @@ pub record IsEarlier (log : List EventTree) (session statement position : ℕ) :
   pub own : event.session ≡ session
   pub earlier : event.statement < statement
 
--- in an ordered log each event of an earlier statement of a session is before the place of a later one; what this one meets begins with all commits up to that event, its own commit among them, and with what each earlier statement met
+-- in an ordered log each event of an earlier statement of a session is before the place of a later one; the commits that the later one meets begin with all commits up to that event, its own among them, and with those that each earlier statement met
 pub record SeesOwn : Type 0 where
   pub before : (scripts : List (List Said)) (log : List EventTree) → IsOrdered scripts log → (session statement position : ℕ) → HasPlace log session statement
       → IsEarlier log session statement position → position < statement_place session statement log
@@ -40,9 +40,9 @@ pub record SeesOwn : Type 0 where
   pub met : (scripts : List (List Said)) (log : List EventTree) → IsOrdered scripts log → (session earlier later : ℕ) → earlier < later → HasPlace log session earlier → HasPlace log session later
       → BeginsWith (commits_met log session later) (commits_met log session earlier)
 
--- ## What a schedule gives
+-- ## The log of a schedule
 
--- the schedule has a log of which this is printed, under these names
+-- this is printed of a log of the schedule, under these names
 pub record IsPrinted (options : PoolOptions) (with_events : Bool) (names : List (List ℕ)) (scripts : List (List (List ℕ))) (schedule text : List ℕ) : Type 0 where
   pub log : List EventTree
   pub scheduled : IsScheduled options scripts schedule log
@@ -50,7 +50,7 @@ pub record IsPrinted (options : PoolOptions) (with_events : Bool) (names : List 
   pub read : AreAllRead scripts readings
   pub text_is : text ≡ printed with_events names readings log (run_totals options log)
 
--- options, scripts and schedule have one log at most, and with the names one printed text: it is a function of them
+-- options, scripts and schedule have at most one log, and with the names at most one printed text: each is a function of them
 pub record OneLog : Type 0 where
   pub log : (options : PoolOptions) (scripts : List (List (List ℕ))) (schedule : List ℕ) (a b : List EventTree) → IsScheduled options scripts schedule a → IsScheduled options scripts schedule b → a ≡ b
   pub text : (options : PoolOptions) (with_events : Bool) (names : List (List ℕ)) (scripts : List (List (List ℕ))) (schedule a b : List ℕ)

@@ -12,19 +12,19 @@ use Rattle.cell_core.specs.declared.table.Db.{Db}
 use Rattle.cell_core.specs.Kinds.{is_of_kind}
 use Rattle.cell_core.specs.Pairs.{Pairs, numbered}
 use Rattle.cell_core.specs.Relations.{column_cells}
-use Rattle.cell_core.specs.Tables.{column_place, first_named, named_table}
+use Rattle.cell_core.specs.Tables.{all_columns, column_place, first_named, grown, has_column, named_table}
 use Rattle.mal_meaning.specs.Meaning.{column_pairs}
 use Rattle.sql_tree.specs.Tree.{ExprTree, CondTree, StmtTree}
 use Rattle.sql_tree.specs.Tree.StmtTree.{CreateTable, DropTable, AlterTable, InsertInto, DeleteFrom, UpdateTable, Select, ExplainSelect}
-use Rattle.sql_semantics.specs.Check.{check_refusal}
-use Rattle.sql_semantics.specs.Effect.{Change, accepted, altered, changed, changed_by, column_refused, created, deleted, done_by, effect, effect_unless, inserted, is_hit, own_table, placed, set_cell, unless_refused, updated, updated_row}
-use Rattle.sql_semantics.specs.Sources.{schema_of}
-use Rattle.sql_semantics.specs.Valid.{IsValid, fits_columns, is_valid_table}
-use Rattle.sql_semantics.specs.declared.refusal.Refusal.{Refusal}
+use Rattle.sql_definitions.specs.Check.{check_refusal}
+use Rattle.sql_definitions.specs.Effect.{Change, accepted, altered, changed, changed_by, column_refused, created, deleted, done_by, effect, effect_unless, inserted, is_hit, own_table, placed, set_cell, unless_refused, updated, updated_row}
+use Rattle.sql_definitions.specs.Sources.{schema_of}
+use Rattle.sql_definitions.specs.Valid.{IsValid, fits_columns, is_valid_table}
+use Rattle.sql_definitions.specs.declared.refusal.Refusal.{Refusal}
 use Rattle.sql_kinds.proofs.NameLemmas.{same_name, own_name, other_name}
 use Rattle.sql_kinds.proofs.TableLemmas.{where_named, found_holds}
 use Rattle.pool_policy.specs.Versions.{is_of}
-use Rattle.run_log.specs.Touches.{all_columns, has_column, touched_by}
+use Rattle.run_log.specs.Touches.{touched_by}
 use Rattle.run_log.proofs.NamedLemmas.{other_named, own_named, found_before, found_behind, left_named, none_named}
 
 -- ## A column of one table
@@ -228,9 +228,6 @@ module _ (db : Db) (valid : IsValid db) where
           gone : (found : Option Table) → first_named name db.tables ≡ found → pairs_of column found ≡ []
           gone None e = refl
           gone (Some t) e = ap (λ o. unwrap_or o []) (no_pairs column t (no_place column t.columns (ap (λ o. list_any (bytes_eq column) (option_map_or (λ (t : Table). map (λ (c : Column). c.name) t.columns) o [])) (sym e) ∙ none)))
-
-  abbrev grown : Column → Table → Table
-  grown column table = record table { columns = table.columns ++ column ∷ []; rows = map (λ (row : List Cell). row ++ column.default ∷ []) table.rows }
 
   place_more : (name : List ℕ) (columns : List Column) (last : Column) → bytes_eq last.name name ≡ false → column_place name (columns ++ last ∷ []) ≡ column_place name columns
   place_more name [] last other = ap (λ b. cond b (Some 0) (option_map suc None)) other

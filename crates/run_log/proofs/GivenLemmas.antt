@@ -81,7 +81,7 @@ offered_fits s sound key offered = record {
     worth : AllByRecursion (λ id. is_pooled s.pool.entries id ≡ true) (parents_of key) → IsWorth s.given (key_offer key s)
     worth pooled = record { work = offered.work; few = offered.few; sole = offered.sole; computed = λ plain. offered.computed plain (above pooled) }
 
--- what an admission gives out goes on with what was given
+-- what an admission gives out adds to what was given out
 pub admit_goes : (s : LogState) → IsSound s → (who : Who) (key : Key) → IsOffered key s → GivesOn s.given (faces_from s.pool.next (admit_of who (s.at + 1) (key_offer key s) s.pool).1) (admit_of who (s.at + 1) (key_offer key s) s.pool).1
 admit_goes s sound who key offered =
     let early = sound.moment in

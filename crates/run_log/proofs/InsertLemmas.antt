@@ -12,17 +12,17 @@ use Rattle.cell_core.specs.declared.table.Table.{Table}
 use Rattle.cell_core.specs.declared.table.Db.{Db}
 use Rattle.cell_core.specs.Pairs.{Pairs, numbered}
 use Rattle.cell_core.specs.Relations.{column_cells}
-use Rattle.cell_core.specs.Tables.{column_place, first_named, named_table}
+use Rattle.cell_core.specs.Tables.{all_columns, column_place, first_named, has_column, named_table, row_count}
 use Rattle.mal_meaning.specs.Meaning.{column_pairs}
-use Rattle.append_laws.specs.Grown.{AreFrom}
+use Rattle.reuse_laws.specs.Grown.{AreFrom}
 use Rattle.sql_tree.specs.Tree.{StmtTree}
 use Rattle.sql_tree.specs.Tree.StmtTree.{InsertInto}
-use Rattle.sql_semantics.specs.Check.{check_refusal}
-use Rattle.sql_semantics.specs.Effect.{Change, changed, changed_by, effect, effect_unless, inserted, placed, unless_refused}
-use Rattle.sql_semantics.specs.Sources.{schema_of}
-use Rattle.sql_semantics.specs.declared.refusal.Refusal.{Refusal}
-use Rattle.sql_semantics.specs.declared.refusal.Reply.TheVariants.{Refused}
-use Rattle.run_log.specs.Touches.{all_columns, has_column, row_count, whole_columns}
+use Rattle.sql_definitions.specs.Check.{check_refusal}
+use Rattle.sql_definitions.specs.Effect.{Change, changed, changed_by, effect, effect_unless, inserted, placed, unless_refused}
+use Rattle.sql_definitions.specs.Sources.{schema_of}
+use Rattle.sql_definitions.specs.declared.refusal.Refusal.{Refusal}
+use Rattle.sql_definitions.specs.declared.refusal.Reply.TheVariants.{Refused}
+use Rattle.run_log.specs.Touches.{whole_columns}
 use Rattle.run_log.proofs.NamedLemmas.{own_named}
 use Rattle.run_log.proofs.ColumnLemmas.{pairs_in, pairs_of}
 
@@ -64,7 +64,7 @@ cells_long : (place : ℕ) (rows : List (List Cell)) → length (column_cells pl
 cells_long place [] = refl
 cells_long place (row ∷ rows) = ap suc (cells_long place rows)
 
--- the old cells, and behind them others from the old number of rows on
+-- the old cells, followed by others from the old number of rows on
 pub record HasMore (rows : ℕ) (old new : Pairs) : Type 0 where
   pub whole : new ≡ old ++ drop rows new
   pub from : AreFrom rows (drop rows new)

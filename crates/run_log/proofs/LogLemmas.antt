@@ -1,4 +1,4 @@
--- What a log tells of its tables and versions.
+-- What a log says of its tables and versions.
 use Rattle.std.proofs.Common.{◌≡◌, ℕ, ◌+◌, ◌≤◌, List, [], ◌∷◌, ◌++◌, length, Bool, true, false, cond, Option, Some, None, refl, ap, sym, ◌∙◌, subst, arith, length-append}
 use Rattle.std.specs.Prelude.{fold, take, ◌==◌}
 use Rattle.std.specs.List.{AllByRecursion, filter_map}
@@ -7,11 +7,12 @@ use Rattle.std.proofs.lemmas.List.Elements.{filter_map-append}
 use Rattle.std.proofs.lemmas.Bool.{eqb-true}
 use Rattle.std.proofs.Math.Seq.{take-length}
 use Rattle.cell_core.specs.declared.table.Db.{Db}
+use Rattle.cell_core.specs.Tables.{has_column}
 use Rattle.mal_meaning.specs.Meaning.{column_pairs}
 use Rattle.sql_grammar.specs.Formed.{IsFormed}
 use Rattle.sql_tree.specs.Tree.{StmtTree}
-use Rattle.sql_semantics.specs.Effect.{effect, replay, replay_from}
-use Rattle.sql_semantics.specs.Valid.{IsValid}
+use Rattle.sql_definitions.specs.Effect.{effect, replay, replay_from}
+use Rattle.sql_definitions.specs.Valid.{IsValid}
 use Rattle.sql_kinds.proofs.EffectLemmas.{effect_holds}
 use Rattle.pool_policy.specs.declared.entry.Who.{Who}
 use Rattle.pool_policy.specs.declared.options.PoolOptions.{PoolOptions}
@@ -20,7 +21,7 @@ use Rattle.run_log.specs.Events.{ActTree, Begins, Looks, Admits, Writes, Ends, E
 use Rattle.run_log.specs.Fold.{LogState, after, after_act, after_commit, after_write, log_start, moved, run_of, write_load}
 use Rattle.run_log.specs.Laws.{IsFormedAct, LogsTell}
 use Rattle.run_log.specs.Totals.{with_work}
-use Rattle.run_log.specs.Touches.{has_column, touched_by}
+use Rattle.run_log.specs.Touches.{touched_by}
 use Rattle.run_log.proofs.ColumnLemmas.{absent_column, untouched}
 
 -- ## One event more
@@ -108,7 +109,7 @@ data Move (s next : LogState) (now : ℕ) (table column : List ℕ) : Type 0 whe
   Comes : next.versions table column ≡ now → Move s next now table column
   Goes : next.versions table column ≡ 0 → column_pairs table column next.db ≡ [] → Move s next now table column
 
--- a state behind an event
+-- a state after an event
 record Behind (s next : LogState) (now : ℕ) : Type 0 where
   valid : IsValid next.db
   move : (table column : List ℕ) → Move s next now table column

@@ -14,13 +14,13 @@ use Rattle.mal_meaning.specs.Meaning.{column_pairs}
 use Rattle.lineage_key.specs.declared.key.Key.{Key}
 use Rattle.lineage_key.specs.Parents.{is_bind, table_of, column_of}
 use Rattle.subsume.proofs.Members.{In, in_from_contains, map_in}
-use Rattle.append_laws.specs.Grown.{AreFrom}
+use Rattle.reuse_laws.specs.Grown.{AreFrom}
 use Rattle.sql_grammar.specs.Formed.{IsFormed}
 use Rattle.sql_tree.specs.Tree.{StmtTree}
 use Rattle.sql_tree.specs.Tree.StmtTree.{CreateTable, DropTable, AlterTable, InsertInto, DeleteFrom, UpdateTable, Select, ExplainSelect}
-use Rattle.sql_semantics.specs.Effect.{effect}
+use Rattle.sql_definitions.specs.Effect.{effect}
 use Rattle.sql_kinds.proofs.EffectLemmas.{effect_holds}
-use Rattle.sql_semantics.specs.Valid.{IsValid}
+use Rattle.sql_definitions.specs.Valid.{IsValid}
 use Rattle.pool_policy.specs.declared.entry.Who.{Who}
 use Rattle.pool_policy.specs.declared.options.PoolOptions.{PoolOptions}
 use Rattle.pool_policy.specs.declared.touched.Touched.{Touched}
@@ -38,12 +38,12 @@ use Rattle.pool_policy.proofs.Kept.{look_keeps, release_keeps}
 use Rattle.pool_policy.proofs.NewEntry.{admit_keeps}
 use Rattle.pool_policy.proofs.VersionLaws.{versions_hold_all}
 use Rattle.pool_policy.proofs.WriteEnds.{write_given, write_keeps}
-use Rattle.run_log.specs.declared.event.Looked.{Looked}
+use Rattle.run_log.specs.declared.event.FoundLog.{FoundLog}
 use Rattle.run_log.specs.Events.{ActTree, Begins, Looks, Admits, Writes, Ends, EventTree, who_of}
 use Rattle.run_log.specs.Fold.{LogState, after, after_act, after_admission, after_commit, after_write, key_offer, key_present, key_value, log_start, moved, write_load}
 use Rattle.run_log.specs.Laws.{IsCommit, IsOffered, IsSound, MayFollow, StepsKeep, columns_of}
 use Rattle.run_log.specs.Totals.{with_look, with_work}
-use Rattle.run_log.specs.Touches.{all_columns, has_column, touched_by, whole_columns}
+use Rattle.run_log.specs.Touches.{touched_by, whole_columns}
 use Rattle.run_log.proofs.ColumnLemmas.{untouched}
 use Rattle.run_log.proofs.GivenLemmas.{admit_goes, admit_moment, offered_fits}
 use Rattle.run_log.proofs.TouchLemmas.{touched_adds, touched_moves}
@@ -81,7 +81,7 @@ module _ (s : LogState) (sound : IsSound s) where
     stay = stays s.given;
   }
 
-  look_follows : (who : Who) (key : Key) (found : Looked) → Follows s (record s { pool = after_look who now key s.pool; totals = with_look found s.totals })
+  look_follows : (who : Who) (key : Key) (found : FoundLog) → Follows s (record s { pool = after_look who now key s.pool; totals = with_look found s.totals })
   look_follows who key found = record {
     valid = sound.valid;
     moment = omega arith;

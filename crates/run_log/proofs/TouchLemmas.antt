@@ -8,20 +8,20 @@ use Rattle.cell_core.specs.declared.table.Column.{Column}
 use Rattle.cell_core.specs.declared.table.Table.{Table}
 use Rattle.cell_core.specs.declared.table.Db.{Db}
 use Rattle.cell_core.specs.Pairs.{Pairs}
-use Rattle.cell_core.specs.Tables.{named_table}
+use Rattle.cell_core.specs.Tables.{all_columns, has_column, named_table}
 use Rattle.mal_meaning.specs.Meaning.{column_pairs}
 use Rattle.subsume.proofs.Members.{In, in_from_contains, map_in}
-use Rattle.append_laws.specs.Grown.{AreFrom}
+use Rattle.reuse_laws.specs.Grown.{AreFrom}
 use Rattle.sql_tree.specs.Tree.{StmtTree}
 use Rattle.sql_tree.specs.Tree.StmtTree.{CreateTable, DropTable, AlterTable, InsertInto, DeleteFrom, UpdateTable, Select, ExplainSelect}
-use Rattle.sql_semantics.specs.Effect.{effect}
-use Rattle.sql_semantics.specs.declared.refusal.Refusal.{Refusal}
-use Rattle.sql_semantics.specs.declared.refusal.Reply.TheVariants.{Refused}
+use Rattle.sql_definitions.specs.Effect.{effect}
+use Rattle.sql_definitions.specs.declared.refusal.Refusal.{Refusal}
+use Rattle.sql_definitions.specs.declared.refusal.Reply.TheVariants.{Refused}
 use Rattle.sql_kinds.proofs.NameLemmas.{same_name, own_name, other_name}
 use Rattle.pool_policy.specs.declared.touched.Touched.{Touched}
 use Rattle.pool_policy.specs.Versions.{Moves, Versions, is_of}
 use Rattle.run_log.specs.Fold.{moved}
-use Rattle.run_log.specs.Touches.{all_columns, has_column, row_count, touched_by, touching, whole_columns}
+use Rattle.run_log.specs.Touches.{touched_by, touching, whole_columns}
 use Rattle.run_log.proofs.InsertLemmas.{Inserts, inserts}
 
 -- ## Columns by their names
@@ -47,7 +47,7 @@ had_of name column db = go (named_table name db)
 
 -- ## What is added
 
--- a column that was added to: the old cells, and behind them the new ones
+-- a column that was added to: the old cells, followed by the new ones
 pub record Adds (write : Touched) (old new : Db) (column : List ℕ × Pairs) : Type 0 where
   pub from : AreFrom write.old_rows (drop write.old_rows column.1)
   pub is : column_pairs write.table column.0 new ≡ column.1

@@ -3,8 +3,8 @@ use Rattle.std.proofs.Common.{◌≡◌, ℕ, ◌+◌, ◌*◌, ◌^◌, ◌≤�
 use Rattle.pool_policy.specs.declared.options.Admitted.{Admitted}
 use Rattle.pool_policy.specs.declared.options.Admitted.TheVariants.{Taken, There, Stale, Orphan, NoCredit, NoRoom}
 use Rattle.pool_policy.specs.Pool.{PoolState}
-use Rattle.run_log.specs.declared.event.Looked.{Looked}
-use Rattle.run_log.specs.declared.event.Looked.TheVariants.{Exact, Within, Across, Miss}
+use Rattle.run_log.specs.declared.event.FoundLog.{FoundLog}
+use Rattle.run_log.specs.declared.event.FoundLog.TheVariants.{Exact, Within, Across, Miss}
 use Rattle.run_log.specs.declared.event.Totals.{Totals}
 use Rattle.run_log.specs.Totals.{AreSmall, AreWithin, count_sum, gone_in, with_admission, with_look, with_pool, with_written}
 
@@ -12,7 +12,7 @@ pub small_within : (at : ℕ) (t : Totals) → at < 2 ^ 30 → AreWithin at t �
 small_within at t few within = omega (arith, few, within)
 
 -- a look counts twice, and its event once more
-pub look_sum : (t : Totals) (found : Looked) → count_sum (with_look found t) ≡ count_sum t + 2
+pub look_sum : (t : Totals) (found : FoundLog) → count_sum (with_look found t) ≡ count_sum t + 2
 look_sum t (Exact id) = omega arith
 look_sum t (Within id) = omega arith
 look_sum t (Across pieces) = omega arith

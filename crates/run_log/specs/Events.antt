@@ -10,24 +10,24 @@ use Rattle.pool_policy.specs.declared.options.Admitted.{Admitted}
 use Rattle.pool_policy.specs.Looks.{Finding}
 use Rattle.pool_policy.specs.Looks.Finding.{Exact, Within, Across, Miss}
 use Rattle.sql_tree.specs.Tree.{StmtTree, stmt_tree}
-use Rattle.sql_semantics.specs.Effect.{replay}
+use Rattle.sql_definitions.specs.Effect.{replay}
 use Rattle.run_log.specs.declared.event.Event.{Event}
 use Rattle.run_log.specs.declared.event.Act.{Act}
 use Rattle.run_log.specs.declared.event.Act.TheVariants as act
-use Rattle.run_log.specs.declared.event.Looked.{Looked}
-use Rattle.run_log.specs.declared.event.Looked.TheVariants as looked
+use Rattle.run_log.specs.declared.event.FoundLog.{FoundLog}
+use Rattle.run_log.specs.declared.event.FoundLog.TheVariants as looked
 
 -- ## Events as plain data
 
 -- what an event does, with its statement as a plain tree
 pub data ActTree : Type 0 where
   Begins : ℕ → Option Plan → ActTree
-  Looks : ℕ → Key → Looked → ActTree
+  Looks : ℕ → Key → FoundLog → ActTree
   Admits : ℕ → Key → Admitted → ActTree
   Writes : Option StmtTree → ℕ → ℕ → ActTree
   Ends : ℕ → ActTree
 
--- an event, so
+-- an event as plain data
 pub record EventTree : Type 0 where
   pub session : ℕ
   pub statement : ℕ
@@ -43,16 +43,16 @@ act_tree (act.End code) = Ends code
 abbrev pub event_tree : Event → EventTree
 event_tree event = record { session = event.session; statement = event.statement; act = act_tree event.act }
 
--- a log, so
+-- a log as plain data
 abbrev pub log_tree : List Event → List EventTree
 log_tree log = map event_tree log
 
--- who did it
+-- the session and the statement of an event
 abbrev pub who_of : EventTree → Who
 who_of event = record { session = event.session; statement = event.statement }
 
 -- what is found, as it is logged
-abbrev pub looked_of : Finding → Looked
+abbrev pub looked_of : Finding → FoundLog
 looked_of (Exact id) = looked.Exact id
 looked_of (Within id) = looked.Within id
 looked_of (Across pieces) = looked.Across (length pieces)

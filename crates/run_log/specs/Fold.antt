@@ -6,16 +6,18 @@ use Rattle.cell_core.specs.declared.operator.Value.{Value}
 use Rattle.cell_core.specs.declared.table.Db.{Db}
 use Rattle.cell_core.specs.Pairs.{Pairs, as_bat}
 use Rattle.cell_core.specs.Operators.{operate, work_of}
+use Rattle.cell_core.specs.Tables.{has_column}
+use Rattle.mal_meaning.specs.declared.plan.Plan.{Plan}
 use Rattle.mal_meaning.specs.Meaning.{column_pairs, plan_load, plan_rows}
 use Rattle.mal_opt.specs.Optimisers.{optimise}
 use Rattle.lineage_key.specs.declared.key.Key.{Key}
 use Rattle.lineage_key.specs.Parents.{is_bind, parents_of, table_of, column_of}
 use Rattle.evict_admit.specs.Runs.{is_one_of}
 use Rattle.sql_tree.specs.Tree.{StmtTree}
-use Rattle.sql_semantics.specs.Check.{check_refusal, sources_named, tables_of}
-use Rattle.sql_semantics.specs.Effect.{effect}
-use Rattle.sql_semantics.specs.Sources.{schema_of}
-use Rattle.sql_semantics.specs.declared.refusal.Refusal.{Refusal}
+use Rattle.sql_definitions.specs.Check.{check_refusal, sources_named, tables_of}
+use Rattle.sql_definitions.specs.Effect.{effect}
+use Rattle.sql_definitions.specs.Sources.{schema_of}
+use Rattle.sql_definitions.specs.declared.refusal.Refusal.{Refusal}
 use Rattle.rows_to_mal.specs.Writes.{is_write, write_plan}
 use Rattle.pool_policy.specs.declared.entry.Who.{Who}
 use Rattle.pool_policy.specs.declared.options.Admitted.{Admitted}
@@ -24,14 +26,14 @@ use Rattle.pool_policy.specs.declared.touched.Touched.{Touched}
 use Rattle.pool_policy.specs.Pool.{PoolState, empty_pool}
 use Rattle.pool_policy.specs.Looks.{after_look}
 use Rattle.pool_policy.specs.Admits.{Offer, admit_of, release_of}
-use Rattle.pool_policy.specs.Writes.{Return, Written, returns_of, touched_ids, write_of}
+use Rattle.pool_policy.specs.Writes.{Return, Written, backs_of, write_of}
 use Rattle.pool_policy.specs.Keeps.{Face, faces, arg_value}
 use Rattle.pool_policy.specs.Versions.{Versions, is_of}
 use Rattle.pool_policy.specs.Worths.{faces_from}
 use Rattle.run_log.specs.declared.event.Totals.{Totals}
 use Rattle.run_log.specs.Events.{ActTree, Begins, Looks, Admits, Writes, Ends, EventTree, who_of}
 use Rattle.run_log.specs.Totals.{no_totals, with_look, with_admission, with_write, with_work, with_pool}
-use Rattle.run_log.specs.Touches.{has_column, touched_by}
+use Rattle.run_log.specs.Touches.{touched_by}
 
 -- what a log leads to
 pub record LogState : Type 0 where
@@ -47,7 +49,7 @@ log_start options = record { at = 0; db = record { tables = [] }; versions = λ 
 
 -- ## Admissions
 
--- the value of a key: the column of a bind as it stands, and else the operator over what its parents are worth
+-- the value of a key: the present column of a bind, and else the operator over what its parents are worth
 abbrev pub key_value : Key → LogState → Pairs
 key_value key s =
     if is_bind key then column_pairs (table_of key) (column_of key) s.db
@@ -57,7 +59,7 @@ key_value key s =
 abbrev pub key_present : Key → LogState → ℕ
 key_present key s = if is_bind key then s.versions (table_of key) (column_of key) else 0
 
--- the stated work of its instruction; nobody asks for that of a bind of another version, or where a parent has no id
+-- the stated work of its instruction; that of a bind of another version, or of a key with a parent without id, is never used
 abbrev pub bind_work : Key → LogState → ℕ
 bind_work key s = if key.version == key_present key s then length (column_pairs (table_of key) (column_of key) s.db) else 0
 
@@ -75,13 +77,9 @@ after_admission (answer, pool) s = record s { pool = pool; given = s.given ++ fa
 
 -- ## Writes
 
--- the versions behind a write at this position: of what it touched and is there
+-- the versions after a write at this position: of what it touched and is there
 abbrev pub moved : Touched → Db → ℕ → Versions → Versions
 moved touched db now versions table column = if is_of touched table column then (if has_column table column db then now else 0) else versions table column
-
--- what comes back in a write
-abbrev pub backs_of : Touched → ℕ → PoolState → List Return
-backs_of touched now pool = returns_of touched now (touched_ids touched.table touched.columns pool.entries) pool
 
 abbrev pub after_commit : Touched → Db → ℕ → LogState → LogState
 after_commit touched db now s = record s {
@@ -92,15 +90,17 @@ after_commit touched db now s = record s {
   totals = with_write (write_of touched now s.pool) s.totals;
 }
 
--- the load of the plan by which a DELETE or an UPDATE is done, where the check passes it and its plan doesn't overflow
+-- the plan by which a DELETE or an UPDATE is done: its translation, optimised
+abbrev pub change_plan : StmtTree → Db → Plan
+change_plan stmt db = optimise (write_plan stmt (sources_named (tables_of stmt) (schema_of db)))
+
+-- the load of that plan, where the check passes the statement and the plan doesn't overflow
 abbrev pub load_unless : Option (List (List Cell)) → ℕ → ℕ
 load_unless None load = 0
 load_unless (Some rows) load = load
 
 abbrev pub change_load : StmtTree → Db → ℕ
-change_load stmt db =
-    let plan = optimise (write_plan stmt (sources_named (tables_of stmt) (schema_of db))) in
-    load_unless (plan_rows plan db) (plan_load plan db)
+change_load stmt db = load_unless (plan_rows (change_plan stmt db) db) (plan_load (change_plan stmt db) db)
 
 abbrev pub load_where : Bool → Option Refusal → ℕ → ℕ
 load_where true None load = load
@@ -125,7 +125,7 @@ after_act who (Writes None code count) now s = s
 after_act who (Writes (Some stmt) code count) now s = after_write stmt code now s
 after_act who (Ends code) now s = record s { pool = release_of who.session s.pool }
 
--- the state behind an event, whose position is one more
+-- the state after an event, whose position is one more
 abbrev pub after : LogState → EventTree → LogState
 after s event =
     let next = after_act (who_of event) event.act (s.at + 1) s in

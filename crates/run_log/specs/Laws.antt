@@ -9,18 +9,18 @@ use Rattle.lineage_key.specs.declared.key.Key.{Key}
 use Rattle.lineage_key.specs.Parents.{is_bind, parents_of}
 use Rattle.sql_tree.specs.Tree.{StmtTree}
 use Rattle.sql_grammar.specs.Formed.{IsFormed}
-use Rattle.sql_semantics.specs.Effect.{effect, replay}
-use Rattle.sql_semantics.specs.declared.refusal.Refusal.{Refusal}
-use Rattle.sql_semantics.specs.declared.refusal.Reply.TheVariants.{Refused}
-use Rattle.sql_semantics.specs.Valid.{IsValid}
+use Rattle.sql_definitions.specs.Effect.{effect, replay}
+use Rattle.sql_definitions.specs.declared.refusal.Refusal.{Refusal}
+use Rattle.sql_definitions.specs.declared.refusal.Reply.TheVariants.{Refused}
+use Rattle.sql_definitions.specs.Valid.{IsValid}
 use Rattle.pool_policy.specs.declared.options.PoolOptions.{PoolOptions}
 use Rattle.pool_policy.specs.Columns.{Columns, AreColumns}
 use Rattle.pool_policy.specs.Keeps.{IsPool, arg_value}
 use Rattle.pool_policy.specs.Versions.{AreCurrent}
 use Rattle.pool_policy.specs.Worths.{IsGiven, WorthsStay}
-use Rattle.pool_policy.specs.Writes.{Return}
+use Rattle.pool_policy.specs.Writes.{Return, backs_of}
 use Rattle.run_log.specs.Events.{ActTree, Admits, Writes, EventTree, commits}
-use Rattle.run_log.specs.Fold.{LogState, after, backs_of, key_value, key_work, log_start, run_of}
+use Rattle.run_log.specs.Fold.{LogState, after, key_value, key_work, log_start, run_of}
 use Rattle.run_log.specs.Touches.{touched_by}
 
 -- ## What every state keeps
@@ -52,7 +52,7 @@ pub record IsCommit (stmt : StmtTree) (s : LogState) : Type 0 where
   pub accepted : (refusal : Refusal) → (effect stmt s.db).1 ≡ Refused refusal → ⊥
   pub short : (r : Return) → Contains (backs_of (touched_by stmt s.db) (s.at + 1) s.pool) r → length r.new.value < 2 ^ 62
 
--- a written statement is one that reading gives
+-- a written statement is one that reading can yield
 abbrev pub IsFormedAct : ActTree → Type 0
 IsFormedAct (Writes (Some stmt) code count) = IsFormed stmt
 IsFormedAct _ = Unit {0}

@@ -4,21 +4,21 @@ use Rattle.pool_policy.specs.declared.options.Admitted.{Admitted}
 use Rattle.pool_policy.specs.declared.options.Admitted.TheVariants.{Taken, There, Stale, Orphan, NoCredit, NoRoom}
 use Rattle.pool_policy.specs.Pool.{PoolState, pool_bytes}
 use Rattle.pool_policy.specs.Writes.{Written}
-use Rattle.run_log.specs.declared.event.Looked.{Looked}
-use Rattle.run_log.specs.declared.event.Looked.TheVariants.{Exact, Within, Across, Miss}
+use Rattle.run_log.specs.declared.event.FoundLog.{FoundLog}
+use Rattle.run_log.specs.declared.event.FoundLog.TheVariants.{Exact, Within, Across, Miss}
 use Rattle.run_log.specs.declared.event.Totals.{Totals}
 
 abbrev pub no_totals : Totals
 no_totals = record { entries = 0; bytes = 0; peak = 0; looks = 0; exact = 0; within = 0; across = 0; miss = 0; taken = 0; there = 0; stale = 0; orphan = 0; nocredit = 0; noroom = 0; evicted = 0; dropped = 0; carried = 0; work = 0; events = 0 }
 
 -- a look by what it found
-abbrev pub with_finding : Looked → Totals → Totals
+abbrev pub with_finding : FoundLog → Totals → Totals
 with_finding (Exact id) t = record t { exact = t.exact + 1 }
 with_finding (Within id) t = record t { within = t.within + 1 }
 with_finding (Across pieces) t = record t { across = t.across + 1 }
 with_finding Miss t = record t { miss = t.miss + 1 }
 
-abbrev pub with_look : Looked → Totals → Totals
+abbrev pub with_look : FoundLog → Totals → Totals
 with_look found t = let more = with_finding found t in record more { looks = more.looks + 1 }
 
 -- an admission by its answer
@@ -45,7 +45,7 @@ with_work work t = record t { work = t.work + work }
 abbrev pub with_write : Written → Totals → Totals
 with_write w t = with_work w.work (with_written w.dropped w.carried w.evicted t)
 
--- behind each event: what the pool holds then, and one event more
+-- after each event: what the pool holds then, and one event more
 abbrev pub holding : ℕ → ℕ → Totals → Totals
 holding entries bytes t = record t { entries = entries; bytes = bytes; peak = max t.peak bytes; events = t.events + 1 }
 
@@ -60,6 +60,6 @@ count_sum t = t.looks + t.exact + t.within + t.across + t.miss + t.taken + t.the
 abbrev pub AreSmall : Totals → Type 0
 AreSmall t = count_sum t < 2 ^ 62
 
--- so they are after fewer than 2^32 events, each of which gives up, drops and carries at most 1,024 entries
+-- the counters after so many events, each of which gives up, drops and carries at most 1,024 entries; they are small after fewer than 2^32
 abbrev pub AreWithin : ℕ → Totals → Type 0
 AreWithin at t = count_sum t ≤ 4096 * at

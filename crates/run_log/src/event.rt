@@ -8,7 +8,7 @@ use lineage_key::Key;
 use mal_meaning::Plan;
 use pool_policy::Admitted;
 
-/// One entry of the log. Positions in the log count from 1.
+/// One event of the log. Positions in the log count from 1.
 pub struct Event {
     /// The session, from 1.
     pub session: u32,
@@ -18,7 +18,7 @@ pub struct Event {
     pub act: Act,
 }
 
-// By a call of its own, so that proofs needn't go through its forms where one is let go.
+// By a call of its own, so that proofs needn't go through its forms where one is dropped.
 impl Drop for Event {
     fn drop(self) {
         let Event {
@@ -31,7 +31,7 @@ impl Drop for Event {
 
 /// What an event does. A code is 0 where the statement is accepted, and else the refusal's number.
 pub enum Act {
-    /// A query begins: the tables that it sees are those at this place.
+    /// A query begins: it sees the tables at this position.
     Begin {
         /// 0, or the number of the refusal by the tables.
         code: u8,
@@ -42,23 +42,23 @@ pub enum Act {
     Look {
         /// The number of the instruction in the plan, from 1, as EXPLAIN numbers it.
         instr: u32,
-        /// What names its result.
+        /// The key of its result.
         key: Key,
         /// What is found.
-        found: Looked,
+        found: FoundLog,
     },
     /// The result of an instruction is offered to the pool.
     Admit {
         /// The number of the instruction in the plan, from 1, as EXPLAIN numbers it.
         instr: u32,
-        /// What names its result.
+        /// The key of its result.
         key: Key,
         /// What the pool answers.
         result: Admitted,
     },
     /// A statement that is no query, whole.
     Write {
-        /// The statement, as its text; None where its text is refused.
+        /// The text of the statement; None where that is refused.
         stmt: Option<StmtText>,
         /// 0, or the number of the refusal.
         code: u8,
@@ -72,7 +72,7 @@ pub enum Act {
     },
 }
 
-// By a call of its own, so that proofs needn't go through its forms where one is let go.
+// By a call of its own, so that proofs needn't go through its forms where one is dropped.
 impl Drop for Act {
     fn drop(self) {
         match self {
@@ -102,7 +102,7 @@ pub const ACCEPTED: u8 = 0;
 
 /// What a look finds, as it is logged.
 #[derive(Clone, Copy, PartialEq, Eq)]
-pub enum Looked {
+pub enum FoundLog {
     /// The entry with this id has the key.
     Exact(u64),
     /// The range of the entry with this id contains that of the key.

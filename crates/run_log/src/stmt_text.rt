@@ -9,7 +9,7 @@ use std::alloc::Global;
 use std::marker::Model;
 use std::snapshot::Snapshot;
 
-/// A statement as the log keeps it: its canonical text. Contracts see the statement that it is the text of.
+/// A statement as the log keeps it: its canonical text. Contracts see the statement itself.
 #[derive_where(Debug)]
 pub struct StmtText {
     text: Vec<u8>,
@@ -17,7 +17,7 @@ pub struct StmtText {
     stmt: Snapshot<Stmt>,
 }
 
-// By a call of its own, so that proofs needn't go through its forms where one is let go.
+// By a call of its own, so that proofs needn't go through its forms where one is dropped.
 impl Drop for StmtText {
     fn drop(self) {
         let StmtText { text: _, stmt: _ } = self;
@@ -43,7 +43,7 @@ impl Model for StmtText {
 }
 
 impl StmtText {
-    /// The text of a statement, in no more memory than it has bytes.
+    /// The canonical text of a statement, in no more memory than it has bytes.
     pub fn of(alloc: Global, stmt: &Stmt) -> Result<StmtText, Memory>
         ensures { IfOk result (λ kept. kept ≡ stmt.now) }
     {

@@ -1,12 +1,12 @@
-//! Counting.
+//! Counts the events of a run.
 ghost use Rattle.std.specs.Prelude.{◌≡◌, ◌+◌, ◌<◌, ◌^◌};
 ghost use Rattle.run_log.specs.Totals.{AreSmall, gone_in, holding, no_totals, with_admission, with_look, with_work, with_written};
 
-use crate::event::{Looked, Totals};
+use crate::event::{FoundLog, Totals};
 use pool_policy::Admitted;
 
 impl Totals {
-    /// Nothing was counted yet.
+    /// Totals before any event.
     pub fn new() -> Totals
         ensures { result ≡ no_totals }
     {
@@ -34,15 +34,15 @@ impl Totals {
     }
 
     /// Counts a look.
-    pub fn note_look(&mut self, found: Looked)
+    pub fn note_look(&mut self, found: FoundLog)
         requires { AreSmall self.old }
         ensures { self.new ≡ with_look found self.old }
     {
         match found {
-            Looked::Exact(_) => self.exact += 1,
-            Looked::Within(_) => self.within += 1,
-            Looked::Across(_) => self.across += 1,
-            Looked::Miss => self.miss += 1,
+            FoundLog::Exact(_) => self.exact += 1,
+            FoundLog::Within(_) => self.within += 1,
+            FoundLog::Across(_) => self.across += 1,
+            FoundLog::Miss => self.miss += 1,
         }
         self.looks += 1;
     }
@@ -87,7 +87,7 @@ impl Totals {
         self.work += work;
     }
 
-    /// Counts an event, behind which the pool holds so many entries and bytes.
+    /// Counts an event, after which the pool holds so many entries and bytes.
     pub fn note_event(&mut self, entries: u64, bytes: u64)
         requires { AreSmall self.old }
         ensures { self.new ≡ holding entries bytes self.old }

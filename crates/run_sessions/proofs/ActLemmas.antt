@@ -61,7 +61,7 @@ query_goes : (order : Order) (s : LogState) (who : Who) (seen : LogState) (plan 
 query_goes InPlan s who seen plan results act is = subst GoesOnAs (sym is) (next_goes s who seen.versions results _)
 query_goes AsReady s who seen plan results act may = may_goes s who seen plan results act may
 
--- so it is of whatever a statement does
+-- the same of whatever a statement does
 pub goes_on_as : (order : Order) (s : LogState) (who : Who) (seen : LogState) (results : ℕ → Got) (doing : Doing Plan) (act : ActTree) → IsLaterAct order s who seen results doing act → GoesOnAs act
 goes_on_as order s who seen results (Writing statement shows) act is = closes_as act (code_of shows) is
 goes_on_as order s who seen results (Beginning None shows) act is = closes_as act (code_of shows) is

@@ -1,7 +1,7 @@
--- What a counter tells of turns.
+-- What a counter shows of turns.
 use Rattle.std.proofs.Common.{◌≡◌, ℕ, ◌≤◌, List, [], ◌∷◌, refl, ap, ◌∙◌, subst, arith}
 use Rattle.std.specs.Prelude.{Result}
-use Rattle.sql_semantics.specs.declared.refusal.Refusal.{Refusal}
+use Rattle.sql_definitions.specs.declared.refusal.Refusal.{Refusal}
 use Rattle.sql_tree.specs.declared.tree.Stmt.{Stmt}
 use Rattle.book_core.specs.BookView.{BookView}
 use Rattle.session_run.specs.declared.session.Session.{Session}
@@ -70,7 +70,7 @@ over_counts book x mid from to outside is =
 pub none_counted : (book : BookView) (sessions : List Session) (n : ℕ) → CountsTurns book book sessions sessions n n
 none_counted book sessions n = record { least = omega arith; most = omega arith }
 
--- turns behind turns
+-- turns after turns
 pub then_counted : (a b c : BookView) (x y z : List Session) (i j k : ℕ) → CountsTurns a b x y i j → CountsTurns b c y z j k → CountsTurns a c x z i k
 then_counted a b c x y z i j k p q =
     let least = p.least in

@@ -1,4 +1,4 @@
--- What a log says of a session, and its statements there, by one event more.
+-- What a log has of a session, and its statements there, by one more event.
 use Rattle.std.proofs.Common.{◌≡◌, ℕ, zero, suc, ◌+◌, ◌≤◌, ◌<◌, List, [], ◌∷◌, ◌++◌, map, take, length, Bool, true, false, cond, Some, refl, ap, sym, ◌∙◌, subst, arith}
 use Rattle.std.specs.Prelude.{filter, slice_get, ◌==◌}
 use Rattle.std.proofs.lemmas.Bool.{eq-eqb}
@@ -12,7 +12,7 @@ use Rattle.answer_text.specs.Log.{AreActs, AreStatements, Said, logged_of, table
 use Rattle.read_laws.specs.Readings.{AreReadings}
 use Rattle.run_sessions.proofs.PlaceLemmas.{none_there}
 
--- ## What a log says of a session
+-- ## What a log has of a session
 
 abbrev is_own : ℕ → EventTree → Bool
 is_own session event = event.session == session
@@ -48,7 +48,7 @@ statements_stay log later session k (reading ∷ readings) logged same are = (
   statements_stay log later session (k + 1) readings are.1 (λ j low high. same j (omega (arith, low)) (omega (arith, high))) are.4,
 )
 
--- one statement more
+-- one more statement
 pub statements_next : (log : List EventTree) (session k j : ℕ) (readings : List Said) (reading : Said) (logged : List (ℕ × ActTree)) (acts : List ActTree) → j ≡ k + length readings
     → AreActs (tables_met log session j) reading acts → AreStatements log session k readings logged → AreStatements log session k (readings ++ reading ∷ []) (logged ++ map {B = ℕ × ActTree} (λ act. (j, act)) acts)
 statements_next log session k j [] reading logged acts is are none =
@@ -81,7 +81,7 @@ readings_on [] (r ∷ rs) piece reading are is = absurd are
 readings_on (p ∷ ps) [] piece reading are is = absurd are
 readings_on (p ∷ ps) (r ∷ rs) piece reading are is = (are.0, readings_on ps rs piece reading are.1 is)
 
--- one text more
+-- one more text
 pub readings_next : (pieces : List (List ℕ)) (n : ℕ) (readings : List Said) (piece : List ℕ) (reading : Said) → slice_get pieces n ≡ Some piece → AreReadings (take n pieces) readings → Reads piece reading
     → AreReadings (take (n + 1) pieces) (readings ++ reading ∷ [])
 readings_next pieces n readings piece reading here are is =

@@ -73,7 +73,7 @@ module _ (log : List EventTree) (x y : Session) where
   pub ordered_as : x.number ≡ y.number → x.pieces ≡ y.pieces → x.ended ≡ y.ended → IsInOrder log x → IsInOrder log y
   ordered_as number pieces ended o = subst (IsInOrder log) (λ i. record y { number = number i; pieces = pieces i; ended = ended i }) (ordered_here o)
 
--- ## One event more
+-- ## One more event
 
 module _ (options : PoolOptions) (log : List EventTree) (x : Session) (s : Stands options log x) (event : EventTree) where
   abbrev later : List EventTree
@@ -94,7 +94,7 @@ module _ (options : PoolOptions) (log : List EventTree) (x : Session) (s : Stand
       let count = order_count log x o s.within in
       statements_stay log later x.number 1 o.readings o.finished (λ j low high. ended_before j low (omega (arith, high, count))) o.statements
 
-  -- what holds of the present statement's tables holds behind the event
+  -- what holds of the present statement's tables holds after the event
   met_now : (at : ℕ) → p.begun ≡ Some at → tables_met later x.number (x.ended + 1) ≡ tables_met log x.number (x.ended + 1)
   met_now at begun =
       let ended = s.ended in
@@ -123,7 +123,7 @@ module _ (options : PoolOptions) (log : List EventTree) (x : Session) (s : Stand
     acts_are = has.acts_are;
   }
 
-  -- the events of a session stay in order behind an event of another
+  -- the events of a session stay in order after an event of another
   pub others_ordered : (event.session == x.number) ≡ false → IsInOrder log x → IsInOrder later x
   others_ordered other o = record {
     readings = o.readings;
@@ -154,11 +154,11 @@ module _ (options : PoolOptions) (log : List EventTree) (x : Session) (s : Stand
     progress_is : progress_of x.number later ≡ q
     progress_is = own_progress x.number log event own
 
-    -- what the log says then
+    -- what the log has of the session then
     logged_then : logged_of x.number later ≡ (o.finished ++ o.opened) ++ (x.ended + 1, event.act) ∷ []
     logged_then = logged_own x.number log event own ∙ (λ i. o.logged i ++ (numbered i, event.act) ∷ [])
 
-    -- the session behind the event
+    -- the session after the event
     abbrev ended_at : ℕ → Session
     ended_at n = record x { ended = n }
 
@@ -268,7 +268,7 @@ module _ (options : PoolOptions) (log : List EventTree) (x : Session) (s : Stand
             ordered_as later (ended_at (x.ended + 1)) y (sym number) (sym pieces) many
             (finishes (under.first ∷ (under.between ++ event.act ∷ [])) under.reading read (under.between, under.pool, acts) acts_then (ap (λ a. (progress_by (length log + 1) a p).begun) is))
 
-      -- they stay in order behind an event of its own
+      -- they stay in order after an event of its own
       pub own_ordered : IsInOrder later y
       own_ordered = go p.begun refl
         where

@@ -1,4 +1,4 @@
--- One element of a list is set, or one more stands at its end.
+-- One element of a list is set, or one more is added at its end.
 use Rattle.std.proofs.Common.{◌≡◌, ◌≢◌, ℕ, zero, suc, ◌+◌, ◌<◌, List, [], ◌∷◌, ◌++◌, length, map, Some, Option, refl, ap, sym, ◌∙◌, subst, arith, get_or, slice_set}
 use Rattle.std.specs.Prelude.{slice_get, sum_by, unwrap_or}
 use Rattle.std.specs.List.{AllByRecursion}
@@ -28,7 +28,7 @@ module _ {X : Type 0} where
   set_all P (x ∷ xs) (suc i) y here others zero z there = others zero z (λ e. omega (arith, e)) there
   set_all P (x ∷ xs) (suc i) y here others (suc j) z there = set_all (λ n. P (suc n)) xs i y here (λ k w apart at. others (suc k) w (λ e. apart (omega (arith, e))) at) j z there
 
-  -- what stands where it isn't set
+  -- the elements that aren't set
   pub set_other : (xs : List X) (i j : ℕ) (y : X) → j ≢ i → slice_get (slice_set xs i y) j ≡ slice_get xs j
   set_other [] zero j y apart = refl
   set_other [] (suc i) j y apart = refl

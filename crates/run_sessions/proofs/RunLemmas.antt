@@ -22,7 +22,7 @@ use Rattle.run_sessions.specs.Ordered.{IsInOrder, IsOpenedAs}
 use Rattle.run_sessions.proofs.ListedLemmas.{readings_one}
 use Rattle.run_sessions.proofs.PlaceLemmas.{map_there, same_or}
 
--- ## Turns behind turns
+-- ## Turns after turns
 
 pub none_played : (book : BookView) (sessions : List Session) → AreStanding book.options (log_tree book.log) sessions → AreInPlan sessions → HavePlayed book book sessions sessions []
 none_played book sessions standing in_plan = record {
@@ -73,7 +73,7 @@ more_run a b c x y z place r p = record {
 
 -- ## All sessions to their ends
 
--- so many sessions have run to their ends, one after the other
+-- this many sessions have run to their ends, one after the other
 pub record HaveRun (old new : BookView) (before after : List Session) (n : ℕ) : Type 0 where
   pub rest : List ℕ
   pub rises : (later : List ℕ) → RiseFrom (n + 1) later → RiseFrom 1 (rest ++ later)
@@ -136,7 +136,7 @@ scheduled a b c x y z options scripts turns new of p e =
     within : (xs : List Session) (i : ℕ) (s : Session) → slice_get xs i ≡ Some s → i < length xs
     within xs i s at = slice_get_within xs i s at
 
--- the text of a session that is over, of which each statement stands once in the log
+-- the text of a session that is over; each of its statements occurs once in the log
 over_text : EachReadsAsOne → (options : PoolOptions) (log : List EventTree) (x : Session) → Stands options log x → IsOver x → IsInOrder log x → IsText log x.number x.pieces x.text.items
 over_text each options log x s over o =
     let told = done_text options log x s over.between over.all in

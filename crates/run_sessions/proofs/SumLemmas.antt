@@ -19,7 +19,7 @@ use Rattle.run_sessions.proofs.PlaceLemmas.{same_or}
 
 -- ## Events are of sessions
 
--- an event is of one of so many sessions
+-- an event is of one of this many sessions
 abbrev pub IsOfOne : ℕ → EventTree → Type 0
 IsOfOne many event = (1 ≤ event.session) × (event.session ≤ many)
 

@@ -1,4 +1,4 @@
--- The totals of a whole run, and what its counter tells.
+-- The totals of a whole run, and what its counter shows.
 use Rattle.std.proofs.Common.{◌≡◌, ℕ, ◌+◌, List, [], ◌++◌, length, Result, Ok, Err, ap, sym, ◌∙◌, subst, arith}
 use Rattle.std.specs.Prelude.{sum_by, IfOk}
 use Rattle.std.specs.List.{AllByRecursion}
@@ -19,12 +19,12 @@ use Rattle.run_sessions.proofs.CountLemmas.{then_counted}
 use Rattle.run_sessions.proofs.RunLemmas.{scheduled}
 use Rattle.run_sessions.proofs.SumLemmas.{IsOfOne, over_done, played_sessions, work_is}
 
--- what holds of a value holds of what two facts on it tell
+-- what follows from two facts of a value holds of it
 pub both_ok : {X E : Type 0} (r : Result X E) (P Q R : X → Type 0) → ((x : X) → P x → Q x → R x) → IfOk r P → IfOk r Q → IfOk r R
 both_ok (Ok x) P Q R tells p q = tells x p q
 both_ok (Err e) P Q R tells p q = tt
 
--- the totals of a log, with the work of the sessions that stand behind it, are those of the run
+-- the totals of a log, with the work of the sessions after it, are those of the run
 pub totals_are : (options : PoolOptions) (log : List EventTree) (sessions : List Session) → AreStanding options log sessions → AllByRecursion (IsOfOne (length sessions)) log
     → (held more : Totals) (work : ℕ) → held ≡ (run_of options log).totals → work ≡ sum_by (λ (s : Session). s.work) sessions → more ≡ record held { work = held.work + work } → more ≡ run_totals options log
 totals_are options log sessions standing all held more work is worked with =
@@ -33,7 +33,7 @@ totals_are options log sessions standing all held more work is worked with =
     with ∙ ap (λ (t : Totals). let next : Totals = record t { work = t.work + work } in next) is
     ∙ ap (λ w. let next : Totals = record (run_of options log).totals { work = w } in next) sum
 
--- what a run of sessions comes to, whose counter went from here to there
+-- the outcome of a run of sessions, with its counter before and after
 pub record ComesTo (options : PoolOptions) (scripts : List (List (List ℕ))) (turns : List ℕ) (book : BookView) (sessions : List Session) (from to : ℕ) : Type 0 where
   pub follows : IsScheduled options scripts turns (log_tree book.log)
   pub many : length sessions ≡ length scripts
@@ -90,7 +90,7 @@ module _ (a b c : BookView) (x y z : List Session) (options : PoolOptions) (scri
     counted = run_counted from mid to none first last;
   }
 
--- ## What a run has that is made of it
+-- ## The result of a run
 
 module _ (options : PoolOptions) (scripts : List (List (List ℕ))) (turns : List ℕ) (book : BookView) (sessions : List Session) (from to : ℕ) (c : ComesTo options scripts turns book sessions from to) (events : List Event) (log : events ≡ book.log) where
   pub run_follows : IsScheduled options scripts turns (log_tree events)

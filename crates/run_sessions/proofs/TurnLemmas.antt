@@ -7,12 +7,12 @@ use Rattle.read_laws.specs.Answered.{EachReadsAsOne}
 use Rattle.run_log.specs.Events.{EventTree, event_tree, log_tree}
 use Rattle.book_core.specs.BookView.{BookView}
 use Rattle.book_core.specs.Lawful.{IsLawful}
-use Rattle.query_run.specs.declared.step.Query.{Query}
+use Rattle.query_run.specs.declared.step.RunningQuery.{RunningQuery}
 use Rattle.query_run.specs.declared.step.Step.{Step}
 use Rattle.query_run.specs.declared.step.Step.TheVariants as step
 use Rattle.query_run.specs.Queries.{ComesTo as QueryComesTo, BecomesOf}
 use Rattle.recycle_pool.specs.declared.found.Found.{Found}
-use Rattle.recycle_pool.specs.declared.found.Part.{Part}
+use Rattle.recycle_pool.specs.declared.found.CoverPiece.{CoverPiece}
 use Rattle.cell_core.specs.declared.operator.Instr.{Instr}
 use Rattle.query_run.specs.Steps.{Computes, IsSoundStep}
 use Rattle.session_run.specs.declared.session.Session.{Session}
@@ -36,7 +36,7 @@ use Rattle.run_sessions.proofs.PlaceLemmas.{map_set, set_all, sum_set}
 
 -- ## A stage that was computed
 
-query_ready : (q : Query) (to : Step) → QueryComesTo q to → IsReady (stage.Querying to)
+query_ready : (q : RunningQuery) (to : Step) → QueryComesTo q to → IsReady (stage.Querying to)
 query_ready q (step.Asking to n key) comes = tt
 query_ready q (step.Ending reply work) comes = tt
 query_ready q (step.Begun to) comes = absurd comes
@@ -44,7 +44,7 @@ query_ready q (step.Open to) comes = absurd comes
 query_ready q (step.Found to n found parts) comes = absurd comes
 query_ready q (step.Offering to n offer) comes = absurd comes
 
-result_ready : (q : Query) (n : ℕ) (instr : Instr) (what : Found) (parts : List Part) (to : Step) → BecomesOf q n instr what parts to → IsReady (stage.Querying to)
+result_ready : (q : RunningQuery) (n : ℕ) (instr : Instr) (what : Found) (parts : List CoverPiece) (to : Step) → BecomesOf q n instr what parts to → IsReady (stage.Querying to)
 result_ready q n instr what parts (step.Offering to at offer) becomes = tt
 result_ready q n instr what parts (step.Ending reply work) becomes = tt
 result_ready q n instr what parts (step.Begun to) becomes = absurd becomes
@@ -60,7 +60,7 @@ step_ready (step.Asking q n key) to sound comes = subst (λ at. IsReady (stage.Q
 step_ready (step.Offering q n offer) to sound comes = subst (λ at. IsReady (stage.Querying at)) (sym comes) tt
 step_ready (step.Ending reply work) to sound comes = subst (λ at. IsReady (stage.Querying at)) (sym comes) tt
 
--- what is read where a statement is left
+-- the next statement is read where one is left
 reads_ready : (pieces : List (List ℕ)) (ended : ℕ) (next : Stage) → ReadsOn pieces ended next → ended < length pieces → IsReady next
 reads_ready pieces ended stage.Between all more = absurd (let none : ⊥ = omega (arith, all, more) in none)
 reads_ready pieces ended (stage.Reading read) has more = tt
@@ -75,14 +75,14 @@ stage_ready x (stage.Reading read) next text sound comes more = subst IsReady (s
 stage_ready x (stage.Telling reply) next text sound comes more = reads_ready x.pieces x.ended next comes.0 more
 stage_ready x stage.Between next text sound comes more = reads_ready x.pieces x.ended next comes.0 more
 
--- the next event of a session that has computed stands, where a statement is left
+-- a session that has computed has its next event, where a statement is left
 pub computed_ready : (options : PoolOptions) (log : List EventTree) (x new : Session) → Stands options log x → HasComputed x new → new.ended < length new.pieces → IsReady new.stage
 computed_ready options log x new s c more =
     let ended = c.ended in
     let pieces = ap (λ (texts : List (List ℕ)). length texts) c.pieces in
     stage_ready x x.stage new.stage new.text.items (stage_sound options log x s) c.stage (omega (arith, more, ended, pieces))
 
--- a session that has computed tells nothing any more
+-- a session that has computed has no reply to write
 abbrev IsSettled : Stage → Type 0
 IsSettled (stage.Explaining plan) = ⊥
 IsSettled (stage.Telling reply) = ⊥
@@ -133,11 +133,11 @@ in_plan_goes x narrow = go x.stage
     go (stage.Telling reply) = tt
     go stage.Between = tt
 
--- so where it has computed
+-- likewise where it has computed
 pub computed_over : (options : PoolOptions) (log : List EventTree) (x new : Session) → GoesInPlan x x.stage → Stands options log x → HasComputed x new → length new.pieces ≤ new.ended → IsOver new
 computed_over options log x new in_plan s c all = over_is options log new (computed_stands options log x s in_plan new c) (settled x x.stage new.stage new.text.items c.stage) all
 
--- an event of the session as it stood before it computed
+-- an event of the session as it was before it computed
 pub done_before : (old new : BookView) (x mid y : Session) → mid.number ≡ x.number → mid.pieces ≡ x.pieces → mid.wide ≡ x.wide → HasDone old new mid y → HasDone old new x y
 done_before old new x mid y number pieces wide d = record {
   event = d.event;
@@ -165,7 +165,7 @@ module _ (old new : BookView) (sessions : List Session) (place : ℕ) (x y : Ses
   abbrev after : List Session
   after = slice_set sessions place y
 
-  -- how a session at a place stands
+  -- the facts of the session at a place
   abbrev StandsAt : BookView → ℕ → Session → Type 0
   StandsAt book at z = (z.number ≡ at + 1) × Stands book.options (log_tree book.log) z × IsWorked book.options (log_tree book.log) z × IsInOrder (log_tree book.log) z
 
@@ -183,7 +183,7 @@ module _ (old new : BookView) (sessions : List Session) (place : ℕ) (x y : Ses
   scripts_stay : scripts_of after ≡ scripts_of sessions
   scripts_stay = map_set (λ (z : Session). z.pieces) sessions place x y here pieces
 
-  -- another session stands as it did behind the event
+  -- another session agrees with the log after the event
   other_stands : HasDone old new x y → (other : ℕ) (z : Session) → other ≢ place → slice_get sessions other ≡ Some z → StandsAt new other z
   other_stands d other z apart there =
       let log = log_tree old.log in

@@ -9,7 +9,7 @@ use Rattle.session_run.specs.declared.session.Session.{Session}
 use Rattle.session_run.specs.Progress.{progress_of}
 use Rattle.read_laws.specs.Readings.{AreReadings}
 
--- the first of a session's statements that have not ended has begun: its Begin stands in the log, and behind it looks and admissions
+-- the first of a session's statements that have not ended has begun: the log has its Begin, followed by looks and admissions
 pub record HasOpened (log : List EventTree) (x : Session) (acts : List (ℕ × ActTree)) : Type 0 where
   pub piece : List ℕ
   pub here : slice_get x.pieces x.ended ≡ Some piece

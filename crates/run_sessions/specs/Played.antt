@@ -4,7 +4,7 @@ use Rattle.pool_policy.specs.declared.options.PoolOptions.{PoolOptions}
 use Rattle.run_log.specs.Events.{EventTree}
 use Rattle.session_run.specs.Turns.{InPlan, IsDone, IsNext, Order}
 
--- sessions that go through their plans in this order and take these turns do these events: at a turn its session does its next event, or none where it is done
+-- sessions that go through their plans in this order and take these turns do these events: at a turn its session does its next event, or none if it is done
 pub data IsPlayed (order : Order) (options : PoolOptions) (scripts : List (List (List ℕ))) : List ℕ → List EventTree → Type 0 where
   Starts : IsPlayed order options scripts [] []
   Does : (turns : List ℕ) (log : List EventTree) (session : ℕ) (pieces : List (List ℕ)) (event : EventTree) → IsPlayed order options scripts turns log
@@ -17,7 +17,7 @@ abbrev pub RiseFrom : ℕ → List ℕ → Type 0
 RiseFrom low [] = Unit {0}
 RiseFrom low (turn ∷ turns) = (low ≤ turn) × RiseFrom turn turns
 
--- the log of a schedule, in which each session goes through its plans in their order: behind its turns the sessions run to their ends, from the first to the last
+-- the log of a schedule, in which each session goes through its plans in their order: after its turns the sessions run to their ends, from the first to the last
 pub record IsScheduled (options : PoolOptions) (scripts : List (List (List ℕ))) (schedule : List ℕ) (log : List EventTree) : Type 0 where
   pub rest : List ℕ
   pub rises : RiseFrom 1 rest

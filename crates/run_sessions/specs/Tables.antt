@@ -1,4 +1,4 @@
--- The sessions of a run, behind its log.
+-- The sessions of a run, after its log.
 use Rattle.std.specs.Prelude.{◌≡◌, ℕ, ◌+◌, ◌≤◌, ◌<◌, List, [], ◌∷◌, ◌++◌, length, map, sum_by, Bool, true, false, slice_get, Some}
 use Rattle.pool_policy.specs.declared.options.PoolOptions.{PoolOptions}
 use Rattle.run_log.specs.Events.{EventTree, log_tree}
@@ -19,7 +19,7 @@ use Rattle.run_sessions.specs.Played.{IsPlayed, RiseFrom}
 abbrev pub scripts_of : List Session → List (List (List ℕ))
 scripts_of sessions = map (λ (x : Session). x.pieces) sessions
 
--- they are numbered from 1, and each stands where the log says, with its work and with its events in order
+-- they are numbered from 1, and each agrees with the log, with its work and with its events in order
 abbrev pub AreStanding : PoolOptions → List EventTree → List Session → Type 0
 AreStanding options log sessions = (place : ℕ) (x : Session) → slice_get sessions place ≡ Some x → (x.number ≡ place + 1) × Stands options log x × IsWorked options log x × IsInOrder log x
 
@@ -28,7 +28,7 @@ pub record IsOver (x : Session) : Type 0 where
   pub between : x.stage ≡ Between
   pub all : length x.pieces ≤ x.ended
 
--- so of the sessions before a place
+-- all sessions before a place are over
 abbrev pub AreOver : ℕ → List Session → Type 0
 AreOver n sessions = (place : ℕ) (x : Session) → place < n → slice_get sessions place ≡ Some x → IsOver x
 
@@ -43,16 +43,16 @@ abbrev pub HasTurned : BookView → BookView → Session → Session → Bool �
 HasTurned old new before after true = HasDone old new before after
 HasTurned old new before after false = (new ≡ old) × Stands old.options (log_tree old.log) after × IsWorked old.options (log_tree old.log) after × IsOver after
 
--- the work that is done: by the sessions, and by the writes
+-- the work that is done by the sessions and by the writes
 abbrev pub done_of : BookView → List Session → ℕ
 done_of book sessions = (state_of book).totals.work + sum_by done_by sessions
 
--- a counter goes from here to there as sessions take turns: by the work that is done, and by no more than what is lost beyond it
+-- as sessions take turns, a counter rises by the work that is done, and by no more beyond it than what is lost
 pub record CountsTurns (old new : BookView) (before after : List Session) (from to : ℕ) : Type 0 where
   pub least : from + done_of new after ≤ to + done_of old before
   pub most : (to + done_of old before) + lost_of old ≤ (from + done_of new after) + lost_of new
 
--- sessions that stand behind a book take these turns, and stand behind the book as it is then
+-- sessions that agree with a book take these turns, and agree with the book as it is then
 pub record HavePlayed (old new : BookView) (before after : List Session) (turns : List ℕ) : Type 0 where
   pub options : new.options ≡ old.options
   pub scripts : scripts_of after ≡ scripts_of before
@@ -75,7 +75,7 @@ pub record HaveEnded (old new : BookView) (before after : List Session) : Type 0
 
 -- ## Texts
 
--- the text of a session that did all its statements: the replies to them, of which each stands once and in its order in the log
+-- the text of a session that did all its statements: the replies to them; each statement occurs once and in its order in the log
 abbrev pub IsText : List EventTree → ℕ → List (List ℕ) → List ℕ → Type 0
 IsText log session pieces text = (readings : List Said) × AreReadings pieces readings × (text ≡ replies_text log session readings) × AreStatements log session 1 readings (logged_of session log)
 

@@ -16,7 +16,7 @@ use session_run::Session;
 use sql_parse::one_reading;
 use std::alloc::Global;
 
-/// What a run gives.
+/// The result of a run.
 #[derive(Drop)]
 pub struct Run {
     /// The replies of each session, as they are printed.
@@ -39,8 +39,8 @@ pub fn finish_run(alloc: Global, book: Book, sessions: Vec<Session>) -> Result<R
     ensures totals { IfOk result (λ run. run.totals ≡ run_totals book.options (log_tree book.log)) }
 {
     one_reading();
-    // As the log is lawful, the pool is sound along it.
-    let _ = book.log();
+    // The log is lawful, so the pool is sound along it.
+    book.log_is_lawful();
     let work = work_of(sessions.as_slice())?;
     let texts = texts_of(alloc, sessions)?;
     let (log, totals) = book.finish();
@@ -48,7 +48,7 @@ pub fn finish_run(alloc: Global, book: Book, sessions: Vec<Session>) -> Result<R
     Ok(Run { texts, log, totals })
 }
 
-/// The work of the sessions. A sum past 128 bits is want of memory.
+/// The work of the sessions. A sum past 128 bits counts as want of memory.
 fn work_of(sessions: &[Session]) -> Result<u128, Memory>
     ensures { IfOk result (λ work. work ≡ sum_by (λ (x : SessionSeen). x.work) sessions.now) }
 {
@@ -59,7 +59,7 @@ fn work_of(sessions: &[Session]) -> Result<u128, Memory>
     Ok(work)
 }
 
-/// Totals with more work. A sum past 128 bits is want of memory.
+/// Totals with more work. A sum past 128 bits counts as want of memory.
 fn with_work(totals: Totals, work: u128) -> Result<Totals, Memory>
     ensures { IfOk result (λ more. more ≡ record totals { work = totals.work + work }) }
 {

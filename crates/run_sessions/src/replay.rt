@@ -1,4 +1,4 @@
-//! Sessions that run one event after another.
+//! Sessions that run on one thread, one event after another.
 ghost use Rattle.std.specs.Prelude.{◌≡◌, ◌≢◌, ℕ, ◌+◌, ◌<◌, ◌≤◌, ◌^◌, List, [], ◌∷◌, length, map, sum_by, slice_get, Some, IfOk, OnOk};
 ghost use Rattle.std.specs.List.{AllByRecursion};
 ghost use Rattle.std.specs.declared.vec.Vec.{Vec as VecSeen};
@@ -25,12 +25,12 @@ use sql_parse::one_reading;
 use std::alloc::Global;
 use std::sync::ledger::Ledger;
 
-/// No log has so many events: a `Book` has no memory for them.
+/// More events than any log has: a `Book` has no memory for them.
 const MANY_EVENTS: u32 = 1 << 30;
 
-/// Runs sessions, one for each script, by turns: at each turn a session does its next event, if it has one,
-/// and behind the last turn the sessions run to their ends, from the first to the last. The counter rises
-/// by the work of the totals; where plans overflow, by at most their loads more.
+/// Runs sessions, one for each script, by turns: at each turn a session does its next event, if it
+/// has one. After the last turn the sessions run to their ends, from the first to the last. The
+/// counter rises by the work of the totals; where plans overflow, by at most their loads more.
 pub fn play_sessions<E: Operate, L: Ledger>(
     alloc: Global,
     scripts: Vec<Sequence<Word>>,
@@ -87,7 +87,7 @@ fn all_sessions(alloc: Global, scripts: Vec<Sequence<Word>>) -> Result<Vec<Sessi
     Ok(sessions)
 }
 
-/// Lets sessions take these turns.
+/// Takes these turns, which number sessions from 1.
 fn take_turns<E: Operate, L: Ledger>(
     alloc: Global,
     sessions: &mut Vec<Session>,
@@ -112,7 +112,7 @@ fn take_turns<E: Operate, L: Ledger>(
     Ok(())
 }
 
-/// Runs the session at a place to its end. A log never reaches so many events that this ends before.
+/// Runs the session at a place to its end. The bound is never reached: no log has so many events.
 fn run_on<E: Operate, L: Ledger>(
     alloc: Global,
     sessions: &mut Vec<Session>,

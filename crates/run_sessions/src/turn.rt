@@ -15,7 +15,7 @@ use sql_parse::one_reading;
 use std::alloc::Global;
 use std::sync::ledger::Ledger;
 
-/// Lets a session do its next event, and answers whether it had one.
+/// Does the next event of a session, and returns whether it had one.
 fn step<E: Operate, L: Ledger>(
     alloc: Global,
     session: &mut Session,
@@ -44,8 +44,8 @@ fn step<E: Operate, L: Ledger>(
     Ok(true)
 }
 
-/// Lets the session at a place do its next event, and answers whether it had one. After Memory nothing is
-/// said of the sessions.
+/// Does the next event of the session at a place, and returns whether it had one. After `Memory`
+/// nothing is promised of the sessions.
 pub(crate) fn take_turn<E: Operate, L: Ledger>(
     alloc: Global,
     sessions: &mut Vec<Session>,
@@ -67,7 +67,7 @@ pub(crate) fn take_turn<E: Operate, L: Ledger>(
 {
     one_reading();
     let more = step(alloc, &mut sessions[place], book, scorer, kernel, steps)?;
-    // The others stand as they did, as the log is lawful.
-    let _ = book.log();
+    // The log is lawful, so the other sessions agree with it as before.
+    book.log_is_lawful();
     Ok(more)
 }

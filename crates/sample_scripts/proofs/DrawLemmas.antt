@@ -1,4 +1,4 @@
--- Draws behind draws, and lists that get one thing more.
+-- Draws after draws, and lists that get one more thing.
 use Rattle.std.proofs.Common.{◌≡◌, ℕ, zero, suc, ◌==◌, ◌+◌, ◌*◌, ◌%◌, ◌≤◌, List, [], ◌∷◌, ◌++◌, false, codes, length, map, if◌then◌else◌, refl, ap, ap₂, sym, ◌∙◌, arith, append_assoc, append-nil}
 use Rattle.std.specs.Prelude.{flat_map}
 use Rattle.std.specs.List.{range_with_len}
@@ -21,7 +21,7 @@ draw-suc x i = refl
 pub draw-next : (x i : ℕ) → next_draw (draw x i) ≡ draw x (i + 1)
 draw-next x i = let one : i + 1 ≡ suc i = omega arith in sym (ap (draw x) one ∙ draw-suc x i)
 
--- the draws behind a draw
+-- the draws after a draw
 pub draw-behind : (x a b : ℕ) → draw (draw x a) b ≡ draw x (a + b)
 draw-behind x a zero = draw-none (draw x a) ∙ ap (draw x) (let none : a ≡ a + 0 = omega arith in none)
 draw-behind x a (suc b) =
@@ -39,7 +39,7 @@ flat_map-more : {X : Type 0} (f : X → List ℕ) (xs : List X) (x : X) → flat
 flat_map-more f [] x = append-nil (f x)
 flat_map-more f (y ∷ ys) x = ap (λ t. f y ++ t) (flat_map-more f ys x) ∙ sym (append_assoc (f y) (flat_map f ys) (f x))
 
--- a list that has things gets one more behind a comma and a space
+-- a list that has things gets one more after a comma and a space
 listed-more : (first : List ℕ) (texts : List (List ℕ)) (text : List ℕ) → listed (first ∷ texts ++ text ∷ []) ≡ listed (first ∷ texts) ++ (codes ", " ++ text)
 listed-more first texts text =
     ap (λ t. first ++ t) (flat_map-more (λ more. codes ", " ++ more) texts text)
@@ -50,7 +50,7 @@ many-next f i =
     let place : 1 + suc i ≡ suc i + 1 = omega arith in
     sym (ap listed (map-range_with_len_more f 1 (suc i) (suc i + 1) place) ∙ listed-more (f 1) (map f (range_with_len (1 + 1) i)) (f (suc i + 1)))
 
--- one thing more, behind a comma and a space where others stand before it
+-- one more thing, after a comma and a space where there are others before it
 pub listed-next : (f : ℕ → List ℕ) (i : ℕ) → listed (map f (range_with_len 1 i)) ++ ((if i == 0 then [] else codes ", ") ++ f (i + 1)) ≡ listed (map f (range_with_len 1 (i + 1)))
 listed-next f zero = sym (append-nil (f 1))
 listed-next f (suc i) =

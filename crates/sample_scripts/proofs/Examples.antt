@@ -1,4 +1,4 @@
--- The draws behind 1, and what they make.
+-- The draws after 1, and what they make.
 use Rattle.std.proofs.Common.{◌≡◌, [], ◌∷◌, codes, map, refl}
 use Rattle.std.specs.Fmt.{digits}
 use Rattle.std.specs.List.{range_with_len}

@@ -62,7 +62,7 @@ decimal_quiet n small = digits_quiet (decimal n) (decimal_is_IsNumeral n small).
 opens_nothing : (b : ℕ) (bs : List ℕ) → Apart b → opened b bs ≡ Outside
 opens_nothing b bs is = rw (is.no_text, is.no_name, is.no_line, is.no_block) refl
 
--- a quiet statement and the `;` behind it are a run
+-- a quiet statement and the `;` after it are a run
 first_run : (statement rest : List ℕ) → IsQuiet statement → runs_of Outside (statement ++ 59 ∷ rest) ≡ statement ∷ runs_of Outside rest
 first_run [] rest quiet = refl
 first_run (b ∷ bs) rest quiet =

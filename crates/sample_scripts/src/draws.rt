@@ -1,8 +1,8 @@
-//! Draws: numbers of which each follows from the one before.
+//! Draws: numbers, each of which follows from the one before.
 ghost use Rattle.std.specs.Prelude.{◌≡◌, ◌<◌};
 ghost use Rattle.sample_scripts.specs.Scripts as told;
 
-/// Goes on to the next draw, and tells it.
+/// Goes on to the next draw, and returns it.
 pub(crate) fn next_draw(x: &mut u64) -> u64
     requires { x.old < 2147483648 }
     ensures next { x.new ≡ told.next_draw x.old }

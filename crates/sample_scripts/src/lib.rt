@@ -1,9 +1,9 @@
-//! Two scripts that are made of a number: one fills a table, and one asks for ranges of it.
+//! Two scripts that are made from a number: one fills a table, and one queries ranges of it.
 //!
-//! It stands on `cell_core` for words and on `sql_tree` for the layout of lists. `specs/Scripts.antt` says
-//! how one draw follows from another, and which statements the draws behind a number make; a law says that
-//! these are the pieces of the scripts' texts. They give a pool of results something to do that anyone can
-//! run again from the number alone.
+//! Words are from `cell_core`, and the layout of lists is from `sql_tree`. `specs/Scripts.antt`
+//! defines how one draw follows from another, and which statements the draws after a number make.
+//! By a law these are the pieces of the scripts' texts. The scripts are work for the pool, which
+//! anyone can run again from the number alone.
 #![tactic(auto)]
 
 mod draws;

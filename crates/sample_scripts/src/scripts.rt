@@ -8,21 +8,21 @@ use cell_core::{Memory, Sequence, Word, word_of};
 use itoa::Buffer;
 use std::alloc::Global;
 
-/// How many INSERTs there are.
+/// The number of INSERTs.
 const INSERTS: u64 = 20;
 
-/// How many rows each of them has.
+/// The number of rows of each.
 const ROWS: u64 = 500;
 
-/// How many queries there are.
+/// The number of queries.
 const QUERIES: u64 = 100;
 
-/// The statements of two scripts, without the `;` behind each.
+/// The statements of two scripts, without the `;` after each.
 #[derive(Drop)]
 pub struct SampleScripts {
-    /// A table is made and filled.
+    /// A table is created and filled.
     pub changes: Sequence<Word>,
-    /// It is asked for ranges.
+    /// Ranges of it are queried.
     pub queries: Sequence<Word>,
 }
 
@@ -40,7 +40,7 @@ pub fn sample_scripts(alloc: Global, seed: u64) -> Result<SampleScripts, Memory>
     Ok(SampleScripts { changes, queries })
 }
 
-/// The statements of the first script, by the draws behind x, which goes on to the last of them.
+/// The statements of the first script, by the draws after `x`, which goes on to the last of them.
 #[tactic(auto, unfolding(crate::specs::Scripts::changes))]
 fn changes(alloc: Global, x: &mut u64) -> Result<Sequence<Word>, Memory>
     requires { x.old < 2147483648 }
@@ -54,7 +54,8 @@ fn changes(alloc: Global, x: &mut u64) -> Result<Sequence<Word>, Memory>
     Ok(Sequence::from_vec(statements))
 }
 
-/// Appends so many INSERTs of so many rows, by the draws behind x, which goes on to the last of them.
+/// Appends `count` INSERTs of `rows` rows each, by the draws after `x`, which goes on to the last
+/// of them.
 fn push_inserts(
     alloc: Global,
     count: u64,
@@ -74,7 +75,7 @@ fn push_inserts(
     Ok(())
 }
 
-/// An INSERT of so many rows, by the draws behind x, which goes on to the last of them.
+/// An INSERT of `rows` rows, by the draws after `x`, which goes on to the last of them.
 #[tactic(auto, unfolding(crate::specs::Scripts::insert_text))]
 fn insert(alloc: Global, rows: u64, x: &mut u64) -> Result<Word, Memory>
     requires { x.old < 2147483648 }
@@ -89,7 +90,7 @@ fn insert(alloc: Global, rows: u64, x: &mut u64) -> Result<Word, Memory>
     word_of(alloc, text.as_str())
 }
 
-/// Appends the row of a draw, behind a comma and a space where rows stand before it.
+/// Appends the row of a draw, after a comma and a space where there are rows before it.
 fn push_listed_row(before: u64, drawn: u64, text: &mut String) -> Result<(), Memory>
     ensures { OnOk result (string_bytes text.new ≡ string_bytes text.old ++ ((if before == 0 then [] else codes ", ") ++ row_text drawn)) }
 {
@@ -119,7 +120,7 @@ fn push_number(number: u64, text: &mut String) -> Result<(), Memory>
     Ok(())
 }
 
-/// So many queries, by the draws behind x, which goes on to the last of them.
+/// `count` queries, by the draws after `x`, which goes on to the last of them.
 fn queries(alloc: Global, count: u64, x: &mut u64) -> Result<Sequence<Word>, Memory>
     requires { x.old < 2147483648 }
     ensures { IfOk result (λ statements. statements ≡ queries_behind count x.old) }
@@ -132,7 +133,7 @@ fn queries(alloc: Global, count: u64, x: &mut u64) -> Result<Sequence<Word>, Mem
     Ok(Sequence::from_vec(statements))
 }
 
-/// A query, by the two draws behind x, which goes on to the second.
+/// A query, by the two draws after `x`, which goes on to the second.
 fn query(alloc: Global, x: &mut u64) -> Result<Word, Memory>
     requires { x.old < 2147483648 }
     ensures text { IfOk result (λ word. word ≡ query_text x.old) }

@@ -49,7 +49,7 @@ abbrev pub most_bottom : Evict → ℕ
 most_bottom History = 2 ^ 32 - 1
 most_bottom _ = 1
 
--- scores whose bottoms are at most this can be compared: no top times a bottom leaves 128 bits
+-- scores whose bottoms are at most this can be compared: each top times such a bottom fits into 128 bits
 pub record IsSmall (most : ℕ) (score : Score) : Type 0 where
   pub some : 1 ≤ score.bottom
   pub bottom : score.bottom ≤ most

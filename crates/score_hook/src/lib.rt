@@ -1,8 +1,8 @@
-//! How an entry of a pool scores when one has to go: by a closure that is handed in.
+//! The score by which an entry of a pool is evicted, computed by a closure of the caller.
 //!
-//! It stands on nothing. A `Scorer` keeps a boxed closure beside the fact that it answers the
-//! formula of its kind, so whoever holds a scorer relies on the formula, whatever the closure does
-//! to compute it. `less` compares scores, which are fractions, exactly.
+//! It uses no other crate. A `Scorer` keeps a boxed closure with the fact that it returns the
+//! formula of its kind. A caller may rely on the formula, however the closure computes it. `less`
+//! compares scores, which are fractions, exactly.
 #![tactic(auto)]
 
 mod scorer;

@@ -11,7 +11,8 @@ use std::alloc::Global;
 /// A closure that scores an entry by what is known of it, at a moment.
 pub type ScoreCall = Box<dyn Fn(&Stats, u64) -> Score + Send + Sync>;
 
-/// A way to score entries, which answers the formula of its kind. It is lent to the calls that need it.
+/// A way to score entries, which returns the formula of its kind. It is lent to the calls that need
+/// it.
 #[derive(Drop)]
 pub struct Scorer {
     /// The formula.
@@ -25,7 +26,7 @@ pub struct Scorer {
 }
 
 impl Scorer {
-    /// Keeps a closure that may be called, and answers the formula of this kind, which isn't the
+    /// Keeps a closure that may be called and returns the formula of this kind, which isn't the
     /// weighted one, wherever stats and moment are in range. Takes no memory.
     pub fn new(alloc: Global, kind: Evict, call: ScoreCall) -> Scorer
         requires plain { kind ≢ Weighted }
@@ -44,9 +45,9 @@ impl Scorer {
         }
     }
 
-    /// Keeps a closure that may be called, and answers the weighted score by these weights, of which
-    /// it has a list of its own, wherever stats and moment are in range. Each of the 35 operators has a
-    /// weight, of 1 at least and 1,000 at most. Takes no memory.
+    /// Keeps a closure that may be called and returns the weighted score by these weights, wherever
+    /// stats and moment are in range. The closure has a list of its own of them. Each of the 35
+    /// operators has a weight from 1 to 1,000. Takes no memory.
     pub fn weighted(weights: Vec<u64>, call: ScoreCall) -> Scorer
         requires weights { AreWeights weights.items }
         requires may { (stats : Bor StatsValue) (now : ℕ) → IsInRange stats.now now
@@ -73,7 +74,7 @@ impl Scorer {
         self.ask(stats, now)
     }
 
-    /// What the closure answers.
+    /// What the closure returns.
     fn ask(&self, stats: &Stats, now: u64) -> Score
         requires { IsInRange stats.now now }
         ensures { result ≡ score_of self.now.kind self.now.weights.items stats.now now }

@@ -22,13 +22,13 @@ pub struct Stats {
 /// A fraction.
 #[derive(Clone, Copy, PartialEq, Eq)]
 pub struct Score {
-    /// Above the line.
+    /// The numerator.
     pub top: u128,
-    /// Below the line.
+    /// The denominator.
     pub bottom: u128,
 }
 
-/// Which entry goes first.
+/// Which entry is evicted first.
 #[derive(Clone, Copy, PartialEq, Eq)]
 pub enum Evict {
     /// The one that was used least recently.
@@ -41,8 +41,8 @@ pub enum Evict {
     Weighted,
 }
 
-/// The score of an entry at a moment, computed plainly: what a closure of this kind answers, for the
-/// kinds that know no weights of operators.
+/// The score of an entry at a moment, computed plainly: what a closure of this kind returns, for
+/// the kinds without weights of operators.
 pub fn formula(kind: Evict, stats: &Stats, now: u64) -> Score
     requires plain { kind ≢ Weighted }
     requires range { IsInRange stats.now now }
@@ -65,14 +65,14 @@ pub fn formula(kind: Evict, stats: &Stats, now: u64) -> Score
     }
 }
 
-/// The weighted score of an entry, computed plainly: what a closure answers that has the weights of
+/// The weighted score of an entry, computed plainly: what a closure returns that has the weights of
 /// the 35 operators, each from 1 to 1,000.
 pub fn weighted_formula(weights: &[u64], stats: &Stats, now: u64) -> Score
     requires weights { AreWeights weights.now }
     requires range { IsInRange stats.now now }
     ensures { result ≡ score_of Weighted weights.now stats.now now }
 {
-    // The moment plays no part.
+    // The moment isn't used.
     let _ = now;
     let weight = weights[stats.class as usize];
     Score {

@@ -1,18 +1,18 @@
--- What a counter tells of an event.
+-- What a counter shows of an event.
 use Rattle.std.proofs.Common.{◌≡◌, ℕ, ◌+◌, List, [], ◌∷◌, ◌++◌, Bool, Option, Some, None, Result, Ok, Err, refl, ap, sym, ◌∙◌, subst, arith}
 use Rattle.mal_meaning.specs.declared.plan.Plan.{Plan}
 use Rattle.lineage_key.specs.declared.key.Key.{Key}
 use Rattle.sql_tree.specs.declared.tree.Stmt.{Stmt}
 use Rattle.sql_tree.specs.Tree.{StmtTree}
-use Rattle.sql_semantics.specs.declared.refusal.Refusal.{Refusal}
+use Rattle.sql_definitions.specs.declared.refusal.Refusal.{Refusal}
 use Rattle.pool_policy.specs.declared.entry.Who.{Who}
 use Rattle.pool_policy.specs.declared.options.Admitted.{Admitted}
 use Rattle.pool_policy.specs.declared.options.Admitted.TheVariants.{Taken, There, Stale, Orphan, NoCredit, NoRoom}
 use Rattle.pool_policy.specs.Admits.{admit_of}
 use Rattle.table_store.specs.Content.{Content}
 use Rattle.store_changes.specs.Work.{Counts, write_lost}
-use Rattle.run_log.specs.declared.event.Looked.{Looked}
-use Rattle.run_log.specs.declared.event.Looked.TheVariants.{Exact, Within, Across, Miss}
+use Rattle.run_log.specs.declared.event.FoundLog.{FoundLog}
+use Rattle.run_log.specs.declared.event.FoundLog.TheVariants.{Exact, Within, Across, Miss}
 use Rattle.run_log.specs.declared.event.Totals.{Totals}
 use Rattle.run_log.specs.Events.{ActTree, Begins, Looks, Admits, Writes, Ends, log_tree, who_of}
 use Rattle.run_log.specs.Fold.{LogState, after, after_act, key_offer, run_of}
@@ -21,7 +21,7 @@ use Rattle.run_log.proofs.LogLemmas.{run_more}
 use Rattle.reply_layout.specs.declared.shown.Shown.{Shown}
 use Rattle.reply_layout.specs.Doings.{code_of}
 use Rattle.book_core.specs.BookView.{BookView, state_of}
-use Rattle.query_run.specs.declared.step.Query.{Query}
+use Rattle.query_run.specs.declared.step.RunningQuery.{RunningQuery}
 use Rattle.query_run.specs.declared.step.Offer.{Offer}
 use Rattle.query_run.specs.declared.step.Step.{Step}
 use Rattle.query_run.specs.declared.step.Step.TheVariants as step
@@ -44,7 +44,7 @@ use Rattle.session_run.proofs.WorkLemmas.{lost_more}
 abbrev Keeps : ActTree → Type 0
 Keeps act = (who : Who) (now : ℕ) (s : LogState) → (after_act who act now s).totals.work ≡ s.totals.work
 
-look_keeps : (instr : ℕ) (key : Key) (found : Looked) → Keeps (Looks instr key found)
+look_keeps : (instr : ℕ) (key : Key) (found : FoundLog) → Keeps (Looks instr key found)
 look_keeps instr key (Exact id) who now s = refl
 look_keeps instr key (Within id) who now s = refl
 look_keeps instr key (Across pieces) who now s = refl
@@ -61,7 +61,7 @@ admission_keeps (NoRoom bytes) t = refl
 admit_keeps : (instr : ℕ) (key : Key) (result : Admitted) → Keeps (Admits instr key result)
 admit_keeps instr key result who now s = admission_keeps (admit_of who now (key_offer key s) s.pool).0 s.totals
 
--- ## One event more
+-- ## One more event
 
 module _ (old new : BookView) (x : Session) (act : ActTree) (options : new.options ≡ old.options) (log : log_tree new.log ≡ log_tree old.log ++ event_by x act ∷ []) where
   state_behind : state_of new ≡ after (state_of old) (event_by x act)
@@ -134,7 +134,7 @@ module _ (old new : BookView) (x y : Session) (options : new.options ≡ old.opt
       started before after is same none
       (change_counts old new x (Writes (Some statement) code count) options log work (write_lost statement (state_of old).db) before after more counts refl)
 
-  looked_holds : (q : Query) (n : ℕ) (pool : PoolState) (key : Key) (to : Step) → IsLooked q n pool key to → held to ≡ q.work
+  looked_holds : (q : RunningQuery) (n : ℕ) (pool : PoolState) (key : Key) (to : Step) → IsLooked q n pool key to → held to ≡ q.work
   looked_holds q n pool key (step.Open to) l = l.2.work_is
   looked_holds q n pool key (step.Found to at what parts) l = l.1.work_is
   looked_holds q n pool key (step.Begun to) none = absurd none
@@ -143,7 +143,7 @@ module _ (old new : BookView) (x y : Session) (options : new.options ≡ old.opt
   looked_holds q n pool key (step.Ending reply work) none = absurd none
 
   -- a query that asks
-  pub look_counts : (q : Query) (n : ℕ) (pool : PoolState) (key : Key) (to : Step) (instr : ℕ) (found : Looked) → x.stage ≡ stage.Querying (step.Asking q n key) → IsLooked q n pool key to → y.work ≡ x.work → y.stage ≡ stage.Querying to
+  pub look_counts : (q : RunningQuery) (n : ℕ) (pool : PoolState) (key : Key) (to : Step) (instr : ℕ) (found : FoundLog) → x.stage ≡ stage.Querying (step.Asking q n key) → IsLooked q n pool key to → y.work ≡ x.work → y.stage ≡ stage.Querying to
       → Adds (Looks instr key found) → (steps : ℕ) → CountsInside old new x y steps steps
   look_counts q n pool key to instr found is looked work next log steps =
       let held_before : held_in x.stage ≡ q.work = ap held_in is in
@@ -154,7 +154,7 @@ module _ (old new : BookView) (x y : Session) (options : new.options ≡ old.opt
       }
 
   -- a query that offers
-  pub offer_counts : (q : Query) (n : ℕ) (offer : Offer) (to : Step) (instr : ℕ) (key : Key) (result : Admitted) → x.stage ≡ stage.Querying (step.Offering q n offer) → held to ≡ q.work → y.work ≡ x.work + offer.done
+  pub offer_counts : (q : RunningQuery) (n : ℕ) (offer : Offer) (to : Step) (instr : ℕ) (key : Key) (result : Admitted) → x.stage ≡ stage.Querying (step.Offering q n offer) → held to ≡ q.work → y.work ≡ x.work + offer.done
       → y.stage ≡ stage.Querying to → Adds (Admits instr key result) → (steps : ℕ) → CountsInside old new x y steps steps
   offer_counts q n offer to instr key result is kept work next log steps =
       let held_before : held_in x.stage ≡ q.work + offer.done = ap held_in is in

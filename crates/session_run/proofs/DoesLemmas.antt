@@ -8,11 +8,11 @@ use Rattle.mal_check.specs.Checked.{plan_fault}
 use Rattle.mal_check.specs.Runnable.{FitsDb}
 use Rattle.lineage_key.specs.declared.key.Key.{Key}
 use Rattle.read_laws.specs.Answered.{Reads}
-use Rattle.sql_semantics.specs.Answer.{answer_of_stmt}
-use Rattle.sql_semantics.specs.Effect.{effect}
-use Rattle.sql_semantics.specs.Refusals.{refusal_number}
-use Rattle.sql_semantics.specs.declared.refusal.Refusal.{Refusal}
-use Rattle.sql_semantics.specs.declared.refusal.Reply.{Reply}
+use Rattle.sql_definitions.specs.Answer.{answer_of_stmt}
+use Rattle.sql_definitions.specs.Effect.{effect}
+use Rattle.sql_definitions.specs.Refusals.{refusal_number}
+use Rattle.sql_definitions.specs.declared.refusal.Refusal.{Refusal}
+use Rattle.sql_definitions.specs.declared.refusal.Reply.{Reply}
 use Rattle.plan_queries.specs.Plans.{plan_over, refusal_over}
 use Rattle.store_changes.specs.Outcomes.{is_change}
 use Rattle.store_changes.specs.Work.{Counts, write_lost}
@@ -28,14 +28,14 @@ use Rattle.pool_policy.specs.Looks.{look_of}
 use Rattle.run_log.specs.declared.event.Act.TheVariants as act
 use Rattle.run_log.specs.Fold.{LogState, key_offer, run_of}
 use Rattle.reply_layout.specs.declared.shown.Shown.TheVariants as shown
-use Rattle.reply_layout.specs.Doings.{code_of, shown_reply}
+use Rattle.reply_layout.specs.Doings.{code_of, count_of, shown_reply}
 use Rattle.answer_text.specs.Log.{Said, shown_over, tables_met}
 use Rattle.book_core.specs.Begins.{begin_act, code_in, logged_plan, marks_in, unless_refused}
 use Rattle.book_core.specs.Offers.{CanOffer}
 use Rattle.book_core.specs.Versions.{HasVersions}
-use Rattle.book_core.specs.Writes.{reply_code, reply_count, write_work, written_by}
+use Rattle.book_core.specs.Writes.{write_work, written_by}
 use Rattle.query_keys.specs.Laws.{id_given}
-use Rattle.query_run.specs.declared.step.Query.{Query}
+use Rattle.query_run.specs.declared.step.RunningQuery.{RunningQuery}
 use Rattle.query_run.specs.declared.step.Offer.{Offer}
 use Rattle.query_run.specs.declared.step.Step.{Step}
 use Rattle.query_run.specs.declared.step.Step.TheVariants as step
@@ -46,7 +46,7 @@ use Rattle.pool_policy.specs.declared.entry.Who.{Who}
 use Rattle.pool_policy.specs.declared.options.PoolOptions.{PoolOptions}
 use Rattle.run_log.specs.declared.event.Act.{Act}
 use Rattle.run_log.specs.declared.event.Event.{Event}
-use Rattle.run_log.specs.declared.event.Looked.{Looked}
+use Rattle.run_log.specs.declared.event.FoundLog.{FoundLog}
 use Rattle.run_log.specs.Events.{ActTree, Begins, Looks, Admits, Writes, Ends, EventTree, act_tree, event_tree, log_tree, looked_of}
 use Rattle.reply_layout.specs.declared.shown.Shown.{Shown}
 use Rattle.book_core.specs.BookView.{BookView, event_of, is_open, now_of, state_of}
@@ -75,14 +75,14 @@ IsWho x who = ◌≡◌ {A = Who} who (record { session = x.number; statement = 
 abbrev pub entry_by : Session → Act → Event
 entry_by x act = event_of (record { session = x.number; statement = x.ended + 1 }) act
 
--- a book's log with one event more, by this session
+-- a book's log with one more event, by this session
 pub added : (old new : List Event) (who : Who) (act : Act) (x : Session) → new ≡ old ++ event_of who act ∷ [] → IsWho x who → new ≡ old ++ entry_by x act ∷ []
 added old new who act x more is = more ∙ ap (λ (w : Who). old ++ event_of w act ∷ []) is
 
 pub logged : (old new : List Event) (act : Act) (x : Session) → new ≡ old ++ entry_by x act ∷ [] → log_tree new ≡ log_tree old ++ event_by x (act_tree act) ∷ []
 logged old new act x more = ap log_tree more ∙ tree_more old (entry_by x act)
 
--- an End tells the code of the reply to its statement
+-- an End has the code of the reply to its statement
 abbrev pub EndsSo : List EventTree → Session → ActTree → Said → Type 0
 EndsSo log x act reading = (code : ℕ) → act ≡ Ends code → code ≡ code_of (shown_over (tables_met log x.number (x.ended + 1)) reading)
 
@@ -113,18 +113,18 @@ done_as old new x after now d = record {
   ends = d.ends;
 }
 
--- the log that it leaves has the event more
+-- the log that it leaves has one more event
 pub done_log : (old new : BookView) (before after : Session) (d : HasDone old new before after) → log_tree new.log ≡ log_tree old.log ++ event_tree d.event ∷ []
 done_log old new before after d = ap log_tree d.log ∙ tree_more old.log d.event
 
--- and its counter tells so
+-- and its counter shows it
 abbrev pub DoneSo : BookView → BookView → Session → Session → Type 0
 DoneSo old new x after = HasDone old new x after × ((steps : ℕ) → CountsInside old new x after steps steps)
 
 begins_apart : (code : ℕ) (plan : Option Plan) (last : ℕ) → Begins code plan ≡ Ends last → ⊥
 begins_apart code plan last is = cc
 
-looks_apart : (instr : ℕ) (key : Key) (found : Looked) (last : ℕ) → Looks instr key found ≡ Ends last → ⊥
+looks_apart : (instr : ℕ) (key : Key) (found : FoundLog) (last : ℕ) → Looks instr key found ≡ Ends last → ⊥
 looks_apart instr key found last is = cc
 
 admits_apart : (instr : ℕ) (key : Key) (said : Admitted) (last : ℕ) → Admits instr key said ≡ Ends last → ⊥
@@ -136,7 +136,7 @@ writes_apart statement code count last is = cc
 same_code : (code last : ℕ) → Ends code ≡ Ends last → last ≡ code
 same_code code last is = cc
 
--- a log that is lawful behind the event
+-- a log that is lawful after the event
 pub lawful_then : (old new : BookView) (event : EventTree) → new.options ≡ old.options → log_tree new.log ≡ log_tree old.log ++ event ∷ [] → IsLawful new.options (log_tree new.log) → IsLawful old.options (log_tree old.log ++ event ∷ [])
 lawful_then old new event options log lawful = subst (IsLawful old.options) log (subst (λ (o : PoolOptions). IsLawful o (log_tree new.log)) options lawful)
 
@@ -174,7 +174,7 @@ module _ (old new : BookView) (who : Who) (x after : Session) (s : Stands old.op
     tree = stmt_tree statement
 
     abbrev change : Act
-    change = act.Write (Some statement) (reply_code reply) (reply_count reply)
+    change = act.Write (Some statement) (code_of (shown_reply reply)) (count_of (shown_reply reply))
 
     change_log : new.log ≡ old.log ++ entry_by x change ∷ []
     change_log = added old.log new.log who change x log named
@@ -183,16 +183,16 @@ module _ (old new : BookView) (who : Who) (x after : Session) (s : Stands old.op
     change_does read is_one effects =
         has_done old new x (with_reply x (shown_reply reply)) after change same options change_log
         (change_done old.options (log_tree old.log) x s is piece here tree reply x.work read is_one effects)
-        (write_worked old.options (log_tree old.log) x w (Some tree) (reply_code reply) (reply_count reply) (shown_reply reply))
-        (λ code ends. absurd (writes_apart (Some tree) (reply_code reply) (reply_count reply) code ends))
+        (write_worked old.options (log_tree old.log) x w (Some tree) (code_of (shown_reply reply)) (count_of (shown_reply reply)) (shown_reply reply))
+        (λ code ends. absurd (writes_apart (Some tree) (code_of (shown_reply reply)) (count_of (shown_reply reply)) code ends))
 
     pub change_counts : (steps later : ℕ) → (state_of new).totals.work ≡ now.totals.work + write_work tree now → Counts steps later (write_work tree now) (write_lost tree now.db) → CountsInside old new x after steps later
     change_counts steps later more counts =
-        write_counts old new x after options tree (reply_code reply) (reply_count reply) (write_work tree now) steps later is (ap (λ (y : Session). y.work) same) (ap (λ (y : Session). held_in y.stage) same)
+        write_counts old new x after options tree (code_of (shown_reply reply)) (count_of (shown_reply reply)) (write_work tree now) steps later is (ap (λ (y : Session). y.work) same) (ap (λ (y : Session). held_in y.stage) same)
         (logged old.log new.log change x change_log) more counts
 
   module _ (query : QueryTree) (outcome : Result Plan Refusal) (next : Stage) (same : after ≡ at_stage x next) where
-    -- what a begin tells of its statement
+    -- what a begin shows of its statement
     pub record Tells (statement : StmtTree) (snap : Content) (marks : List Bool) : Type 0 where
       pub read : Reads piece (Ok statement)
       pub outcome_is : outcome ≡ unless_refused (refusal_over now.db statement) (plan_over now.db query)
@@ -237,14 +237,14 @@ module _ (old new : BookView) (who : Who) (x after : Session) (s : Stands old.op
 -- ## A query goes on
 
 -- the instruction that it asks for, or offers the result of, is one of its plan
-pub asks_within : (options : PoolOptions) (log : List EventTree) (x : Session) → Stands options log x → (q : Query) (n : ℕ) (key : Key) → x.stage ≡ stage.Querying (step.Asking q n key) → IsUnderWay q × (n < length q.plan.instrs)
+pub asks_within : (options : PoolOptions) (log : List EventTree) (x : Session) → Stands options log x → (q : RunningQuery) (n : ℕ) (key : Key) → x.stage ≡ stage.Querying (step.Asking q n key) → IsUnderWay q × (n < length q.plan.instrs)
 asks_within options log x s q n key is =
     let p = progress_of x.number log in
     let has = subst (IsStage options log x p) is s.stage in
     let run = subst (IsUnder (order_of x) (state_before options log has.at) (run_of options log).given p.results has.said) is has.under in
     (run.step.0.under, slice_get_within q.plan.instrs n run.step.3.instr run.step.3.at.here)
 
-pub offers_within : (options : PoolOptions) (log : List EventTree) (x : Session) → Stands options log x → (q : Query) (n : ℕ) (offer : Offer) → x.stage ≡ stage.Querying (step.Offering q n offer) → IsUnderWay q × (n < length q.plan.instrs)
+pub offers_within : (options : PoolOptions) (log : List EventTree) (x : Session) → Stands options log x → (q : RunningQuery) (n : ℕ) (offer : Offer) → x.stage ≡ stage.Querying (step.Offering q n offer) → IsUnderWay q × (n < length q.plan.instrs)
 offers_within options log x s q n offer is =
     let p = progress_of x.number log in
     let has = subst (IsStage options log x p) is s.stage in
@@ -258,7 +258,7 @@ module _ (old new : BookView) (who : Who) (x after : Session) (s : Stands old.op
   abbrev Worked : Type 0
   Worked = IsWorked old.options (log_tree old.log) x
 
-  pub look_does : Worked → (q : Query) (n : ℕ) (key : Key) (to : Step) → x.stage ≡ stage.Querying (step.Asking q n key) → IsLawful old.options (log_tree old.log) → IsLawful new.options (log_tree new.log)
+  pub look_does : Worked → (q : RunningQuery) (n : ℕ) (key : Key) (to : Step) → x.stage ≡ stage.Querying (step.Asking q n key) → IsLawful old.options (log_tree old.log) → IsLawful new.options (log_tree new.log)
       → new.log ≡ old.log ++ event_of who (act.Look (n + 1) key (looked_of (look_of state.pool key))) ∷ [] → IsLooked q n state.pool key to → after ≡ at_stage x (stage.Querying to) → DoneSo old new x after
   look_does w q n key to is lawful later log looked same =
       let found = looked_of (look_of state.pool key) in
@@ -272,12 +272,12 @@ module _ (old new : BookView) (who : Who) (x after : Session) (s : Stands old.op
         look_counts old new x after options q n state.pool key to (n + 1) found is looked (ap (λ (y : Session). y.work) same) (ap (λ (y : Session). y.stage) same) more,
       )
 
-  pub can_offer : (q : Query) (n : ℕ) (offer : Offer) → x.stage ≡ stage.Querying (step.Offering q n offer) → IsLawful old.options (log_tree old.log) → CanOffer offer.key offer.value offer.work state
+  pub can_offer : (q : RunningQuery) (n : ℕ) (offer : Offer) → x.stage ≡ stage.Querying (step.Offering q n offer) → IsLawful old.options (log_tree old.log) → CanOffer offer.key offer.value offer.work state
   can_offer q n offer is lawful = query_can_offer old.options (log_tree old.log) lawful x s q n offer is
 
-  pub offer_does : Worked → (q : Query) (n : ℕ) (offer : Offer) (next : Step) → x.stage ≡ stage.Querying (step.Offering q n offer) → IsLawful old.options (log_tree old.log) → IsLawful new.options (log_tree new.log)
+  pub offer_does : Worked → (q : RunningQuery) (n : ℕ) (offer : Offer) (next : Step) → x.stage ≡ stage.Querying (step.Offering q n offer) → IsLawful old.options (log_tree old.log) → IsLawful new.options (log_tree new.log)
       → new.log ≡ old.log ++ event_of who (act.Admit (n + 1) offer.key (admit_of who (now_of old) (key_offer offer.key state) state.pool).0) ∷ []
-      → (to : Query) → next ≡ step.Open to → HasGained q n (obj.Bat offer.value) (id_given (admit_of who (now_of old) (key_offer offer.key state) state.pool).0) q.work to
+      → (to : RunningQuery) → next ≡ step.Open to → HasGained q n (obj.Bat offer.value) (id_given (admit_of who (now_of old) (key_offer offer.key state) state.pool).0) q.work to
       → after ≡ restaged x (x.work + offer.done) (stage.Querying next) → DoneSo old new x after
   offer_does w q n offer next is lawful later log to opens gained same =
       let me : Who = record { session = x.number; statement = x.ended + 1 } in

@@ -18,12 +18,12 @@ use Rattle.pool_policy.specs.Keeps.{Face}
 use Rattle.pool_policy.specs.Worths.{worth}
 use Rattle.recycle_pool.specs.declared.found.Found.{Found}
 use Rattle.recycle_pool.specs.declared.found.Found.TheVariants as found
-use Rattle.recycle_pool.specs.declared.found.Part.{Part}
+use Rattle.recycle_pool.specs.declared.found.CoverPiece.{CoverPiece}
 use Rattle.run_log.specs.Fold.{LogState}
 use Rattle.table_store.specs.Content.{Content}
 use Rattle.book_core.specs.Versions.{HasVersions}
 use Rattle.query_keys.specs.Keys.{AreIdsOf}
-use Rattle.query_run.specs.declared.step.Query.{Query}
+use Rattle.query_run.specs.declared.step.RunningQuery.{RunningQuery}
 use Rattle.mal_exec.specs.Results.{known_of}
 use Rattle.query_run.specs.Queries.{HasArgs, HasAsked, HasGained, IsAt, IsUnderWay, Serves, done_load, has_result, result_at, value_at, was_asked}
 use Rattle.query_run.proofs.ResultLemmas.{gained_else, gained_here}
@@ -34,7 +34,7 @@ use Rattle.session_run.proofs.NotedLemmas.{ids_set}
 
 -- ## A result more
 
-pub gained_knows : (seen : LogState) (given : List Face) (plan : Plan) (q : Query) → Knows seen given plan q → (n : ℕ) (instr : Instr) → IsAt q n instr → (value : Pairs) (id : ℕ) (to : Query) → value_at q n ≡ Some (Some (Bat value))
+pub gained_knows : (seen : LogState) (given : List Face) (plan : Plan) (q : RunningQuery) → Knows seen given plan q → (n : ℕ) (instr : Instr) → IsAt q n instr → (value : Pairs) (id : ℕ) (to : RunningQuery) → value_at q n ≡ Some (Some (Bat value))
     → HasGained q n (obj.Bat value) id q.work to → (0 < id → worth given id ≡ Some value) → Knows seen given plan to
 gained_knows seen given plan q k n instr at value id to is g one = record {
   under = marked_under q to n instr (obj.Bat value) id q.work k.under at.here at.open_ is g at.marked refl;
@@ -45,7 +45,7 @@ gained_knows seen given plan q k n instr at value id to is g one = record {
       (ids_set given q.ids.items (plan_values seen.db plan.instrs) n id value k.ids ((λ i. slice_get (plan_values (sym k.db i) (sym k.plan_is i).instrs) n) ∙ is) one);
 }
 
-gained_none : (q to : Query) (n : ℕ) (instr : Instr) → IsAt q n instr → IsUnderWay q → (value : Pairs) (id : ℕ) → HasGained q n (obj.Bat value) id q.work to → {but : ℕ → Type 0} → ((m : ℕ) → but m → m ≡ n)
+gained_none : (q to : RunningQuery) (n : ℕ) (instr : Instr) → IsAt q n instr → IsUnderWay q → (value : Pairs) (id : ℕ) → HasGained q n (obj.Bat value) id q.work to → {but : ℕ → Type 0} → ((m : ℕ) → but m → m ≡ n)
     → OwesNone InPlan q but → (m : ℕ) → has_result to m ≡ false → was_asked to m ≡ false
 gained_none q to n instr at under value id g only owes m none = go (m == n) refl
   where
@@ -60,14 +60,14 @@ gained_none q to n instr at under value id g only owes m none = go (m == n) refl
         let apart = eqb-false m n same in
         ap (λ bs. slice_index_or bs m false) g.asked_are ∙ owes m (ap is_some (sym (gained_else q to n (obj.Bat value) id q.work g inside m apart)) ∙ none) (λ b. apart (only m b))
 
-pub gained_owes : (order : Order) (q to : Query) (n : ℕ) (instr : Instr) → IsAt q n instr → IsUnderWay q → (value : Pairs) (id : ℕ) → HasGained q n (obj.Bat value) id q.work to → {but : ℕ → Type 0} → ((m : ℕ) → but m → m ≡ n)
+pub gained_owes : (order : Order) (q to : RunningQuery) (n : ℕ) (instr : Instr) → IsAt q n instr → IsUnderWay q → (value : Pairs) (id : ℕ) → HasGained q n (obj.Bat value) id q.work to → {but : ℕ → Type 0} → ((m : ℕ) → but m → m ≡ n)
     → OwesNone order q but → OwesNone order to (λ m. ⊥)
 gained_owes AsReady q to n instr at under value id g only owes = tt
 gained_owes InPlan q to n instr at under value id g only owes = λ m none no. gained_none q to n instr at under value id g only owes m none
 
 -- ## Asked in vain
 
-module _ (q to : Query) (n : ℕ) (a : HasAsked q n to) where
+module _ (q to : RunningQuery) (n : ℕ) (a : HasAsked q n to) where
   result_same : (m : ℕ) → has_result to m ≡ has_result q m
   result_same m = ap (λ vs. is_some (slice_index_or vs m None)) a.values_are
 
@@ -113,13 +113,13 @@ module _ (q to : Query) (n : ℕ) (a : HasAsked q n to) where
     pub asked_args : HasArgs q instr → HasArgs to instr
     asked_args has = subst (λ vs. IsSome (arg_values (known_of vs) instr.args)) (sym a.values_are) has
 
-    pub asked_serves : (what : Found) (parts : List Part) → Serves q n instr what parts → Serves to n instr what parts
+    pub asked_serves : (what : Found) (parts : List CoverPiece) → Serves q n instr what parts → Serves to n instr what parts
     asked_serves (found.Exact id value) parts none = none
     asked_serves (found.Within id value) parts w = (w.0, w.1, w.2, w.3, w.4, value_same n ∙ w.5)
     asked_serves (found.Across count) parts across = (value_same n ∙ across.0, across.1)
     asked_serves found.Miss parts miss = tt
 
-pub asked_knows : (seen : LogState) (given : List Face) (plan : Plan) (q : Query) → Knows seen given plan q → (n : ℕ) (to : Query) → HasAsked q n to → Knows seen given plan to
+pub asked_knows : (seen : LogState) (given : List Face) (plan : Plan) (q : RunningQuery) → Knows seen given plan q → (n : ℕ) (to : RunningQuery) → HasAsked q n to → Knows seen given plan to
 asked_knows seen given plan q k n to a = record {
   under = asked_under q to n a k.under;
   plan_is = a.plan_is ∙ k.plan_is;

@@ -9,11 +9,10 @@ use Rattle.mal_check.specs.Checked.{plan_fault}
 use Rattle.mal_print.specs.Canon.{plan_text}
 use Rattle.sql_tree.specs.Tree.{StmtTree}
 use Rattle.sql_tree.specs.Tree.StmtTree.{CreateTable, DropTable, AlterTable, InsertInto, DeleteFrom, UpdateTable, Select, ExplainSelect}
-use Rattle.sql_semantics.specs.Effect.{effect}
-use Rattle.sql_semantics.specs.Refusals.{refusal_number}
-use Rattle.sql_semantics.specs.declared.refusal.Refusal.{Refusal}
-use Rattle.sql_semantics.specs.declared.refusal.Reply.{Reply}
-use Rattle.sql_semantics.specs.declared.refusal.Reply.TheVariants as reply
+use Rattle.sql_definitions.specs.Effect.{effect}
+use Rattle.sql_definitions.specs.Refusals.{refusal_number}
+use Rattle.sql_definitions.specs.declared.refusal.Refusal.{Refusal}
+use Rattle.sql_definitions.specs.declared.refusal.Reply.{Reply}
 use Rattle.read_laws.specs.Answered.{Reads}
 use Rattle.pool_policy.specs.declared.options.PoolOptions.{PoolOptions}
 use Rattle.run_log.specs.Events.{ActTree, Begins, Writes, Ends, EventTree, log_tree}
@@ -25,8 +24,7 @@ use Rattle.reply_layout.specs.Doings.{Doing, Writing, Beginning, code_of, count_
 use Rattle.answer_text.specs.Log.{Said, doing_over, shown_over, tables_met}
 use Rattle.book_core.specs.Begins.{unless_refused}
 use Rattle.book_core.specs.BookView.{BookView, is_open}
-use Rattle.book_core.specs.Writes.{reply_code, reply_count}
-use Rattle.query_run.specs.declared.step.Query.{Query}
+use Rattle.query_run.specs.declared.step.RunningQuery.{RunningQuery}
 use Rattle.query_run.specs.declared.step.Step.TheVariants as step
 use Rattle.session_run.specs.declared.session.Session.{Session}
 use Rattle.session_run.specs.declared.stage.Stage.TheVariants as stage
@@ -51,17 +49,6 @@ change_writes db (UpdateTable table sets condition) is = refl
 change_writes db (Select query) is = cc
 change_writes db (ExplainSelect query) is = cc
 
--- with the code and the count that the book gives it
-reply_coded : (r : Reply) → code_of (shown_reply r) ≡ reply_code r
-reply_coded reply.Done = refl
-reply_coded (reply.Rows n) = refl
-reply_coded (reply.Refused refusal) = refl
-
-reply_counted : (r : Reply) → count_of (shown_reply r) ≡ reply_count r
-reply_counted reply.Done = refl
-reply_counted (reply.Rows n) = refl
-reply_counted (reply.Refused refusal) = refl
-
 -- a query that has a plan is run by it, to these rows
 pub query_runs : (why : Option Refusal) (plan over : Plan) (rows : Option (List (List Cell))) → Ok plan ≡ unless_refused why over → query_doing why over rows ≡ Beginning (Some plan) (shown_rows rows)
 query_runs None plan over rows is = let same : over ≡ plan = cc in ap (λ (run : Plan). Beginning (Some run) (shown_rows rows)) same
@@ -72,9 +59,9 @@ pub query_refuses : (why : Option Refusal) (refusal : Refusal) (over : Plan) (ro
 query_refuses None refusal over rows is = cc
 query_refuses (Some other) refusal over rows is = let same : other ≡ refusal = cc in ap (λ (why : Refusal). Beginning None (shown.Refused why)) same
 
--- so an EXPLAIN
-pub explain_shows : (why : Option Refusal) (plan over : Plan) → Ok plan ≡ unless_refused why over → shown_explain why (plan_text over) ≡ shown.Plan (plan_text plan)
-explain_shows None plan over is = let same : over ≡ plan = cc in ap (λ (run : Plan). shown.Plan (plan_text run)) same
+-- likewise an EXPLAIN
+pub explain_shows : (why : Option Refusal) (plan over : Plan) → Ok plan ≡ unless_refused why over → shown_explain why (plan_text over) ≡ shown.Mal (plan_text plan)
+explain_shows None plan over is = let same : over ≡ plan = cc in ap (λ (run : Plan). shown.Mal (plan_text run)) same
 explain_shows (Some refusal) plan over is = cc
 
 pub explain_refuses : (why : Option Refusal) (refusal : Refusal) (over : Plan) (text : List ℕ) → Err refusal ≡ unless_refused why over → shown_explain why text ≡ shown.Refused refusal
@@ -90,7 +77,7 @@ module _ (options : PoolOptions) (log : List EventTree) (x : Session) (s : Stand
   abbrev p : Progress
   p = progress_of x.number log
 
-  -- the session's next event, and where it stands behind it
+  -- the session's next event, and its progress after it
   abbrev Does : ActTree → Session → Type 0
   Does act new = IsNext (order_of x) options x.pieces x.number log (event_by x act) × Stands options (log ++ event_by x act ∷ []) new
 
@@ -106,7 +93,7 @@ module _ (options : PoolOptions) (log : List EventTree) (x : Session) (s : Stand
       next_is options log x s piece here said read act
       (subst (λ b. IsNextAct (order_of x) options log (who_at x.number p) p b said act) (sym none) (subst (λ (d : Doing Plan). IsFirstAct d act) (sym does) first))
 
-  -- a text that is refused
+  -- a refused text
   pub text_refused : (refusal : Refusal) (work : ℕ) → Reads piece (Err refusal) → Does (Writes None (refusal_number refusal) 0) (replied x work (shown.Refused refusal))
   text_refused refusal work read = (
     next_first (Err refusal) read (Writing None (shown.Refused refusal)) refl (Writes None (refusal_number refusal) 0) refl,
@@ -115,18 +102,17 @@ module _ (options : PoolOptions) (log : List EventTree) (x : Session) (s : Stand
 
   -- a change
   pub change_done : (statement : StmtTree) (reply : Reply) (work : ℕ) → Reads piece (Ok statement) → is_change statement ≡ true → reply ≡ (effect statement now.db).1
-      → Does (Writes (Some statement) (reply_code reply) (reply_count reply)) (replied x work (shown_reply reply))
+      → Does (Writes (Some statement) (code_of (shown_reply reply)) (count_of (shown_reply reply))) (replied x work (shown_reply reply))
   change_done statement reply work read change effects = (
-    next_first (Ok statement) read (Writing (Some statement) (shown_reply reply)) does (Writes (Some statement) (reply_code reply) (reply_count reply))
-        (λ i. Some (Writes (Some statement) (reply_coded reply i) (reply_counted reply i))),
-    whole_stands options log x s (Some statement) (reply_code reply) (reply_count reply) work (shown_reply reply) quiet none piece here (Ok statement) read (sym (ap shown_in does)),
+    next_first (Ok statement) read (Writing (Some statement) (shown_reply reply)) does (Writes (Some statement) (code_of (shown_reply reply)) (count_of (shown_reply reply))) refl,
+    whole_stands options log x s (Some statement) (code_of (shown_reply reply)) (count_of (shown_reply reply)) work (shown_reply reply) quiet none piece here (Ok statement) read (sym (ap shown_in does)),
   )
     where
       does : doing_over now.db (Ok statement) ≡ Writing (Some statement) (shown_reply reply)
       does = change_writes now.db statement change ∙ ap (λ (r : Reply). Writing (Some statement) (shown_reply r)) (sym effects)
 
   -- a statement whose plan is run
-  pub plan_begins : (said : Said) (plan : Plan) (q : Query) (work : ℕ) → Reads piece said → doing_over now.db said ≡ Beginning (Some plan) (shown_rows (plan_rows plan now.db)) → Began now plan q
+  pub plan_begins : (said : Said) (plan : Plan) (q : RunningQuery) (work : ℕ) → Reads piece said → doing_over now.db said ≡ Beginning (Some plan) (shown_rows (plan_rows plan now.db)) → Began now plan q
       → Does (Begins 0 (Some plan)) (restaged x work (stage.Querying (step.Begun q)))
   plan_begins said plan q work read does began = (
     next_first said read (Beginning (Some plan) (shown_rows (plan_rows plan now.db))) does (Begins 0 (Some plan)) refl,
@@ -149,9 +135,9 @@ module _ (options : PoolOptions) (log : List EventTree) (x : Session) (s : Stand
   )
 
   -- one that shows a plan
-  pub explain_begins : (said : Said) (plan : Plan) (work : ℕ) → plan_fault plan ≡ None → Reads piece said → doing_over now.db said ≡ Beginning None (shown.Plan (plan_text plan)) → Does (Begins 0 None) (restaged x work (stage.Explaining plan))
+  pub explain_begins : (said : Said) (plan : Plan) (work : ℕ) → plan_fault plan ≡ None → Reads piece said → doing_over now.db said ≡ Beginning None (shown.Mal (plan_text plan)) → Does (Begins 0 None) (restaged x work (stage.Explaining plan))
   explain_begins said plan work checked read does = (
-    next_first said read (Beginning None (shown.Plan (plan_text plan))) does (Begins 0 None) refl,
+    next_first said read (Beginning None (shown.Mal (plan_text plan))) does (Begins 0 None) refl,
     begun_stands options log x s 0 None work (stage.Explaining plan) quiet refl none piece here said read (λ given. record { checked = checked; does = does }) (λ has. has),
   )
 
@@ -174,7 +160,7 @@ module _ (options : PoolOptions) (log : List EventTree) (x : Session) (s : Stand
         end_stands options log x s (code_of reply) work reply (ap (untold x.ended) is) ending ends_so.shows,
       )
 
-  -- with the reply that its tables give
+  -- with the reply by its tables
   pub end_shows : (work : ℕ) → reply ≡ shown_over (tables_met log x.number (x.ended + 1)) (statement_ends work).0.reading
   unfolding statement_ends
   end_shows work =

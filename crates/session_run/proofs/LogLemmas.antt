@@ -1,11 +1,11 @@
--- One event more, by itself and under the law.
+-- One more event, by itself and under the law.
 use Rattle.std.proofs.Common.{◌≡◌, ℕ, suc, ◌+◌, ◌-◌, ◌≤◌, ◌<◌, List, [], ◌∷◌, ◌++◌, length, Bool, true, false, ◌&&◌, cond, Option, Some, None, inl, inr, refl, ap, sym, ◌∙◌, subst, arith, length-append}
 use Rattle.std.specs.Prelude.{IsSome, drop, fold, take, flat_map, ◌==◌}
 use Rattle.std.specs.List.{AllByRecursion, enumerate_from}
 use Rattle.std.proofs.lemmas.List.{append_assoc, append-nil, take-append-drop, take-append-le}
 use Rattle.std.proofs.lemmas.Bool.{cases_lt, eq-eqb, ne_eqb}
 use Rattle.std.proofs.Math.Seq.{take-append_seam}
-use Rattle.sql_semantics.specs.Effect.{replay}
+use Rattle.sql_definitions.specs.Effect.{replay}
 use Rattle.pool_policy.specs.declared.options.PoolOptions.{PoolOptions}
 use Rattle.pool_policy.specs.Keeps.{Face}
 use Rattle.pool_policy.specs.Worths.{WorthsStay}
@@ -247,7 +247,7 @@ replies_last log session k j (r ∷ readings) reading is =
     ap (λ text. reply_text k (shown_over (tables_met log session k) r) ++ text) (replies_last log session (k + 1) j readings reading (omega (arith, is)))
     ∙ sym (append_assoc (reply_text k (shown_over (tables_met log session k) r)) (replies_from log session (k + 1) readings) (reply_text j (shown_over (tables_met log session j) reading)))
 
--- one reply more
+-- one more reply
 pub replies_more : (log : List EventTree) (session j : ℕ) (readings : List Said) (reading : Said) → j ≡ length readings + 1
     → replies_text log session (readings ++ reading ∷ []) ≡ replies_text log session readings ++ reply_text j (shown_over (tables_met log session j) reading)
 replies_more log session j readings reading is =
@@ -281,7 +281,7 @@ follow_sound s (event ∷ log) sound all = follow_sound (after s event) log (ste
 pub lawful_sound : (options : PoolOptions) (log : List EventTree) → IsLawful options log → IsSound (run_of options log)
 lawful_sound options log lawful = follow_sound (log_start options) log (steps_keep_holds.start options) lawful
 
--- what was given out is worth the same behind one event more
+-- what was given out is worth the same after one more event
 pub worths_next : (options : PoolOptions) (log : List EventTree) (event : EventTree) → IsLawful options (log ++ event ∷ []) → WorthsStay (run_of options log).given (run_of options (log ++ event ∷ [])).given
 worths_next options log event lawful =
     let s = run_of options log in

@@ -1,4 +1,4 @@
--- A query moves by itself, as results are ready: the session stands where the log says, with its work.
+-- A query moves by itself, as results are ready: the session agrees with the log, with its work.
 use Rattle.std.proofs.Common.{◌≡◌, ◌≢◌, ℕ, List, length, Bool, true, false, cond, Some, None, refl, ap, sym, ◌∙◌, subst}
 use Rattle.std.specs.Prelude.{◌==◌, IsSome, is_some, slice_get, slice_index_or}
 use Rattle.std.proofs.lemmas.Bool.{eqb-false, eqb-true, ne_eqb}
@@ -13,7 +13,7 @@ use Rattle.pool_policy.specs.Keeps.{Face}
 use Rattle.pool_policy.specs.Looks.{look_of}
 use Rattle.recycle_pool.specs.declared.found.Found.{Found}
 use Rattle.recycle_pool.specs.declared.found.Found.TheVariants as found
-use Rattle.recycle_pool.specs.declared.found.Part.{Part}
+use Rattle.recycle_pool.specs.declared.found.CoverPiece.{CoverPiece}
 use Rattle.recycle_pool.specs.Answers.{told}
 use Rattle.std.specs.declared.vec.Vec.{Vec}
 use Rattle.std.specs.declared.alloc.Global.{Global}
@@ -24,7 +24,7 @@ use Rattle.reply_layout.specs.declared.shown.Shown.TheVariants as shown
 use Rattle.reply_layout.specs.Doings.{Beginning, code_of, shown_rows}
 use Rattle.answer_text.specs.Log.{Said, doing_over}
 use Rattle.query_run.specs.declared.step.Offer.{Offer}
-use Rattle.query_run.specs.declared.step.Query.{Query}
+use Rattle.query_run.specs.declared.step.RunningQuery.{RunningQuery}
 use Rattle.query_run.specs.declared.step.Step.{Step}
 use Rattle.query_run.specs.declared.step.Step.TheVariants as step
 use Rattle.query_run.specs.Queries.{HasArgs, HasAsked, HasMark, IsAt, IsOffered, has_result, id_at, key_in, was_asked}
@@ -50,7 +50,7 @@ use Rattle.session_run.proofs.WorkedLemmas.{admit_is, becomes_worked, end_counts
 -- ## An unmarked result that is computed elsewhere
 
 -- nothing is noted of it
-pub noted_handed : (results : ℕ → Got) (q to : Query) (n : ℕ) → HasMark q n false → HasAsked q n to → AreNoted results q → AreNoted results to
+pub noted_handed : (results : ℕ → Got) (q to : RunningQuery) (n : ℕ) → HasMark q n false → HasAsked q n to → AreNoted results q → AreNoted results to
 noted_handed results q to n unmarked a are m mark is = go (m == n) refl
   where
     marked : HasMark q m mark
@@ -72,7 +72,7 @@ noted_handed results q to n unmarked a are m mark is = go (m == n) refl
         (subst (λ i. IsNoted (results m) mark (has_result q m) i (was_asked to m)) (sym its_id) (subst (IsNoted (results m) mark (has_result q m) (id_at q m)) (sym was) (are m mark marked)))
 
 -- and nothing more is owed
-handed_owe : (options : PoolOptions) (log : List EventTree) (results : ℕ → Got) (q to : Query) (n : ℕ) → HasMark q n false → HasAsked q n to → OweLoads options log results q (λ m. ⊥) → OweLoads options log results to (λ m. ⊥)
+handed_owe : (options : PoolOptions) (log : List EventTree) (results : ℕ → Got) (q to : RunningQuery) (n : ℕ) → HasMark q n false → HasAsked q n to → OweLoads options log results q (λ m. ⊥) → OweLoads options log results to (λ m. ⊥)
 handed_owe options log results q to n unmarked a owes m instr at asked none =
     let apart : m ≢ n = λ same. let no : Some true ≡ Some false = sym at.marked ∙ ap (λ pl. slice_get (marks_of pl) m) a.plan_is ∙ ap (slice_get (marks_of q.plan)) same ∙ unmarked in cc in
     subst (λ got. HasArgs to instr × ((load pairs : ℕ) → work_by (pool_asked options log got) (look_of (pool_asked options log got) (key_in to m instr)) load pairs ≡ load)) (ap (λ b. cond b (results n) (results m)) (ne_eqb m n apart))
@@ -82,7 +82,7 @@ handed_owe options log results q to n unmarked a owes m instr at asked none =
 
 module _ (seen : LogState) (given : List Face) (results : ℕ → Got) (said : Said) (plan : Plan) (does : doing_over seen.db said ≡ Beginning (Some plan) (shown_rows (plan_rows plan seen.db))) where
   -- it ends
-  ends_ready : (q : Query) → Knows seen given plan q → AreNoted results q → (reply : Shown) (work : ℕ) → MayEnd q reply work → EndsSo AsReady seen results said reply
+  ends_ready : (q : RunningQuery) → Knows seen given plan q → AreNoted results q → (reply : Shown) (work : ℕ) → MayEnd q reply work → EndsSo AsReady seen results said reply
   ends_ready q k noted reply work (WithRows rows all some is counted) =
       let some_seen = rows_known seen given plan q k ∙ some in record {
         act = λ s who. later_is AsReady seen given results said plan does s who (Ends (code_of reply))
@@ -103,11 +103,11 @@ module _ (seen : LogState) (given : List Face) (results : ℕ → Got) (said : S
   abbrev At : Step → Type 0
   At at = IsStep AsReady seen given plan results at
 
-  notes_on : (q to : Query) → At (step.Open q) → Notes q to → At (step.Open to)
+  notes_on : (q to : RunningQuery) → At (step.Open q) → Notes q to → At (step.Open to)
   notes_on q to is (HandsOut n unmarked a) = (asked_knows seen given plan q is.0 n to a, noted_handed results q to n unmarked a is.1, tt)
   notes_on q to is (Computes n result t) = let goes = taken_goes q to n result is.0.under t in (goes_known seen given plan q is.0 to goes, goes_noted results q to goes is.1, tt)
 
-  open_on : (q : Query) → At (step.Open q) → (to : Step) → Moves (step.Open q) to → Under to
+  open_on : (q : RunningQuery) → At (step.Open q) → (to : Step) → Moves (step.Open q) to → Under to
   open_on q is (step.Begun to) none = absurd none
   open_on q is (step.Open to) notes = run_at AsReady seen given results said plan does (step.Open to) (notes_on q to is notes)
   open_on q is (step.Asking to n key) m = run_at AsReady seen given results said plan does (step.Asking to n key) (subst (λ r. At (step.Asking r n key)) (sym m.0) (is.0, is.1, tt, m.1, m.2, tt))
@@ -115,7 +115,7 @@ module _ (seen : LogState) (given : List Face) (results : ℕ → Got) (said : S
   open_on q is (step.Offering to n offer) m = run_at AsReady seen given results said plan does (step.Offering to n offer) (subst (λ r. At (step.Offering r n offer)) (sym m.0) (is.0, is.1, tt, m.1, tt, m.2))
   open_on q is (step.Ending reply work) ends = ends_ready q is.0 is.1 reply work ends
 
-  found_on : (q : Query) (n : ℕ) (what : Found) (parts : Vec Part Global) → At (step.Found q n what parts) → (to : Step) → Moves (step.Found q n what parts) to → Under to
+  found_on : (q : RunningQuery) (n : ℕ) (what : Found) (parts : Vec CoverPiece Global) → At (step.Found q n what parts) → (to : Step) → Moves (step.Found q n what parts) to → Under to
   found_on q n what parts is (step.Begun to) none = absurd none
   found_on q n what parts is (step.Open to) m = run_at AsReady seen given results said plan does (step.Open to) (subst (λ r. At (step.Open r)) (sym m.1) (is.0, is.1, tt))
   found_on q n what parts is (step.Asking to j key) none = absurd none
@@ -147,23 +147,23 @@ module _ (options : PoolOptions) (log : List EventTree) (p : Progress) where
   abbrev WorkedAt : Step → Type 0
   WorkedAt at = IsWorkedStep options log p at
 
-  ends_counted : (q : Query) → IsPlanned options log p q → (reply : Shown) (work : ℕ) → MayEnd q reply work → work ≡ act_work options log p (Ends (code_of reply))
+  ends_counted : (q : RunningQuery) → IsPlanned options log p q → (reply : Shown) (work : ℕ) → MayEnd q reply work → work ≡ act_work options log p (Ends (code_of reply))
   ends_counted q k reply work (WithRows rows all some is counted) = counted ∙ sym (end_counts options log p q k) ∙ ap (λ r. act_work options log p (Ends (code_of r))) (sym is)
   ends_counted q k reply work (WithNone none is no_work) = no_work ∙ ap (λ r. act_work options log p (Ends (code_of r))) (sym is)
 
-  notes_worked : (q to : Query) → IsSoundStep (step.Open q) → WorkedAt (step.Open q) → Notes q to → WorkedAt (step.Open to)
+  notes_worked : (q to : RunningQuery) → IsSoundStep (step.Open q) → WorkedAt (step.Open q) → Notes q to → WorkedAt (step.Open to)
   notes_worked q to sound is (HandsOut n unmarked a) = (planned_as options log p q to a.snap_is a.plan_is is.0, handed_owe options log p.results q to n unmarked a is.1)
   notes_worked q to sound is (Computes n result t) =
       let goes = taken_goes q to n result sound t in (planned_as options log p q to goes.snap_is goes.plan_is is.0, goes_owe options log p.results q to goes is.1)
 
-  offers_worked : (q : Query) → WorkedAt (step.Open q) → (n : ℕ) (instr : Instr) → IsAt q n instr → was_asked q n ≡ true → (offer : Offer) → IsOffered q n instr offer → offer.done ≡ offer.work → WorkedAt (step.Offering q n offer)
+  offers_worked : (q : RunningQuery) → WorkedAt (step.Open q) → (n : ℕ) (instr : Instr) → IsAt q n instr → was_asked q n ≡ true → (offer : Offer) → IsOffered q n instr offer → offer.done ≡ offer.work → WorkedAt (step.Offering q n offer)
   offers_worked q is n instr at asked offer offered done = (
     is.0,
     λ m own own_at own_asked apart. is.1 m own own_at own_asked (λ no. no),
     λ result. done ∙ sym (admit_is options log p q is.0 n instr at offer offered result ∙ (is.1 n instr at asked (λ no. no)).1 offer.work (length offer.value)),
   )
 
-  open_worked : (q : Query) → IsSoundStep (step.Open q) → WorkedAt (step.Open q) → (to : Step) → Moves (step.Open q) to → WorkedAt to
+  open_worked : (q : RunningQuery) → IsSoundStep (step.Open q) → WorkedAt (step.Open q) → (to : Step) → Moves (step.Open q) to → WorkedAt to
   open_worked q sound is (step.Begun to) none = absurd none
   open_worked q sound is (step.Open to) notes = notes_worked q to sound is notes
   open_worked q sound is (step.Asking to n key) m = subst (λ r. WorkedAt (step.Asking r n key)) (sym m.0) is
@@ -172,7 +172,7 @@ module _ (options : PoolOptions) (log : List EventTree) (p : Progress) where
   open_worked q sound is (step.Ending reply work) ends = ends_counted q is.0 reply work ends
 
   -- what was found in vain is owed by itself
-  missed_owe : (q : Query) (n : ℕ) (what : Found) (parts : List Part) (own : Instr) → IsAt q n own → HasArgs q own → what ≡ found.Miss → IsLookedUp (pool_asked options log (p.results n)) q n what parts
+  missed_owe : (q : RunningQuery) (n : ℕ) (what : Found) (parts : List CoverPiece) (own : Instr) → IsAt q n own → HasArgs q own → what ≡ found.Miss → IsLookedUp (pool_asked options log (p.results n)) q n what parts
       → OweLoads options log p.results q (λ m. m ≡ n) → OweLoads options log p.results q (λ m. ⊥)
   missed_owe q n what parts own own_at has miss looked owes m instr at asked none = go (m == n) refl
     where
@@ -187,7 +187,7 @@ module _ (options : PoolOptions) (log : List EventTree) (p : Progress) where
           (subst (λ j. HasArgs q own × ((load pairs : ℕ) → work_by (pool_asked options log (p.results j)) (look_of (pool_asked options log (p.results j)) (key_in q j own)) load pairs ≡ load)) (sym place)
           (has, λ load pairs. ap (λ finding. work_by (pool_asked options log (p.results n)) finding load pairs) (sym told_miss ∙ ap (λ w. told w parts) miss)))
 
-  found_worked : (q : Query) (n : ℕ) (what : Found) (parts : Vec Part Global) → IsSoundStep (step.Found q n what parts) → WorkedAt (step.Found q n what parts) → (to : Step) → Moves (step.Found q n what parts) to → WorkedAt to
+  found_worked : (q : RunningQuery) (n : ℕ) (what : Found) (parts : Vec CoverPiece Global) → IsSoundStep (step.Found q n what parts) → WorkedAt (step.Found q n what parts) → (to : Step) → Moves (step.Found q n what parts) to → WorkedAt to
   found_worked q n what parts sound is (step.Begun to) none = absurd none
   found_worked q n what parts sound is (step.Open to) m =
       subst (λ r. WorkedAt (step.Open r)) (sym m.1) (is.0, missed_owe q n what parts.items sound.1.0 sound.1.1 sound.1.2 m.0 is.2 is.1)
@@ -215,7 +215,7 @@ module _ (options : PoolOptions) (log : List EventTree) (x new : Session) (s : S
   abbrev p : Progress
   p = progress_of x.number log
 
-  -- it stands as before
+  -- it agrees with the log as before
   pub moved_stands : x.wide ≡ true → Stands options log new
   moved_stands wide =
       let has = subst (IsStage options log x p) m.was s.stage in

@@ -16,7 +16,7 @@ use Rattle.recycle_mark.specs.Marks.{marks_of}
 use Rattle.pool_policy.specs.Keeps.{Face}
 use Rattle.pool_policy.specs.Worths.{worth}
 use Rattle.query_keys.specs.Keys.{AreIdsOf}
-use Rattle.query_run.specs.declared.step.Query.{Query}
+use Rattle.query_run.specs.declared.step.RunningQuery.{RunningQuery}
 use Rattle.query_run.specs.Queries.{HasAsked, HasGained, HasMark, IsAt, IsUnderWay, has_result, id_at, result_at, was_asked}
 use Rattle.query_run.specs.Steps.{IsOpened}
 use Rattle.query_run.proofs.ResultLemmas.{gained_else, gained_here}
@@ -25,7 +25,7 @@ use Rattle.session_run.specs.Kept.{AreNoted, IsNoted}
 
 -- ## Lists
 
--- what stands at a place comes first behind what is dropped
+-- the element at a place comes first after what is dropped
 pub dropped : {X : Type 0} (xs : List X) (n : ℕ) (x : X) → slice_get xs n ≡ Some x → drop n xs ≡ x ∷ drop (suc n) xs
 dropped [] zero x here = cc
 dropped [] (suc n) x here = cc
@@ -38,7 +38,7 @@ dropped_all [] (suc n) few = refl
 dropped_all (y ∷ ys) zero few = grind arith
 dropped_all (y ∷ ys) (suc n) few = dropped_all ys n (grind arith)
 
--- something stands at each place
+-- there is an element at each place
 pub some_at : {X : Type 0} (xs : List X) (n : ℕ) → n < length xs → (x : X) × (slice_get xs n ≡ Some x)
 some_at [] n inside = absurd (let no : ⊥ = omega (arith, inside) in no)
 some_at (x ∷ xs) zero inside = (x, refl)
@@ -76,7 +76,7 @@ ids_none given (id ∷ ids) (v ∷ values) few none = (λ above. absurd (let fir
 
 -- ## What is noted
 
-module _ (results : ℕ → Got) (q : Query) (are : AreNoted results q) (under : IsUnderWay q) where
+module _ (results : ℕ → Got) (q : RunningQuery) (are : AreNoted results q) (under : IsUnderWay q) where
   id_noted : (n : ℕ) (mark : Bool) → HasMark q n mark → id_of (results n) ≡ id_at q n
   id_noted n false marked = ap id_of (are n false marked) ∙ sym (under.plain n marked)
   id_noted n true marked = go (has_result q n) refl (was_asked q n) (are n true marked)
@@ -102,7 +102,7 @@ module _ (results : ℕ → Got) (q : Query) (are : AreNoted results q) (under :
   ids_noted n many within = ids_noted_from n 0 many (omega (arith, within))
 
 -- a result that is there, or that is asked for in vain
-module _ (results : ℕ → Got) (q to : Query) (n : ℕ) (instr : Instr) (at : IsAt q n instr) (under : IsUnderWay q) (are : AreNoted results q) where
+module _ (results : ℕ → Got) (q to : RunningQuery) (n : ℕ) (instr : Instr) (at : IsAt q n instr) (under : IsUnderWay q) (are : AreNoted results q) where
   inside : n < length q.plan.instrs
   inside = slice_get_within q.plan.instrs n instr at.here
 
@@ -160,7 +160,7 @@ module _ (results : ℕ → Got) (q to : Query) (n : ℕ) (instr : Instr) (at : 
           subst (λ b. IsNoted (results m) mark b (id_at to m) (was_asked to m)) (sym there) (subst (λ i. IsNoted (results m) mark (has_result q m) i (was_asked to m)) (sym its_id) (subst (IsNoted (results m) mark (has_result q m) (id_at q m)) (sym was) (are m mark marked)))
 
 -- a query that has room for its results
-pub noted_opened : (results : ℕ → Got) (q to : Query) → IsOpened q to → ((n : ℕ) → results n ≡ Unasked) → AreNoted results to
+pub noted_opened : (results : ℕ → Got) (q to : RunningQuery) → IsOpened q to → ((n : ℕ) → results n ≡ Unasked) → AreNoted results to
 noted_opened results q to o none n false is = none n
 noted_opened results q to o none n true is =
     subst (λ b. IsNoted (results n) true b (id_at to n) (was_asked to n)) (sym (o.none n)) (subst (IsNoted (results n) true false (id_at to n)) (sym (o.unasked n)) (none n))

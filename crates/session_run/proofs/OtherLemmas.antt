@@ -1,4 +1,4 @@
--- A session stands as it did, whatever event of another session comes next.
+-- A session agrees with the log, whatever event of another session comes next.
 use Rattle.std.proofs.Common.{◌≡◌, ℕ, ◌+◌, ◌≤◌, ◌<◌, List, [], ◌∷◌, ◌++◌, take, length, false, Option, Some, None, refl, ap, sym, ◌∙◌, subst, arith}
 use Rattle.std.specs.Prelude.{◌==◌}
 use Rattle.std.proofs.lemmas.List.{length-take-le}
@@ -12,7 +12,7 @@ use Rattle.run_log.specs.Fold.{LogState, run_of}
 use Rattle.book_core.specs.Lawful.{IsLawful}
 use Rattle.answer_text.specs.Log.{Said}
 use Rattle.query_keys.proofs.StepLemmas.{ids_stay}
-use Rattle.query_run.specs.declared.step.Query.{Query}
+use Rattle.query_run.specs.declared.step.RunningQuery.{RunningQuery}
 use Rattle.query_run.specs.declared.step.Step.{Step}
 use Rattle.query_run.specs.declared.step.Step.TheVariants as step
 use Rattle.session_run.specs.declared.session.Session.{Session}
@@ -46,7 +46,7 @@ opened_above p (Some at) = omega arith
 -- ## Steps
 
 module _ (seen : LogState) (given later : List Face) (stay : WorthsStay given later) where
-  pub knows_stays : (plan : Plan) (q : Query) → Knows seen given plan q → Knows seen later plan q
+  pub knows_stays : (plan : Plan) (q : RunningQuery) → Knows seen given plan q → Knows seen later plan q
   knows_stays plan q k = record {
     under = k.under;
     plan_is = k.plan_is;

@@ -1,4 +1,4 @@
--- A session stands as it did while it computes what its next event needs.
+-- A session agrees with the log while it computes up to its next event.
 use Rattle.std.proofs.Common.{◌≡◌, ℕ, zero, suc, ◌+◌, ◌-◌, ◌≤◌, ◌<◌, List, ◌∷◌, ◌++◌, drop, length, Bool, true, false, cond, Option, Some, None, refl, ap, sym, ◌∙◌, subst, arith}
 use Rattle.std.specs.Prelude.{IsSome, slice_get, slice_index_or}
 use Rattle.std.proofs.lemmas.List.{append-nil}
@@ -12,12 +12,12 @@ use Rattle.mal_meaning.specs.declared.plan.Plan.{Plan}
 use Rattle.mal_meaning.specs.Meaning.{plan_rows, plan_values}
 use Rattle.mal_print.specs.Canon.{plan_text}
 use Rattle.recycle_mark.specs.Marks.{marks_of}
-use Rattle.sql_semantics.specs.declared.refusal.Refusal.TheVariants.{Overflow}
+use Rattle.sql_definitions.specs.declared.refusal.Refusal.TheVariants.{Overflow}
 use Rattle.pool_policy.specs.declared.entry.Who.{Who}
 use Rattle.pool_policy.specs.declared.options.PoolOptions.{PoolOptions}
 use Rattle.pool_policy.specs.Keeps.{Face}
 use Rattle.recycle_pool.specs.declared.found.Found.{Found}
-use Rattle.recycle_pool.specs.declared.found.Part.{Part}
+use Rattle.recycle_pool.specs.declared.found.CoverPiece.{CoverPiece}
 use Rattle.run_log.specs.Events.{ActTree, Ends, EventTree}
 use Rattle.run_log.specs.Fold.{LogState, run_of}
 use Rattle.reply_layout.specs.declared.shown.Shown.{Shown}
@@ -27,7 +27,7 @@ use Rattle.reply_layout.specs.Doings.{Doing, Beginning, code_of, shown_in, shown
 use Rattle.answer_text.specs.Log.{Said, doing_over, shown_over}
 use Rattle.book_core.specs.Versions.{HasVersions}
 use Rattle.query_keys.specs.Keys.{AreIdsOf}
-use Rattle.query_run.specs.declared.step.Query.{Query}
+use Rattle.query_run.specs.declared.step.RunningQuery.{RunningQuery}
 use Rattle.query_run.specs.declared.step.Step.{Step}
 use Rattle.query_run.specs.declared.step.Step.TheVariants as step
 use Rattle.query_run.specs.Queries.{BecomesOf, ComesTo, EndsWith, GoesOn, HasBefore, HasMark, IsAt, IsUnderWay, all_values, has_result, id_at, result_at, value_at, was_asked}
@@ -49,23 +49,23 @@ use Rattle.session_run.proofs.NotedLemmas.{dropped, dropped_all, ids_none, noted
 -- ## What a query knows
 
 -- the values of a plan's instructions, as a query that knows the tables has them
-pub values_known : (seen : LogState) (given : List Face) (plan : Plan) (q : Query) → Knows seen given plan q → plan_values seen.db plan.instrs ≡ plan_values q.snap.db q.plan.instrs
+pub values_known : (seen : LogState) (given : List Face) (plan : Plan) (q : RunningQuery) → Knows seen given plan q → plan_values seen.db plan.instrs ≡ plan_values q.snap.db q.plan.instrs
 values_known seen given plan q k = ap (λ db. plan_values db plan.instrs) (sym k.db) ∙ ap (λ (pl : Plan). plan_values q.snap.db pl.instrs) (sym k.plan_is)
 
-pub value_known : (seen : LogState) (given : List Face) (plan : Plan) (q : Query) → Knows seen given plan q → (n : ℕ) → slice_get (plan_values seen.db plan.instrs) n ≡ value_at q n
+pub value_known : (seen : LogState) (given : List Face) (plan : Plan) (q : RunningQuery) → Knows seen given plan q → (n : ℕ) → slice_get (plan_values seen.db plan.instrs) n ≡ value_at q n
 value_known seen given plan q k n = ap (λ values. slice_get values n) (values_known seen given plan q k)
 
-pub rows_known : (seen : LogState) (given : List Face) (plan : Plan) (q : Query) → Knows seen given plan q → plan_rows plan seen.db ≡ plan_rows q.plan q.snap.db
+pub rows_known : (seen : LogState) (given : List Face) (plan : Plan) (q : RunningQuery) → Knows seen given plan q → plan_rows plan seen.db ≡ plan_rows q.plan q.snap.db
 rows_known seen given plan q k = ap (λ pl. plan_rows pl seen.db) (sym k.plan_is) ∙ ap (plan_rows q.plan) (sym k.db)
 
-pub instr_known : (seen : LogState) (given : List Face) (plan : Plan) (q : Query) → Knows seen given plan q → (n : ℕ) (instr : Instr) → slice_get q.plan.instrs n ≡ Some instr → slice_get plan.instrs n ≡ Some instr
+pub instr_known : (seen : LogState) (given : List Face) (plan : Plan) (q : RunningQuery) → Knows seen given plan q → (n : ℕ) (instr : Instr) → slice_get q.plan.instrs n ≡ Some instr → slice_get plan.instrs n ≡ Some instr
 instr_known seen given plan q k n instr here = ap (λ (pl : Plan). slice_get pl.instrs n) (sym k.plan_is) ∙ here
 
-pub mark_known : (seen : LogState) (given : List Face) (plan : Plan) (q : Query) → Knows seen given plan q → (n : ℕ) (mark : Bool) → slice_get (marks_of plan) n ≡ Some mark → HasMark q n mark
+pub mark_known : (seen : LogState) (given : List Face) (plan : Plan) (q : RunningQuery) → Knows seen given plan q → (n : ℕ) (mark : Bool) → slice_get (marks_of plan) n ≡ Some mark → HasMark q n mark
 mark_known seen given plan q k n mark is = ap (λ pl. slice_get (marks_of pl) n) k.plan_is ∙ is
 
 -- where it goes on to it knows the same
-pub goes_known : (seen : LogState) (given : List Face) (plan : Plan) (q : Query) → Knows seen given plan q → (to : Query) → GoesOn q to → Knows seen given plan to
+pub goes_known : (seen : LogState) (given : List Face) (plan : Plan) (q : RunningQuery) → Knows seen given plan q → (to : RunningQuery) → GoesOn q to → Knows seen given plan to
 goes_known seen given plan q k to g = record {
   under = g.under;
   plan_is = g.plan_is ∙ k.plan_is;
@@ -79,27 +79,27 @@ noted_as : (got : Got) (mark a b : Bool) (id id' : ℕ) (asked asked' : Bool) �
 noted_as got false a b id id' asked asked' there same was is = is
 noted_as got true a b id id' asked asked' there same was is = (let same_there = sym (there refl) in subst (λ c. IsNoted got true c id' asked') same_there (subst (λ n. IsNoted got true a n asked') (sym same) (subst (IsNoted got true a id) (sym was) is)))
 
-pub goes_noted : (results : ℕ → Got) (q to : Query) → GoesOn q to → AreNoted results q → AreNoted results to
+pub goes_noted : (results : ℕ → Got) (q to : RunningQuery) → GoesOn q to → AreNoted results q → AreNoted results to
 goes_noted results q to g noted n mark is =
     let was : HasMark q n mark = ap (λ pl. slice_get (marks_of pl) n) (sym g.plan_is) ∙ is in
     noted_as (results n) mark (has_result q n) (has_result to n) (id_at q n) (id_at to n) (was_asked q n) (was_asked to n)
     (λ marked. g.marked_same n (was ∙ ap Some marked)) (ap (λ ids. slice_index_or ids n 0) g.ids_are) (ap (λ bs. slice_index_or bs n false) g.asked_are) (noted n mark was)
 
-owes_so : (q to : Query) → GoesOn q to → OwesNone InPlan q (λ m. ⊥) → OwesNone InPlan to (λ m. ⊥)
+owes_so : (q to : RunningQuery) → GoesOn q to → OwesNone InPlan q (λ m. ⊥) → OwesNone InPlan to (λ m. ⊥)
 owes_so q to g owes n none but = ap (λ bs. slice_index_or bs n false) g.asked_are ∙ owes n (go (has_result q n) refl) but
   where
     go : (b : Bool) → has_result q n ≡ b → has_result q n ≡ false
     go false is = is
     go true is = absurd (let no : true ≡ false = sym (g.keeps n is) ∙ none in cc)
 
-goes_owes : (order : Order) (q to : Query) → GoesOn q to → OwesNone order q (λ m. ⊥) → OwesNone order to (λ m. ⊥)
+goes_owes : (order : Order) (q to : RunningQuery) → GoesOn q to → OwesNone order q (λ m. ⊥) → OwesNone order to (λ m. ⊥)
 goes_owes InPlan q to g owes = owes_so q to g owes
 goes_owes AsReady q to g owes = tt
 
 -- ## In the order of the plan
 
--- what comes next is found behind the results that are there
-module _ (results : ℕ → Got) (q : Query) (noted : AreNoted results q) (under : IsUnderWay q) where
+-- what comes next is found after the results that are there
+module _ (results : ℕ → Got) (q : RunningQuery) (noted : AreNoted results q) (under : IsUnderWay q) where
   abbrev Next_at : ℕ → Next
   Next_at n = next_from results n (drop n q.plan.instrs) (drop n (marks_of q.plan)) (drop n (all_values q))
 
@@ -129,7 +129,7 @@ module _ (results : ℕ → Got) (q : Query) (noted : AreNoted results q) (under
       let one : n + 1 ≡ suc n = omega arith in
       passed_all n (omega (arith, within)) (λ m low. before m (omega (arith, low))) ∙ passed n (omega (arith, within)) (before n (omega arith)) ∙ ap Next_at one
 
-  -- what stands at an instruction that isn't there yet
+  -- an instruction without a result
   module _ (n : ℕ) (instr : Instr) (at : IsAt q n instr) where
     abbrev inside : n < length q.plan.instrs
     inside = slice_get_within q.plan.instrs n instr at.here
@@ -179,18 +179,18 @@ module _ (order : Order) (seen : LogState) (given : List Face) (results : ℕ �
   pub shows_rows : shown_over seen.db said ≡ shown_rows (plan_rows plan seen.db)
   shows_rows = ap shown_in does
 
-  -- what comes next of a query that knows the tables is what comes next of the plan
-  pub next_known : (q : Query) → Knows seen given plan q → next_from results 0 plan.instrs (marks_of plan) (plan_values seen.db plan.instrs) ≡ next_from results 0 q.plan.instrs (marks_of q.plan) (all_values q)
+  -- the next act of a query that knows the tables is that of the plan
+  pub next_known : (q : RunningQuery) → Knows seen given plan q → next_from results 0 plan.instrs (marks_of plan) (plan_values seen.db plan.instrs) ≡ next_from results 0 q.plan.instrs (marks_of q.plan) (all_values q)
   next_known q k = λ i. next_from results 0 (sym k.plan_is i).instrs (marks_of (sym k.plan_is i)) (plan_values (sym k.db i) (sym k.plan_is i).instrs)
 
   -- it overflows, or all its results are there
-  overflow_act : (s : LogState) (who : Who) (q : Query) (n : ℕ) → Knows seen given plan q → AreNoted results q → HasBefore q n → HasMark q n false → value_at q n ≡ Some None → plan_rows plan seen.db ≡ None
+  overflow_act : (s : LogState) (who : Who) (q : RunningQuery) (n : ℕ) → Knows seen given plan q → AreNoted results q → HasBefore q n → HasMark q n false → value_at q n ≡ Some None → plan_rows plan seen.db ≡ None
       → (o : Order) → IsQueryAct o s who seen plan results (Ends overflow_code)
   overflow_act s who q n k noted before unmarked none no_rows InPlan =
       sym (ap (act_of_next s who seen.versions results) (next_known q k ∙ passed_all results q noted k.under n (let low = mark_inside q n false unmarked in omega (arith, low)) before ∙ next_faults results q noted k.under n unmarked none))
   overflow_act s who q n k noted before unmarked none no_rows AsReady = MayOverflow no_rows refl
 
-  pub finish_act : (s : LogState) (who : Who) (q : Query) → Knows seen given plan q → AreNoted results q → HasBefore q (length q.plan.instrs) → IsSome (plan_rows plan seen.db) → (o : Order) → IsQueryAct o s who seen plan results (Ends 0)
+  pub finish_act : (s : LogState) (who : Who) (q : RunningQuery) → Knows seen given plan q → AreNoted results q → HasBefore q (length q.plan.instrs) → IsSome (plan_rows plan seen.db) → (o : Order) → IsQueryAct o s who seen plan results (Ends 0)
   finish_act s who q k noted before some InPlan =
       sym (ap (act_of_next s who seen.versions results) (next_known q k ∙ passed_all results q noted k.under (length q.plan.instrs) (omega arith) before ∙ next_finishes results q noted k.under (length q.plan.instrs) refl))
   finish_act s who q k noted before some AsReady = MayFinish (λ n marked. all_got n (mark_known seen given plan q k n true marked)) some refl
@@ -198,8 +198,8 @@ module _ (order : Order) (seen : LogState) (given : List Face) (results : ℕ �
       all_got : (n : ℕ) → HasMark q n true → (id : ℕ) × (results n ≡ Has id)
       all_got n marked = (id_at q n, subst (λ b. IsNoted (results n) true b (id_at q n) (was_asked q n)) (before n (mark_inside q n true marked)) (noted n true marked))
 
-  -- so it ends
-  goes_ends : (q : Query) → Knows seen given plan q → AreNoted results q → (reply : Shown) (work : ℕ) → EndsWith q reply work → EndsSo order seen results said reply
+  -- it ends
+  goes_ends : (q : RunningQuery) → Knows seen given plan q → AreNoted results q → (reply : Shown) (work : ℕ) → EndsWith q reply work → EndsSo order seen results said reply
   goes_ends q k noted reply work (Overflows to n goes before unmarked none no_rows is no_work) =
       let none_seen = rows_known seen given plan q k ∙ no_rows in record {
         act = λ s who. later_is s who (Ends (code_of reply)) (subst (IsQueryAct order s who seen plan results) (ap (λ r. Ends (code_of r)) (sym is))
@@ -216,7 +216,7 @@ module _ (order : Order) (seen : LogState) (given : List Face) (results : ℕ �
 
 -- in the order of the plan
 module _ (seen : LogState) (given : List Face) (results : ℕ → Got) (said : Said) (plan : Plan) (does : doing_over seen.db said ≡ Beginning (Some plan) (shown_rows (plan_rows plan seen.db))) where
-  comes_on : (q : Query) → Knows seen given plan q → AreNoted results q → OwesNone InPlan q (λ m. ⊥) → (to : Step) → ComesTo q to → IsUnder InPlan seen given results said (stage.Querying to)
+  comes_on : (q : RunningQuery) → Knows seen given plan q → AreNoted results q → OwesNone InPlan q (λ m. ⊥) → (to : Step) → ComesTo q to → IsUnder InPlan seen given results said (stage.Querying to)
   comes_on q k noted owes (step.Asking to n key) comes =
       run_at InPlan seen given results said plan does (step.Asking to n key) (
         goes_known seen given plan q k to comes.0,
@@ -233,7 +233,7 @@ module _ (seen : LogState) (given : List Face) (results : ℕ → Got) (said : S
   comes_on q k noted owes (step.Offering to n offer) none = absurd none
 
   -- a result that it asked for in vain has no value
-  offer_ends : (q : Query) → Knows seen given plan q → AreNoted results q → (n : ℕ) (instr : Instr) → IsAt q n instr → was_asked q n ≡ true → HasBefore q n → value_at q n ≡ Some None → (reply : Shown) → reply ≡ shown.Refused Overflow
+  offer_ends : (q : RunningQuery) → Knows seen given plan q → AreNoted results q → (n : ℕ) (instr : Instr) → IsAt q n instr → was_asked q n ≡ true → HasBefore q n → value_at q n ≡ Some None → (reply : Shown) → reply ≡ shown.Refused Overflow
       → EndsSo InPlan seen results said reply
   offer_ends q k noted n instr at asked before none reply is = record {
     act = λ s who. later_is InPlan seen given results said plan does s who (Ends (code_of reply))
@@ -243,7 +243,7 @@ module _ (seen : LogState) (given : List Face) (results : ℕ → Got) (said : S
     shows = is ∙ sym (shows_rows InPlan seen given results said plan does ∙ ap shown_rows (rows_known seen given plan q k ∙ no_rows q n none));
   }
 
-  becomes_on : (q : Query) → Knows seen given plan q → AreNoted results q → (n : ℕ) → OwesNone InPlan q (λ m. m ≡ n) → was_asked q n ≡ true → HasBefore q n → (instr : Instr) → IsAt q n instr → (what : Found) (parts : List Part) (to : Step)
+  becomes_on : (q : RunningQuery) → Knows seen given plan q → AreNoted results q → (n : ℕ) → OwesNone InPlan q (λ m. m ≡ n) → was_asked q n ≡ true → HasBefore q n → (instr : Instr) → IsAt q n instr → (what : Found) (parts : List CoverPiece) (to : Step)
       → BecomesOf q n instr what parts to → IsUnder InPlan seen given results said (stage.Querying to)
   becomes_on q k noted n owes asked before instr at what parts (step.Offering to m offer) b =
       run_at InPlan seen given results said plan does (step.Offering to m offer)
@@ -256,7 +256,7 @@ module _ (seen : LogState) (given : List Face) (results : ℕ → Got) (said : S
   becomes_on q k noted n owes asked before instr at what parts (step.Found to m other pieces) none = absurd none
 
 -- a query that has room for its results knows the tables over which it began
-pub opened_knows : (seen : LogState) (given : List Face) (plan : Plan) (q to : Query) → Began seen plan q → IsOpened q to → Knows seen given plan to
+pub opened_knows : (seen : LogState) (given : List Face) (plan : Plan) (q to : RunningQuery) → Began seen plan q → IsOpened q to → Knows seen given plan to
 opened_knows seen given plan q to b o = record {
   under = o.under;
   plan_is = o.plan_is ∙ b.plan_is;
@@ -272,7 +272,7 @@ opened_knows seen given plan q to b o = record {
         let long = o.under.ids in
         omega (arith, many, same, long)
 
-pub opened_owes : (order : Order) (q to : Query) → IsOpened q to → OwesNone order to (λ m. ⊥)
+pub opened_owes : (order : Order) (q to : RunningQuery) → IsOpened q to → OwesNone order to (λ m. ⊥)
 opened_owes InPlan q to o = λ n none but. o.unasked n
 opened_owes AsReady q to o = tt
 
@@ -294,10 +294,10 @@ module _ (seen : LogState) (given : List Face) (results : ℕ → Got) (said : S
 
 -- an EXPLAIN ends with the text of its plan
 pub explain_on : (order : Order) (seen : LogState) (given : List Face) (results : ℕ → Got) (said : Said) (plan : Plan) (text : List ℕ) → IsUnder order seen given results said (stage.Explaining plan) → text ≡ plan_text plan
-    → IsUnder order seen given results said (stage.Querying (step.Ending (shown.Plan text) 0))
+    → IsUnder order seen given results said (stage.Querying (step.Ending (shown.Mal text) 0))
 explain_on order seen given results said plan text e is = record {
   act = λ s who. subst (λ (doing : Doing Plan). IsLaterAct order s who seen results doing (Ends 0)) (sym e.does) refl;
-  shows = ap shown.Plan is ∙ sym (ap shown_in e.does);
+  shows = ap shown.Mal is ∙ sym (ap shown_in e.does);
 }
 
 -- and it may compute
@@ -347,7 +347,7 @@ module _ (options : PoolOptions) (log : List EventTree) (x : Session) where
     stage = is;
   }
 
-  -- a query computes what its next event needs, in the order of its plan
+  -- a query computes up to its next event, in the order of its plan
   goes_computes : (from to : Step) (work : ℕ) → x.wide ≡ false → Stands options log x → x.stage ≡ stage.Querying from → Computes from to → Stands options log (restaged x work (stage.Querying to))
   goes_computes from to work narrow s is c =
       let p = progress_of x.number log in
@@ -359,7 +359,7 @@ module _ (options : PoolOptions) (log : List EventTree) (x : Session) where
       (subst (λ o. IsUnder o (state_before options log at) (run_of options log).given p.results said (stage.Querying from)) in_plan
       (subst (IsUnder (order_of x) (state_before options log at) (run_of options log).given p.results said) is under)) c)))
 
-  -- a step whose event stands stays as it is
+  -- a step that has its event stays as it is
   stays_so : (from to : Step) (work : ℕ) → Stands options log x → x.stage ≡ stage.Querying from → to ≡ from → Stands options log (restaged x work (stage.Querying to))
   stays_so from to work s is same =
       let p = progress_of x.number log in
@@ -384,11 +384,11 @@ module _ (options : PoolOptions) (log : List EventTree) (x : Session) where
       (subst (IsUnder (order_of x) (state_before options log has.at) (run_of options log).given p.results has.said) is has.under)
 
   -- an EXPLAIN prints its plan
-  pub explain_computes : (plan : Plan) (text : List ℕ) (work : ℕ) → Stands options log x → x.stage ≡ stage.Explaining plan → text ≡ plan_text plan → Stands options log (restaged x work (stage.Querying (step.Ending (shown.Plan text) 0)))
+  pub explain_computes : (plan : Plan) (text : List ℕ) (work : ℕ) → Stands options log x → x.stage ≡ stage.Explaining plan → text ≡ plan_text plan → Stands options log (restaged x work (stage.Querying (step.Ending (shown.Mal text) 0)))
   explain_computes plan text work s is printed =
       let p = progress_of x.number log in
       let has = subst (IsStage options log x p) is s.stage in
-      stands_as s work (stage.Querying (step.Ending (shown.Plan text) 0)) (ap (untold x.ended) is) (begun_as p work (stage.Querying (step.Ending (shown.Plan text) 0)) has
+      stands_as s work (stage.Querying (step.Ending (shown.Mal text) 0)) (ap (untold x.ended) is) (begun_as p work (stage.Querying (step.Ending (shown.Mal text) 0)) has
       (λ at said under. explain_on (order_of x) (state_before options log at) (run_of options log).given p.results said plan text
       (subst (IsUnder (order_of x) (state_before options log at) (run_of options log).given p.results said) is under) printed))
 

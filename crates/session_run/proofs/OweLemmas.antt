@@ -25,7 +25,7 @@ use Rattle.pool_policy.specs.Pool.{PoolState}
 use Rattle.pool_policy.specs.Versions.{Versions}
 use Rattle.run_log.specs.Events.{EventTree}
 use Rattle.query_keys.specs.Keys.{instr_key, with_version}
-use Rattle.query_run.specs.declared.step.Query.{Query}
+use Rattle.query_run.specs.declared.step.RunningQuery.{RunningQuery}
 use Rattle.query_run.specs.Queries.{GoesOn, HasArgs, HasAsked, HasGained, IsAt, IsUnderWay, has_result, key_in, result_at, versions_in, was_asked}
 use Rattle.query_run.proofs.ResultLemmas.{gained_else, gained_here}
 use Rattle.session_run.specs.Progress.{Got, noted}
@@ -35,7 +35,7 @@ use Rattle.session_run.specs.Works.{OweLoads}
 -- ## Arguments
 
 -- a variable that is known names a result that is there
-pub result_there : (q : Query) (m : ℕ) → IsSome (arg_value (known_of q.values.items) (arg.Var m)) → has_result q m ≡ true
+pub result_there : (q : RunningQuery) (m : ℕ) → IsSome (arg_value (known_of q.values.items) (arg.Var m)) → has_result q m ≡ true
 result_there q m some = go (slice_get q.values.items m) refl (subst (λ o. IsSome (unwrap_or o None)) (slice_get-map (option_map value_of) q.values.items m) some)
   where
     go : (o : Option (Option Obj)) → slice_get q.values.items m ≡ o → IsSome (unwrap_or (option_map (option_map value_of) o) None) → has_result q m ≡ true
@@ -61,7 +61,7 @@ all_known (Some v) None one more = more
 all_known None rest one more = one
 
 -- what is known stays, where results stay
-known_stays : (q to : Query) → ((m : ℕ) → has_result q m ≡ true → has_result to m ≡ true) → (args : List Arg) → IsSome (arg_values (known_of q.values.items) args) → IsSome (arg_values (known_of to.values.items) args)
+known_stays : (q to : RunningQuery) → ((m : ℕ) → has_result q m ≡ true → has_result to m ≡ true) → (args : List Arg) → IsSome (arg_values (known_of q.values.items) args) → IsSome (arg_values (known_of to.values.items) args)
 known_stays q to keep [] has = refl
 known_stays q to keep (a ∷ args) has =
     all_known (arg_value (known_of to.values.items) a) (arg_values (known_of to.values.items) args)
@@ -81,7 +81,7 @@ known_stays q to keep (a ∷ args) has =
     one (arg.Const cell) some = refl
     one (arg.Var m) some = there m (keep m (result_there q m some))
 
-pub args_stay : (q to : Query) → ((m : ℕ) → has_result q m ≡ true → has_result to m ≡ true) → (instr : Instr) → HasArgs q instr → HasArgs to instr
+pub args_stay : (q to : RunningQuery) → ((m : ℕ) → has_result q m ≡ true → has_result to m ≡ true) → (instr : Instr) → HasArgs q instr → HasArgs to instr
 args_stay q to keep instr has = known_stays q to keep instr.args has
 
 -- ## Keys
@@ -94,7 +94,7 @@ taken_same (i ∷ ids) (suc m) zero id (suc v) apart = refl
 taken_same (i ∷ ids) (suc m) (suc n) id zero apart = refl
 taken_same (i ∷ ids) (suc m) (suc n) id (suc v) apart = taken_same ids m n id v (λ same. apart (ap suc same))
 
-args_same : (q : Query) (ids : List ℕ) (m n id : ℕ) → has_result q n ≡ false → (args : List Arg) → IsSome (arg_values (known_of q.values.items) args) → map (arg_for (take m (slice_set ids n id))) args ≡ map (arg_for (take m ids)) args
+args_same : (q : RunningQuery) (ids : List ℕ) (m n id : ℕ) → has_result q n ≡ false → (args : List Arg) → IsSome (arg_values (known_of q.values.items) args) → map (arg_for (take m (slice_set ids n id))) args ≡ map (arg_for (take m ids)) args
 args_same q ids m n id open_ [] has = refl
 args_same q ids m n id open_ (a ∷ args) has =
     (λ i. one a (first_known (arg_value (known_of q.values.items) a) (arg_values (known_of q.values.items) args) has) i
@@ -105,7 +105,7 @@ args_same q ids m n id open_ (a ∷ args) has =
     one (arg.Var v) some = ap Id (taken_same ids m n id v (λ same. let no : true ≡ false = sym (result_there q v some) ∙ ap (has_result q) same ∙ open_ in cc))
 
 -- the key of an instruction whose arguments are there stays
-pub key_stays : (q to : Query) (n : ℕ) (result : Obj) (id work : ℕ) → HasGained q n result id work to → has_result q n ≡ false → (m : ℕ) (instr : Instr) → HasArgs q instr → key_in to m instr ≡ key_in q m instr
+pub key_stays : (q to : RunningQuery) (n : ℕ) (result : Obj) (id work : ℕ) → HasGained q n result id work to → has_result q n ≡ false → (m : ℕ) (instr : Instr) → HasArgs q instr → key_in to m instr ≡ key_in q m instr
 key_stays q to n result id work g open_ m instr has =
     (λ i. with_version (versions_in (g.snap_is i)) (key_for instr (take m (g.ids_are i)) 0))
     ∙ ap (λ (args : List KeyArg). with_version (versions_in q.snap) (record { op = instr.op; args = args; version = 0 })) (args_same q q.ids.items m n id open_ instr.args has)
@@ -113,11 +113,11 @@ key_stays q to n result id work g open_ m instr has =
 -- ## Loads
 
 module _ (options : PoolOptions) where
-  abbrev IsLoad : List EventTree → Got → Query → ℕ → Instr → Type 0
+  abbrev IsLoad : List EventTree → Got → RunningQuery → ℕ → Instr → Type 0
   IsLoad log got q m instr = (load pairs : ℕ) → work_by (pool_asked options log got) (look_of (pool_asked options log got) (key_in q m instr)) load pairs ≡ load
 
   -- a query goes on
-  pub goes_owe : (log : List EventTree) (results : ℕ → Got) (q to : Query) → GoesOn q to → OweLoads options log results q (λ m. ⊥) → OweLoads options log results to (λ m. ⊥)
+  pub goes_owe : (log : List EventTree) (results : ℕ → Got) (q to : RunningQuery) → GoesOn q to → OweLoads options log results q (λ m. ⊥) → OweLoads options log results to (λ m. ⊥)
   goes_owe log results q to g owes m instr at asked apart =
       let marked : slice_get (marks_of q.plan) m ≡ Some true = ap (λ pl. slice_get (marks_of pl) m) (sym g.plan_is) ∙ at.marked in
       let was : IsAt q m instr = record { here = ap (λ (p : Plan). slice_get p.instrs m) (sym g.plan_is) ∙ at.here; marked = marked; open_ = sym (g.marked_same m marked) ∙ at.open_ } in
@@ -126,7 +126,7 @@ module _ (options : PoolOptions) where
       (args_stay q to g.keeps instr both.0, λ load pairs. subst (λ key. work_by (pool_asked options log (results m)) (look_of (pool_asked options log (results m)) key) load pairs ≡ load) (sym same) (both.1 load pairs))
 
   -- it gains a result
-  pub gains_owe : (log later : List EventTree) (results : ℕ → Got) (q to : Query) (n : ℕ) (own : Instr) (result : Obj) (id work : ℕ) (got : Got) {but : ℕ → Type 0} → IsAt q n own → IsUnderWay q → HasGained q n result id work to
+  pub gains_owe : (log later : List EventTree) (results : ℕ → Got) (q to : RunningQuery) (n : ℕ) (own : Instr) (result : Obj) (id work : ℕ) (got : Got) {but : ℕ → Type 0} → IsAt q n own → IsUnderWay q → HasGained q n result id work to
       → ((m : ℕ) → but m → m ≡ n) → ((m : ℕ) → pool_asked options later (results m) ≡ pool_asked options log (results m)) → OweLoads options log results q but → OweLoads options later (noted n got results) to (λ m. ⊥)
   gains_owe log later results q to n own result id work got own_at under g only same_pool owes m instr at asked free = go (m == n) refl
     where
@@ -159,7 +159,7 @@ module _ (options : PoolOptions) where
               by false not_n = ap is_some (gained_else q to n result id work g inside k (eqb-false k n not_n)) ∙ there
 
   -- it asks in vain
-  pub asks_owe : (log later : List EventTree) (results : ℕ → Got) (q to : Query) (n : ℕ) (got : Got) → HasAsked q n to → ((m : ℕ) → pool_asked options later (results m) ≡ pool_asked options log (results m))
+  pub asks_owe : (log later : List EventTree) (results : ℕ → Got) (q to : RunningQuery) (n : ℕ) (got : Got) → HasAsked q n to → ((m : ℕ) → pool_asked options later (results m) ≡ pool_asked options log (results m))
       → OweLoads options log results q (λ m. ⊥) → OweLoads options later (noted n got results) to (λ m. m ≡ n)
   asks_owe log later results q to n got a same_pool owes m instr at asked apart =
       subst (λ g. HasArgs to instr × ((load pairs : ℕ) → work_by (pool_asked options later g) (look_of (pool_asked options later g) (key_in to m instr)) load pairs ≡ load)) (sym (ap (λ b. cond b got (results m)) (ne_eqb m n apart))) (

@@ -37,7 +37,7 @@ event_by x act = record { session = x.number; statement = x.ended + 1; act = act
 abbrev pub replied : Session → ℕ → Shown → Session
 replied x work reply = record x { ended = x.ended + 1; work = work; stage = stage.Telling reply }
 
--- a book's log with one event more
+-- a book's log with one more event
 pub tree_more : (log : List Event) (event : Event) → log_tree (log ++ event ∷ []) ≡ log_tree log ++ event_tree event ∷ []
 tree_more log event = map-append event_tree log (event ∷ [])
 
@@ -96,7 +96,7 @@ module _ (options : PoolOptions) (log : List EventTree) (x : Session) (s : Stand
     progress_is : progress_of x.number later ≡ after
     progress_is = own_progress x.number log (event_by x act) refl
 
-    -- the fields that no event changes, and those that the places of its statements tell
+    -- the fields that no event changes, and those by the places of its statements
     at_stage : (work : ℕ) (now : Stage) → untold x.ended x.stage ≡ [] → untold x.ended now ≡ [] → after.ended ≡ x.ended → ArePlaced x.number (opened after after.begun) later
         → replies_text later x.number s.readings ≡ replies_text log x.number s.readings → IsStage options later (restaged x work now) after now → Stands options later (restaged x work now)
     at_stage work now told tell ended placed replies is = record {

@@ -4,23 +4,24 @@ use Rattle.std.specs.Prelude.{Result, Ok, Err, slice_get, ◌==◌}
 use Rattle.std.specs.Option.{option_and_then, option_map_or}
 use Rattle.std.proofs.lemmas.Bool.{eq-eqb}
 use Rattle.std.proofs.lemmas.Option.{same_Some}
+use Rattle.cell_core.proofs.ListLemmas.{slice_get-append_middle}
 use Rattle.cell_core.specs.declared.operator.Instr.{Instr}
 use Rattle.cell_core.specs.Pairs.{Pairs}
 use Rattle.mal_meaning.specs.declared.plan.Plan.{Plan}
 use Rattle.lineage_key.specs.declared.key.Key.{Key}
 use Rattle.sql_tree.specs.Tree.{QueryTree, StmtTree}
 use Rattle.sql_tree.specs.Tree.StmtTree.{Select, ExplainSelect}
-use Rattle.sql_semantics.specs.declared.refusal.Refusal.{Refusal}
+use Rattle.sql_definitions.specs.declared.refusal.Refusal.{Refusal}
 use Rattle.pool_policy.specs.declared.options.Admitted.{Admitted}
 use Rattle.pool_policy.specs.declared.options.PoolOptions.{PoolOptions}
 use Rattle.pool_policy.specs.Looks.{look_of}
 use Rattle.table_store.specs.Content.{Content}
-use Rattle.run_log.specs.declared.event.Looked.{Looked}
+use Rattle.run_log.specs.declared.event.FoundLog.{FoundLog}
 use Rattle.run_log.specs.Events.{ActTree, Begins, Looks, Admits, Writes, Ends, EventTree, act_tree, looked_of}
 use Rattle.query_keys.specs.Laws.{id_given}
 use Rattle.recycle_pool.specs.Answers.{HandsOut, told}
 use Rattle.recycle_pool.specs.declared.found.Found.{Found}
-use Rattle.recycle_pool.specs.declared.found.Part.{Part}
+use Rattle.recycle_pool.specs.declared.found.CoverPiece.{CoverPiece}
 use Rattle.pool_policy.specs.Looks.Finding.{Exact}
 use Rattle.pool_policy.specs.Pool.{PoolState}
 use Rattle.bat_core.specs.declared.shared.Obj.TheVariants as obj
@@ -31,7 +32,7 @@ use Rattle.reply_layout.specs.declared.shown.Shown.{Shown}
 use Rattle.reply_layout.specs.Doings.{code_of}
 use Rattle.book_core.specs.Begins.{begin_act}
 use Rattle.query_keys.specs.Keys.{instr_key}
-use Rattle.query_run.specs.declared.step.Query.{Query}
+use Rattle.query_run.specs.declared.step.RunningQuery.{RunningQuery}
 use Rattle.query_run.specs.declared.step.Offer.{Offer}
 use Rattle.query_run.specs.declared.step.Step.{Step}
 use Rattle.query_run.specs.declared.step.Step.TheVariants as step
@@ -52,10 +53,6 @@ use Rattle.session_run.proofs.OutsideLemmas.{restaged}
 use Rattle.session_run.proofs.OwnLemmas.{event_by, replied}
 use Rattle.session_run.proofs.WorkLemmas.{own_more, planned_next, pool_stays, progress_within}
 use Rattle.session_run.proofs.TurnLemmas.{in_vain}
-
-get_last : {X : Type 0} (xs : List X) (x : X) → slice_get (xs ++ x ∷ []) (length xs) ≡ Some x
-get_last [] x = refl
-get_last (y ∷ xs) x = get_last xs x
 
 module _ (options : PoolOptions) (log : List EventTree) (x : Session) where
   abbrev p : Progress
@@ -93,7 +90,7 @@ module _ (options : PoolOptions) (log : List EventTree) (x : Session) where
   plan_next : (code : ℕ) (plan : Option Plan) → plan_begun (later (Begins code plan)) (behind (Begins code plan)) ≡ plan
   plan_next code plan =
       let last : (length log + 1) - 1 ≡ length log = omega arith in
-      let found = get_last log (event_by x (Begins code plan)) in
+      let found = slice_get-append_middle log (event_by x (Begins code plan)) [] in
       ap (λ n. option_and_then (λ (e : EventTree). plan_in e.act) (slice_get (later (Begins code plan)) n)) last ∙ ap (option_and_then (λ (e : EventTree). plan_in e.act)) found
 
   tables_next : (code : ℕ) (plan : Option Plan) → tables_begun options (later (Begins code plan)) (behind (Begins code plan)) ≡ now.db
@@ -143,31 +140,31 @@ module _ (options : PoolOptions) (log : List EventTree) (x : Session) where
 
   -- ## A query goes on
 
-  goes_planned : (act : ActTree) → (behind act).begun ≡ p.begun → (q : Query) → IsPlanned options log p q → IsPlanned options (later act) (behind act) q
+  goes_planned : (act : ActTree) → (behind act).begun ≡ p.begun → (q : RunningQuery) → IsPlanned options log p q → IsPlanned options (later act) (behind act) q
   goes_planned act same q k = planned_next options log (event_by x act) p (progress_within x.number log) (behind act) same q k
 
-  -- the pool at a look is the same behind the next event
+  -- the pool at a look is the same after the next event
   pools_stay : (act : ActTree) (m : ℕ) → pool_asked options (later act) (p.results m) ≡ pool_asked options log (p.results m)
   pools_stay act m = pool_stays options log (event_by x act) p (progress_within x.number log) m
 
-  module _ (q : Query) (n : ℕ) (key : Key) (asks : AsksFor q n key) (under : IsUnderWay q) (k : IsPlanned options log p q) (owes : OweLoads options log p.results q (λ m. ⊥)) where
-    abbrev found : Looked
+  module _ (q : RunningQuery) (n : ℕ) (key : Key) (asks : AsksFor q n key) (under : IsUnderWay q) (k : IsPlanned options log p q) (owes : OweLoads options log p.results q (λ m. ⊥)) where
+    abbrev found : FoundLog
     found = looked_of (look_of now.pool key)
 
     abbrev look : ActTree
     look = Looks (n + 1) key found
 
-    planned : (r : ℕ → Got) (to : Query) → to.snap ≡ q.snap → to.plan ≡ q.plan → IsPlanned options (later look) (record (behind look) { results = r }) to
+    planned : (r : ℕ → Got) (to : RunningQuery) → to.snap ≡ q.snap → to.plan ≡ q.plan → IsPlanned options (later look) (record (behind look) { results = r }) to
     planned r to snap plan = let same = goes_planned look refl q k in record { plan = same.plan ∙ ap Some (sym plan); db = same.db ∙ ap (λ (content : Content). content.db) (sym snap) }
 
     abbrev Worked_at : ℕ → Step → Type 0
     Worked_at m to = IsWorkedStep options (later look) (record (behind look) { results = noted m (got_by (length log + 1) found) p.results }) to
 
-    look_open : (to : Query) (id : ℕ) (value : Pairs) → HasGained q n (obj.Bat value) id q.work to → Worked_at n (step.Open to)
+    look_open : (to : RunningQuery) (id : ℕ) (value : Pairs) → HasGained q n (obj.Bat value) id q.work to → Worked_at n (step.Open to)
     look_open to id value g =
         (planned _ to g.snap_is g.plan_is, gains_owe options log (later look) p.results q to n asks.instr (obj.Bat value) id q.work (got_by (length log + 1) found) asks.at under g (λ m none. absurd none) (pools_stay look) owes)
 
-    look_found : (to : Query) (what : Found) (parts : Vec Part Global) → HasAsked q n to → told what parts.items ≡ look_of now.pool key → HandsOut now.pool.entries what parts.items → ((id : ℕ) → look_of now.pool key ≡ Exact id → ⊥) → Worked_at n (step.Found to n what parts)
+    look_found : (to : RunningQuery) (what : Found) (parts : Vec CoverPiece Global) → HasAsked q n to → told what parts.items ≡ look_of now.pool key → HandsOut now.pool.entries what parts.items → ((id : ℕ) → look_of now.pool key ≡ Exact id → ⊥) → Worked_at n (step.Found to n what parts)
     look_found to what parts a same out not_exact = (
       planned _ to a.snap_is a.plan_is,
       asks_owe options log (later look) p.results q to n (got_by (length log + 1) found) a (pools_stay look) owes,
@@ -192,7 +189,7 @@ module _ (options : PoolOptions) (log : List EventTree) (x : Session) where
     look_step (step.Ending reply work) none = absurd none
 
   -- a query asks
-  pub look_worked : Stands options log x → IsWorked options log x → (q : Query) (n : ℕ) (key : Key) (to : Step) → x.stage ≡ stage.Querying (step.Asking q n key) → IsLooked q n now.pool key to
+  pub look_worked : Stands options log x → IsWorked options log x → (q : RunningQuery) (n : ℕ) (key : Key) (to : Step) → x.stage ≡ stage.Querying (step.Asking q n key) → IsLooked q n now.pool key to
       → IsWorked options (later (Looks (n + 1) key (looked_of (look_of now.pool key)))) (restaged x x.work (stage.Querying to))
   look_worked s w q n key to is looked =
       let has = subst (IsStage options log x p) is s.stage in
@@ -202,7 +199,7 @@ module _ (options : PoolOptions) (log : List EventTree) (x : Session) where
       (subst (λ m. Worked_at q n key run.step.3 run.step.0.under worked.0 worked.1 m to) (sym (one_less n)) (look_step q n key run.step.3 run.step.0.under worked.0 worked.1 to looked))
 
   -- a query offers
-  pub offer_worked : Stands options log x → IsWorked options log x → (q : Query) (n : ℕ) (offer : Offer) (result : Admitted) (id : ℕ) → x.stage ≡ stage.Querying (step.Offering q n offer) → (to : Query) → HasGained q n (obj.Bat offer.value) id q.work to
+  pub offer_worked : Stands options log x → IsWorked options log x → (q : RunningQuery) (n : ℕ) (offer : Offer) (result : Admitted) (id : ℕ) → x.stage ≡ stage.Querying (step.Offering q n offer) → (to : RunningQuery) → HasGained q n (obj.Bat offer.value) id q.work to
       → IsWorked options (later (Admits (n + 1) offer.key result)) (restaged x (x.work + offer.done) (stage.Querying (step.Open to)))
   offer_worked s w q n offer result id is to g =
       let act = Admits (n + 1) offer.key result in

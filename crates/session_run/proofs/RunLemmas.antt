@@ -25,7 +25,7 @@ follow_front s (event ∷ log) more all = (all.0, follow_front (after s event) l
 pub lawful_front : (options : PoolOptions) (log more : List EventTree) → IsLawful options (log ++ more) → IsLawful options log
 lawful_front options log more lawful = follow_front (log_start options) log more lawful
 
--- a session stands as it did, whatever events of others come next
+-- a session agrees with the log, whatever events of others come next
 pub others_along : (options : PoolOptions) (x : Session) (log more : List EventTree) → IsLawful options (log ++ more) → AllByRecursion (λ (event : EventTree). (event.session == x.number) ≡ false) more
     → Stands options log x → Stands options (log ++ more) x
 others_along options x log [] lawful others s = subst (λ (events : List EventTree). Stands options events x) (sym (append-nil log)) s

@@ -1,4 +1,4 @@
--- How a session stands by its stages.
+-- A session agrees with the log, by its stages.
 use Rattle.std.proofs.Common.{◌≡◌, ℕ, ◌≤◌, List, [], ◌∷◌, ◌++◌, take, length, Bool, Some, None, Result, Ok, Err, refl, ap, sym, ◌∙◌, subst, arith}
 use Rattle.std.specs.Prelude.{IfOk, slice_get}
 use Rattle.std.specs.declared.vec.Vec.{Vec}
@@ -12,8 +12,8 @@ use Rattle.recycle_mark.specs.Marks.{marks_of}
 use Rattle.sql_tree.specs.declared.tree.Stmt.{Stmt}
 use Rattle.sql_tree.specs.Tree.{QueryTree}
 use Rattle.sql_tree.specs.Tree.StmtTree.{Select, ExplainSelect}
-use Rattle.sql_semantics.specs.Answer.{answer, answer_of_stmt}
-use Rattle.sql_semantics.specs.declared.refusal.Refusal.{Refusal}
+use Rattle.sql_definitions.specs.Answer.{answer, answer_of_stmt}
+use Rattle.sql_definitions.specs.declared.refusal.Refusal.{Refusal}
 use Rattle.read_laws.specs.Answered.{Reads}
 use Rattle.plan_queries.specs.Plans.{plan_over, refusal_over}
 use Rattle.pool_policy.specs.declared.options.PoolOptions.{PoolOptions}
@@ -113,7 +113,7 @@ read_on options log x s is next reads = go next reads
     go (stage.Explaining plan) never = absurd never
     go (stage.Telling reply) never = absurd never
 
--- a session whose next statement is read stands between statements too
+-- a session whose next statement is read is between statements too
 pub read_between : (options : PoolOptions) (log : List EventTree) (x : Session) → Stands options log x → (read : Result Stmt Refusal) → x.stage ≡ stage.Reading read → Stands options log (at_stage x stage.Between) × HasRead x.pieces x.ended read
 read_between options log x s read is =
     let has = subst (IsStage options log x (progress_of x.number log)) is s.stage in
@@ -165,7 +165,7 @@ module _ (options : PoolOptions) (log : List EventTree) (x : Session) (s : Stand
       subst (λ to. Stands options log (record x { text = text; work = work; stage = to })) (sym c.0)
       (retold_stands options log (restaged x work _) text c.1 (explain_computes options log x plan (plan_text plan) work s is refl))
 
-  -- and stands as before
+  -- and agrees with the log as before
   pub computed_stands : GoesInPlan x x.stage → (new : Session) → HasComputed x new → Stands options log new
   computed_stands in_plan new c =
       subst (Stands options log) (λ i. record {
@@ -184,7 +184,7 @@ module _ (options : PoolOptions) (log : List EventTree) (x : Session) (s : Stand
   abbrev now : LogState
   now = run_of options log
 
-  -- the session's next event, and where it stands behind it
+  -- the session's next event, and its progress after it
   abbrev Does : ActTree → Session → Type 0
   Does act new = IsNext (order_of x) options x.pieces x.number log (event_by x act) × Stands options (log ++ event_by x act ∷ []) new
 
@@ -225,7 +225,7 @@ module _ (options : PoolOptions) (log : List EventTree) (x : Session) (s : Stand
       subst (λ to. Does (act_tree (begin_act (ExplainSelect query) (Err refusal))) (restaged x work to)) (sym begins)
       (refused_begins options log x s is piece here (Ok (ExplainSelect query)) refusal work read (ap (Beginning None) (explain_refuses (refusal_over now.db (ExplainSelect query)) refusal (plan_over now.db query) (plan_text (plan_over now.db query)) outcome)))
 
--- and then it has just begun, or ends
+-- it has then just begun, or ends
 pub begins_so : (snap : Content) (marks : List Bool) (outcome : Result Plan Refusal) (next : Stage) → BeginsWith snap marks outcome next → MayBegin next
 begins_so snap marks (Ok plan) next begins = subst MayBegin (sym begins.1) tt
 begins_so snap marks (Err refusal) next begins = subst MayBegin (sym begins) tt
@@ -234,6 +234,6 @@ pub explained_so : (outcome : Result Plan Refusal) (next : Stage) → next ≡ e
 explained_so (Ok plan) next begins = subst MayBegin (sym begins) tt
 explained_so (Err refusal) next begins = subst MayBegin (sym begins) tt
 
--- so behind a statement that has ended
+-- likewise after a statement that has ended
 pub told_so : (x y : Session) (reply : Shown) → y ≡ with_reply x reply → MayBegin y.stage
 told_so x y reply is = subst (λ (z : Session). MayBegin z.stage) (sym is) tt

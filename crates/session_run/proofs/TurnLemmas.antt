@@ -36,7 +36,7 @@ use Rattle.pool_policy.specs.Worths.{worth, WorthsStay}
 use Rattle.recycle_pool.specs.Answers.{ArePooled, HandsOut, piece_in, told}
 use Rattle.recycle_pool.specs.declared.found.Found.{Found}
 use Rattle.recycle_pool.specs.declared.found.Found.TheVariants as found
-use Rattle.recycle_pool.specs.declared.found.Part.{Part}
+use Rattle.recycle_pool.specs.declared.found.CoverPiece.{CoverPiece}
 use Rattle.run_log.specs.Events.{ActTree, Looks, Admits, EventTree, looked_of}
 use Rattle.run_log.specs.Fold.{LogState, after_admission, key_offer, run_of}
 use Rattle.run_log.proofs.LogLemmas.{run_more}
@@ -48,7 +48,7 @@ use Rattle.query_keys.specs.Laws.{Serves as ServesIn}
 use Rattle.query_keys.proofs.OfferLemmas.{offers_fit_all}
 use Rattle.query_keys.proofs.RangeLemmas.{found_serves_all}
 use Rattle.query_keys.proofs.WorthLemmas.{given_are_worth_all}
-use Rattle.query_run.specs.declared.step.Query.{Query}
+use Rattle.query_run.specs.declared.step.RunningQuery.{RunningQuery}
 use Rattle.query_run.specs.declared.step.Offer.{Offer}
 use Rattle.query_run.specs.declared.step.Step.{Step}
 use Rattle.query_run.specs.declared.step.Step.TheVariants as step
@@ -69,25 +69,25 @@ use Rattle.session_run.proofs.OwnLemmas.{event_by, goes_stands, next_is}
 
 -- ## Pieces
 
-piece_value : (pool : PoolState) (part : Part) → value_in (faces pool.entries) part.id ≡ Some part.value → value_of pool part.id ≡ part.value
+piece_value : (pool : PoolState) (part : CoverPiece) → value_in (faces pool.entries) part.id ≡ Some part.value → value_of pool part.id ≡ part.value
 piece_value pool part pooled = ap (λ o. unwrap_or o []) pooled
 
-pieces_same : (pool : PoolState) (parts : List Part) → ArePooled pool.entries parts
-    → map (λ (piece : Entry). selected_in piece.1 (value_of pool piece.0)) (map piece_in parts) ≡ map (λ (part : Part). selected_in part.span part.value) parts
+pieces_same : (pool : PoolState) (parts : List CoverPiece) → ArePooled pool.entries parts
+    → map (λ (piece : Entry). selected_in piece.1 (value_of pool piece.0)) (map piece_in parts) ≡ map (λ (part : CoverPiece). selected_in part.span part.value) parts
 pieces_same pool [] are = refl
 pieces_same pool (part ∷ parts) are =
     ap (λ value. selected_in part.span value ∷ map (λ (piece : Entry). selected_in piece.1 (value_of pool piece.0)) (map piece_in parts)) (piece_value pool part are.0)
     ∙ ap (λ more. selected_in part.span part.value ∷ more) (pieces_same pool parts are.1)
 
-pieces_rise : (pool : PoolState) (parts : List Part) → ArePooled pool.entries parts → AllByRecursion (λ (piece : Entry). rises (heads_of (selected_in piece.1 (value_of pool piece.0))) ≡ true) (map piece_in parts)
-    → AllByRecursion (λ (part : Part). rises (heads_of (selected_in part.span part.value)) ≡ true) parts
+pieces_rise : (pool : PoolState) (parts : List CoverPiece) → ArePooled pool.entries parts → AllByRecursion (λ (piece : Entry). rises (heads_of (selected_in piece.1 (value_of pool piece.0))) ≡ true) (map piece_in parts)
+    → AllByRecursion (λ (part : CoverPiece). rises (heads_of (selected_in part.span part.value)) ≡ true) parts
 pieces_rise pool [] are rise = tt
 pieces_rise pool (part ∷ parts) are rise =
     (ap (λ value. rises (heads_of (selected_in part.span value))) (sym (piece_value pool part are.0)) ∙ rise.0, pieces_rise pool parts are.1 rise.1)
 
 -- ## Marked instructions
 
-module _ (seen : LogState) (given : List Face) (plan : Plan) (q : Query) (k : Knows seen given plan q) (results : ℕ → Got) (noted_so : AreNoted results q) where
+module _ (seen : LogState) (given : List Face) (plan : Plan) (q : RunningQuery) (k : Knows seen given plan q) (results : ℕ → Got) (noted_so : AreNoted results q) where
   versions_same : versions_in q.snap ≡ seen.versions
   versions_same = λ i table column. k.versions table column i
 
@@ -97,7 +97,7 @@ module _ (seen : LogState) (given : List Face) (plan : Plan) (q : Query) (k : Kn
   many_marks : length (marks_of q.plan) ≡ length q.ids.items
   many_marks = as_many_marks q.plan ∙ sym k.under.ids
 
-  -- the key is that which the log has
+  -- the key is that of the log
   pub key_logged : (n : ℕ) (instr : Instr) → n ≤ length q.plan.instrs → key_at seen.versions results n instr ≡ key_in q n instr
   key_logged n instr within =
       ap (instr_key instr seen.versions) (ids_noted results q noted_so k.under n many_marks (let many = k.under.ids in omega (arith, many, within))) ∙ sym (key_known n instr)
@@ -128,17 +128,17 @@ module _ (seen : LogState) (given : List Face) (plan : Plan) (q : Query) (k : Kn
               go args (others_known (arg_value (known_of q.values.items) (Var m)) (arg_values (known_of q.values.items) args) has),
             )
 
--- ## What is found serves
+-- ## What a look found serves
 
--- from what the laws say of a state to what a query sees
-module _ (seen s : LogState) (given : List Face) (plan : Plan) (q : Query) (k : Knows seen given plan q) (n : ℕ) (instr : Instr) (long : length (take n q.ids.items) ≡ n) (serves : ServesIn seen s plan (take n q.ids.items) instr) where
+-- from the laws of a state to what a query sees
+module _ (seen s : LogState) (given : List Face) (plan : Plan) (q : RunningQuery) (k : Knows seen given plan q) (n : ℕ) (instr : Instr) (long : length (take n q.ids.items) ≡ n) (serves : ServesIn seen s plan (take n q.ids.items) instr) where
   abbrev key_seen : Key
   key_seen = instr_key instr seen.versions (take n q.ids.items)
 
   value_seen : (o : Option (Option Value)) → value_there seen plan (take n q.ids.items) ≡ o → value_at q n ≡ o
   value_seen o is = sym (value_known seen given plan q k n) ∙ ap (slice_get (plan_values seen.db plan.instrs)) (sym long) ∙ is
 
-  found_serve : (what : Found) (parts : List Part) → told what parts ≡ look_of s.pool key_seen → HandsOut s.pool.entries what parts → ((id : ℕ) → look_of s.pool key_seen ≡ Exact id → ⊥) → Serves q n instr what parts
+  found_serve : (what : Found) (parts : List CoverPiece) → told what parts ≡ look_of s.pool key_seen → HandsOut s.pool.entries what parts → ((id : ℕ) → look_of s.pool key_seen ≡ Exact id → ⊥) → Serves q n instr what parts
   found_serve (found.Exact id value) parts same out not_exact = not_exact id (sym same)
   found_serve (found.Within id value) parts same out not_exact =
       let w = serves.within id value (sym same) out.0 in
@@ -170,7 +170,7 @@ module _ (options : PoolOptions) (log : List EventTree) (lawful : IsLawful optio
   abbrev order : Order
   order = order_of x
 
-  marked_at : (at : ℕ) (plan : Plan) (q : Query) (k : Knows (state_before options log at) now.given plan q) → AreNoted p.results q → (n : ℕ) (instr : Instr) → IsAt q n instr → IsMarkedAt (state_before options log at) now plan (take n q.ids.items) instr
+  marked_at : (at : ℕ) (plan : Plan) (q : RunningQuery) (k : Knows (state_before options log at) now.given plan q) → AreNoted p.results q → (n : ℕ) (instr : Instr) → IsAt q n instr → IsMarkedAt (state_before options log at) now plan (take n q.ids.items) instr
   marked_at at plan q k noted_so n instr here =
       let seen = state_before options log at in
       let long = taken_long seen now.given plan q k p.results noted_so n instr here in
@@ -184,7 +184,7 @@ module _ (options : PoolOptions) (log : List EventTree) (lawful : IsLawful optio
         ids_of = ids_front now.given q.ids.items (plan_values seen.db plan.instrs) n k.ids;
       }
 
-  module _ (q : Query) (n : ℕ) (key : Key) (is : x.stage ≡ stage.Querying (step.Asking q n key)) where
+  module _ (q : RunningQuery) (n : ℕ) (key : Key) (is : x.stage ≡ stage.Querying (step.Asking q n key)) where
     asking : HasBegun options log x p
     asking = subst (IsStage options log x p) is s.stage
 
@@ -250,7 +250,7 @@ module _ (options : PoolOptions) (log : List EventTree) (lawful : IsLawful optio
     run_behind : (given : List Face) (results : ℕ → Got) (at : Step) → IsStep order seen given asked_plan results at → IsRun order seen given results asking.said at
     run_behind given results at step = record { plan = run.plan; does = run.does; step = step }
 
-    gained : (given : List Face) → WorthsStay now.given given → (to : Query) (value : Pairs) (id : ℕ) → HasGained q n (obj.Bat value) id q.work to → look_of now.pool key ≡ Exact id → value_in (faces now.pool.entries) id ≡ Some value
+    gained : (given : List Face) → WorthsStay now.given given → (to : RunningQuery) (value : Pairs) (id : ℕ) → HasGained q n (obj.Bat value) id q.work to → look_of now.pool key ≡ Exact id → value_in (faces now.pool.entries) id ≡ Some value
         → IsUnder order seen given (behind (look_of now.pool key)) asking.said (stage.Querying (step.Open to))
     gained given stay to value id g exact pooled =
         let serves = look_serves.exact id value (subst (λ named. look_of now.pool named ≡ Exact id) asked_key exact) pooled in
@@ -262,7 +262,7 @@ module _ (options : PoolOptions) (log : List EventTree) (lawful : IsLawful optio
           gained_owes order q to n asks.instr asks.at asker_knows.under value id g (λ m none. absurd none) run.step.2,
         ))
 
-    found_behind : (given : List Face) → WorthsStay now.given given → (to : Query) (what : Found) (parts : Vec Part Global) → HasAsked q n to → told what parts.items ≡ look_of now.pool key → HandsOut now.pool.entries what parts.items
+    found_behind : (given : List Face) → WorthsStay now.given given → (to : RunningQuery) (what : Found) (parts : Vec CoverPiece Global) → HasAsked q n to → told what parts.items ≡ look_of now.pool key → HandsOut now.pool.entries what parts.items
         → ((id : ℕ) → look_of now.pool key ≡ Exact id → ⊥) → IsUnder order seen given (behind (look_of now.pool key)) asking.said (stage.Querying (step.Found to n what parts))
     found_behind given stay to what parts a same out not_exact =
         let keyed = ap (look_of now.pool) asked_key in
@@ -297,7 +297,7 @@ module _ (options : PoolOptions) (log : List EventTree) (lawful : IsLawful optio
 
   -- ## A query offers
 
-  module _ (q : Query) (n : ℕ) (offer : Offer) (is : x.stage ≡ stage.Querying (step.Offering q n offer)) where
+  module _ (q : RunningQuery) (n : ℕ) (offer : Offer) (is : x.stage ≡ stage.Querying (step.Offering q n offer)) where
     offering : HasBegun options log x p
     offering = subst (IsStage options log x p) is s.stage
 
@@ -391,7 +391,7 @@ module _ (options : PoolOptions) (log : List EventTree) (lawful : IsLawful optio
     abbrev admitted : List EventTree
     admitted = log ++ event_by x admission ∷ []
 
-    -- the id that it is given is worth its value
+    -- its new id is worth its value
     given_worth : 0 < id → worth (run_of options admitted).given id ≡ Some offer.value
     given_worth above =
         ap (λ (t : LogState). worth t.given id) (run_more options log (event_by x admission))
@@ -399,7 +399,7 @@ module _ (options : PoolOptions) (log : List EventTree) (lawful : IsLawful optio
         (given_are_worth_all since now plan (take n q.ids.items) instr offer.value who offer_marked value_is) above
 
     -- a query has offered
-    pub query_offers : (to : Query) (work : ℕ) → HasGained q n (obj.Bat offer.value) id q.work to → IsLawful options admitted
+    pub query_offers : (to : RunningQuery) (work : ℕ) → HasGained q n (obj.Bat offer.value) id q.work to → IsLawful options admitted
         → IsNext order options x.pieces x.number log (event_by x admission) × Stands options admitted (restaged x work (stage.Querying (step.Open to)))
     query_offers to work g lawful_later = (
       next_is options log x s offering.piece offering.here offering.said offering.read admission admission_next,

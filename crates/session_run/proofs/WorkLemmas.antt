@@ -1,10 +1,11 @@
--- The stated work of a log with one event more, and of sessions of which it is none.
+-- The stated work of a log with one more event, and of sessions to which it doesn't belong.
 use Rattle.std.proofs.Common.{◌≡◌, ℕ, zero, suc, ◌+◌, ◌-◌, ◌≤◌, ◌<◌, List, [], ◌∷◌, ◌++◌, length, Bool, true, false, cond, Option, Some, None, refl, ap, sym, ◌∙◌, subst, arith}
 use Rattle.std.specs.Prelude.{◌==◌, slice_get, unwrap_or}
 use Rattle.std.specs.Option.{option_and_then, option_map_or}
 use Rattle.std.proofs.lemmas.Bool.{eq-eqb}
 use Rattle.std.proofs.lemmas.List.{append_assoc, append-nil}
 use Rattle.std.proofs.lemmas.Option.{same_Some}
+use Rattle.cell_core.proofs.ListLemmas.{slice_get-append_left}
 use Rattle.cell_core.specs.declared.table.Db.{Db}
 use Rattle.mal_meaning.specs.declared.plan.Plan.{Plan}
 use Rattle.mal_meaning.specs.Meaning.{plan_load, plan_rows}
@@ -12,14 +13,14 @@ use Rattle.pool_policy.specs.declared.options.PoolOptions.{PoolOptions}
 use Rattle.pool_policy.specs.Looks.{look_of}
 use Rattle.pool_policy.specs.Pool.{PoolState}
 use Rattle.store_changes.specs.Work.{lost_unless}
-use Rattle.run_log.specs.declared.event.Looked.{Looked}
-use Rattle.run_log.specs.declared.event.Looked.TheVariants.{Exact, Within, Across, Miss}
+use Rattle.run_log.specs.declared.event.FoundLog.{FoundLog}
+use Rattle.run_log.specs.declared.event.FoundLog.TheVariants.{Exact, Within, Across, Miss}
 use Rattle.query_keys.specs.Laws.{id_given}
 use Rattle.run_log.specs.Events.{ActTree, Begins, Looks, Admits, Writes, Ends, EventTree}
 use Rattle.run_log.specs.Fold.{LogState}
 use Rattle.run_log.proofs.LogLemmas.{each_log}
 use Rattle.reply_layout.specs.Doings.{code_of}
-use Rattle.query_run.specs.declared.step.Query.{Query}
+use Rattle.query_run.specs.declared.step.RunningQuery.{RunningQuery}
 use Rattle.query_run.specs.declared.step.Step.{Step}
 use Rattle.query_run.specs.declared.step.Step.TheVariants as step
 use Rattle.query_run.specs.Queries.{key_in, unmarked_work}
@@ -40,7 +41,7 @@ sum_on takes before (e ∷ log) event =
     let same = ap (λ (es : List EventTree). takes es event) (append_assoc before (e ∷ []) log) in
     omega (arith, more, same)
 
--- a sum over a log with one event more
+-- a sum over a log with one more event
 pub sum_more : (takes : List EventTree → EventTree → ℕ) (log : List EventTree) (event : EventTree) → sum_behind takes [] (log ++ event ∷ []) ≡ sum_behind takes [] log + takes log event
 sum_more takes log event = sum_on takes [] log event
 
@@ -56,7 +57,7 @@ other_more options session log event other =
     let none = ap (λ b. cond b (event_work options log event) 0) other in
     omega (arith, more, none)
 
--- what is lost up to one event more
+-- the work that is lost up to one more event
 pub lost_more : (options : PoolOptions) (log : List EventTree) (event : EventTree) → run_lost options (log ++ event ∷ []) ≡ run_lost options log + event_lost options log event
 lost_more options log event = sum_more (event_lost options) log event
 
@@ -84,7 +85,7 @@ noted_within n p place got low w instr = go (instr == place)
     go true = low
     go false = later_within n p w instr
 
-got_within : (n : ℕ) (found : Looked) → asked_by (got_by (n + 1) found) ≤ n + 1
+got_within : (n : ℕ) (found : FoundLog) → asked_by (got_by (n + 1) found) ≤ n + 1
 got_within n (Exact id) = omega arith
 got_within n (Within id) = omega arith
 got_within n (Across pieces) = omega arith
@@ -115,11 +116,6 @@ progress_within session = each_log (λ log. IsWithin (length log) (progress_of s
 
 -- ## What the work of an act reads
 
-get_front : {X : Type 0} (xs ys : List X) (n : ℕ) → n < length xs → slice_get (xs ++ ys) n ≡ slice_get xs n
-get_front [] ys n low = absurd (omega (arith, low))
-get_front (x ∷ xs) ys zero low = refl
-get_front (x ∷ xs) ys (suc n) low = get_front xs ys n (omega (arith, low))
-
 -- the plan that begins at a position
 abbrev pub plan_at : List EventTree → ℕ → Option Plan
 plan_at log at = option_and_then (λ (event : EventTree). plan_in event.act) (slice_get log (at - 1))
@@ -142,7 +138,7 @@ module _ (options : PoolOptions) (log : List EventTree) (event : EventTree) (p :
           let both = within.begun at is in
           let low = both.0 in
           let high = both.1 in
-          ap (option_and_then (λ (e : EventTree). plan_in e.act)) (get_front log (event ∷ []) (at - 1) (omega (arith, low, high)))
+          ap (option_and_then (λ (e : EventTree). plan_in e.act)) (slice_get-append_left log (event ∷ []) (at - 1) (omega (arith, low, high)))
 
   tables_stay : tables_begun options later p ≡ tables_begun options log p
   tables_stay = ap (λ (s : LogState). s.db) (state_stays options log event (unwrap_or p.begun 0) (go p.begun refl))
@@ -154,7 +150,7 @@ module _ (options : PoolOptions) (log : List EventTree) (event : EventTree) (p :
   pub pool_stays : (instr : ℕ) → pool_asked options later (p.results instr) ≡ pool_asked options log (p.results instr)
   pool_stays instr = ap (λ (s : LogState). s.pool) (state_stays options log event (asked_by (p.results instr)) (let asked = within.asked instr in omega (arith, asked)))
 
-  -- the work of an act of the session is the same behind one event more
+  -- the work of an act of the session is the same after one more event
   pub act_work_stays : (act : ActTree) → act_work options later p act ≡ act_work options log p act
   act_work_stays (Begins code plan) = refl
   act_work_stays (Looks instr key found) = refl
@@ -167,24 +163,24 @@ module _ (options : PoolOptions) (log : List EventTree) (event : EventTree) (p :
       ap (λ db. cond (code == 0) (option_map_or (λ plan. unmarked_work plan db) (plan_begun later p) 0) 0) tables_stay
       ∙ ap (λ plan. cond (code == 0) (option_map_or (λ plan. unmarked_work plan (tables_begun options log p)) plan 0) 0) plan_stays
 
-  -- and so is what an End loses
+  -- and the work that an End loses
   pub end_lost_stays : (code : ℕ) → act_lost options later p (Ends code) ≡ act_lost options log p (Ends code)
   end_lost_stays code =
       ap (λ db. option_map_or (λ plan. lost_unless (plan_rows plan db) (plan_load plan db)) (plan_begun later p) 0) tables_stay
       ∙ ap (λ plan. option_map_or (λ plan. lost_unless (plan_rows plan (tables_begun options log p)) (plan_load plan (tables_begun options log p))) plan 0) plan_stays
 
-  planned_stays : (q : Query) → IsPlanned options log p q → IsPlanned options later p q
+  planned_stays : (q : RunningQuery) → IsPlanned options log p q → IsPlanned options later p q
   planned_stays q k = record { plan = plan_stays ∙ k.plan; db = tables_stay ∙ k.db }
 
   -- a query of the same statement keeps its plan and its tables
-  pub planned_next : (next : Progress) → next.begun ≡ p.begun → (q : Query) → IsPlanned options log p q → IsPlanned options later next q
+  pub planned_next : (next : Progress) → next.begun ≡ p.begun → (q : RunningQuery) → IsPlanned options log p q → IsPlanned options later next q
   planned_next next same q k =
       let stays = planned_stays q k in record {
         plan = ap (option_and_then (plan_at later)) same ∙ stays.plan;
         db = ap (λ b. tables_begun options later (record p { begun = b })) same ∙ stays.db;
       }
 
-  owes_stay : (q : Query) (but : ℕ → Type 0) → OweLoads options log p.results q but → OweLoads options later p.results q but
+  owes_stay : (q : RunningQuery) (but : ℕ → Type 0) → OweLoads options log p.results q but → OweLoads options later p.results q but
   owes_stay q but owes n instr at asked apart =
       let both = owes n instr at asked apart in
       (both.0, λ load pairs. subst (λ pool. work_by pool (look_of pool (key_in q n instr)) load pairs ≡ load) (sym (pool_stays n)) (both.1 load pairs))

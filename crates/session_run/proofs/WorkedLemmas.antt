@@ -19,14 +19,14 @@ use Rattle.pool_policy.specs.Pool.{PoolState}
 use Rattle.recycle_pool.specs.Answers.{ArePooled, HandsOut, piece_in, told}
 use Rattle.recycle_pool.specs.declared.found.Found.{Found}
 use Rattle.recycle_pool.specs.declared.found.Found.TheVariants as found
-use Rattle.recycle_pool.specs.declared.found.Part.{Part}
+use Rattle.recycle_pool.specs.declared.found.CoverPiece.{CoverPiece}
 use Rattle.store_changes.specs.Work.{lost_unless}
 use Rattle.table_store.specs.Content.{Content}
 use Rattle.run_log.specs.Events.{Admits, Ends, EventTree, log_tree}
 use Rattle.reply_layout.specs.declared.shown.Shown.{Shown}
 use Rattle.reply_layout.specs.Doings.{code_of}
 use Rattle.book_core.specs.BookView.{BookView}
-use Rattle.query_run.specs.declared.step.Query.{Query}
+use Rattle.query_run.specs.declared.step.RunningQuery.{RunningQuery}
 use Rattle.query_run.specs.declared.step.Offer.{Offer}
 use Rattle.query_run.specs.declared.step.Step.{Step}
 use Rattle.query_run.specs.declared.step.Step.TheVariants as step
@@ -44,12 +44,12 @@ use Rattle.session_run.specs.Stages.{ComesTo as StageComesTo, HasComputed, IsSou
 use Rattle.session_run.proofs.OweLemmas.{goes_owe}
 use Rattle.session_run.proofs.StageLemmas.{stage_sound}
 
--- ## What is found
+-- ## What a look found
 
 value_pooled : (pool : PoolState) (id : ℕ) (value : Pairs) → value_in (faces pool.entries) id ≡ Some value → value_of pool id ≡ value
 value_pooled pool id value pooled = ap (λ o. unwrap_or o []) pooled
 
-parts_count : (pool : PoolState) (parts : List Part) → ArePooled pool.entries parts → sum_by (piece_work pool) (map piece_in parts) ≡ sum_by part_work parts
+parts_count : (pool : PoolState) (parts : List CoverPiece) → ArePooled pool.entries parts → sum_by (piece_work pool) (map piece_in parts) ≡ sum_by part_work parts
 parts_count pool [] are = refl
 parts_count pool (part ∷ parts) are =
     sum_by-cons (piece_work pool) (piece_in part) (map piece_in parts)
@@ -58,7 +58,7 @@ parts_count pool (part ∷ parts) are =
     ∙ sym (sum_by-cons part_work part parts)
 
 -- the work by what a look found is the work from what it handed out
-found_counts : (pool : PoolState) (what : Found) (parts : List Part) (load pairs : ℕ) → HandsOut pool.entries what parts → work_by pool (told what parts) load pairs ≡ work_from what parts load pairs
+found_counts : (pool : PoolState) (what : Found) (parts : List CoverPiece) (load pairs : ℕ) → HandsOut pool.entries what parts → work_by pool (told what parts) load pairs ≡ work_from what parts load pairs
 found_counts pool (found.Exact id value) parts load pairs out = refl
 found_counts pool (found.Within id value) parts load pairs out = ap (λ (v : Pairs). length v + pairs) (value_pooled pool id value out.0)
 found_counts pool (found.Across count) parts load pairs out = ap (λ n. n + pairs) (parts_count pool parts out.0)
@@ -67,18 +67,18 @@ found_counts pool found.Miss parts load pairs out = refl
 -- ## Steps
 
 module _ (options : PoolOptions) (log : List EventTree) (p : Progress) where
-  pub planned_as : (q to : Query) → to.snap ≡ q.snap → to.plan ≡ q.plan → IsPlanned options log p q → IsPlanned options log p to
+  pub planned_as : (q to : RunningQuery) → to.snap ≡ q.snap → to.plan ≡ q.plan → IsPlanned options log p q → IsPlanned options log p to
   planned_as q to snap plan k = record { plan = k.plan ∙ ap Some (sym plan); db = k.db ∙ ap (λ (content : Content). content.db) (sym snap) }
 
   -- the End of a query that was run to its end counts its unmarked instructions
-  pub end_counts : (q : Query) → IsPlanned options log p q → act_work options log p (Ends 0) ≡ unmarked_work q.plan q.snap.db
+  pub end_counts : (q : RunningQuery) → IsPlanned options log p q → act_work options log p (Ends 0) ≡ unmarked_work q.plan q.snap.db
   end_counts q k = ap (λ plan. option_map_or (λ pl. unmarked_work pl (tables_begun options log p)) plan 0) k.plan ∙ ap (unmarked_work q.plan) k.db
 
-  ends_worked : (q : Query) → IsPlanned options log p q → (reply : Shown) (work : ℕ) → EndsWith q reply work → work ≡ act_work options log p (Ends (code_of reply))
+  ends_worked : (q : RunningQuery) → IsPlanned options log p q → (reply : Shown) (work : ℕ) → EndsWith q reply work → work ≡ act_work options log p (Ends (code_of reply))
   ends_worked q k reply work (Overflows to n goes before unmarked none no_rows is no_work) = no_work ∙ ap (λ r. act_work options log p (Ends (code_of r))) (sym is)
   ends_worked q k reply work (HasRows to rows goes all_there some is counted) = counted ∙ sym (end_counts q k) ∙ ap (λ r. act_work options log p (Ends (code_of r))) (sym is)
 
-  comes_worked : (q : Query) → IsPlanned options log p q → OweLoads options log p.results q (λ m. ⊥) → (to : Step) → ComesTo q to → IsWorkedStep options log p to
+  comes_worked : (q : RunningQuery) → IsPlanned options log p q → OweLoads options log p.results q (λ m. ⊥) → (to : Step) → ComesTo q to → IsWorkedStep options log p to
   comes_worked q k owes (step.Asking to n key) comes = (planned_as q to comes.0.snap_is comes.0.plan_is k, goes_owe options log p.results q to comes.0 owes)
   comes_worked q k owes (step.Ending reply work) ends = ends_worked q k reply work ends
   comes_worked q k owes (step.Begun to) none = absurd none
@@ -87,7 +87,7 @@ module _ (options : PoolOptions) (log : List EventTree) (p : Progress) where
   comes_worked q k owes (step.Offering to n offer) none = absurd none
 
   -- nothing is owed where there is room for results
-  pub opened_owe : (q to : Query) → IsOpened q to → OweLoads options log p.results to (λ m. ⊥)
+  pub opened_owe : (q to : RunningQuery) → IsOpened q to → OweLoads options log p.results to (λ m. ⊥)
   opened_owe q to o n instr at asked free = absurd (let never : false ≡ true = sym (o.unasked n) ∙ asked in cc)
 
   -- the work of a result's Admit
@@ -99,7 +99,7 @@ module _ (options : PoolOptions) (log : List EventTree) (p : Progress) where
   pool_at n = pool_asked options log (p.results n)
 
   -- it is by the pool as it was at its look, and by the plan
-  pub admit_is : (q : Query) → IsPlanned options log p q → (n : ℕ) (instr : Instr) → IsAt q n instr → (offer : Offer) → IsOffered q n instr offer → (result : Admitted)
+  pub admit_is : (q : RunningQuery) → IsPlanned options log p q → (n : ℕ) (instr : Instr) → IsAt q n instr → (offer : Offer) → IsOffered q n instr offer → (result : Admitted)
       → act_work options log p (Admits (n + 1) offer.key result) ≡ work_by (pool_asked options log (p.results n)) (look_of (pool_asked options log (p.results n)) (key_in q n instr)) offer.work (length offer.value)
   admit_is q k n instr at offer offered result =
       let last : (n + 1) - 1 ≡ n = omega arith in
@@ -112,7 +112,7 @@ module _ (options : PoolOptions) (log : List EventTree) (p : Progress) where
       ∙ ap (λ key. work_by (pool_at n) (look_of (pool_at n) key) offer.work (length offer.value)) offered.key
 
   -- it is that which was done
-  offer_worked : (q : Query) → IsPlanned options log p q → (n : ℕ) (instr : Instr) → IsAt q n instr → (what : Found) (parts : List Part) → IsLookedUp (pool_asked options log (p.results n)) q n what parts → (offer : Offer) → IsOffered q n instr offer
+  offer_worked : (q : RunningQuery) → IsPlanned options log p q → (n : ℕ) (instr : Instr) → IsAt q n instr → (what : Found) (parts : List CoverPiece) → IsLookedUp (pool_asked options log (p.results n)) q n what parts → (offer : Offer) → IsOffered q n instr offer
       → offer.done ≡ work_from what parts offer.work (length offer.value) → (result : Admitted) → offer.done ≡ act_work options log p (Admits (n + 1) offer.key result)
   offer_worked q k n instr at what parts looked offer offered done result =
       let found = looked instr at in
@@ -120,7 +120,7 @@ module _ (options : PoolOptions) (log : List EventTree) (p : Progress) where
       ∙ ap (λ finding. work_by (pool_asked options log (p.results n)) finding offer.work (length offer.value)) (sym found.0)
       ∙ found_counts (pool_asked options log (p.results n)) what parts offer.work (length offer.value) found.1)
 
-  pub becomes_worked : (q : Query) → IsPlanned options log p q → (n : ℕ) → OweLoads options log p.results q (λ m. m ≡ n) → (instr : Instr) → IsAt q n instr → (what : Found) (parts : List Part) → IsLookedUp (pool_asked options log (p.results n)) q n what parts
+  pub becomes_worked : (q : RunningQuery) → IsPlanned options log p q → (n : ℕ) → OweLoads options log p.results q (λ m. m ≡ n) → (instr : Instr) → IsAt q n instr → (what : Found) (parts : List CoverPiece) → IsLookedUp (pool_asked options log (p.results n)) q n what parts
       → (to : Step) → BecomesOf q n instr what parts to → IsWorkedStep options log p to
   becomes_worked q k n owes instr at what parts looked (step.Offering to m offer) b =
       subst (λ r. IsWorkedStep options log p (step.Offering r m offer)) (sym b.0)
@@ -159,7 +159,7 @@ module _ (options : PoolOptions) (log : List EventTree) (p : Progress) where
 
   -- ## What is lost
 
-  end_loses : (q : Query) → IsPlanned options log p q → (code : ℕ) → act_lost options log p (Ends code) ≡ lost_unless (plan_rows q.plan q.snap.db) (plan_load q.plan q.snap.db)
+  end_loses : (q : RunningQuery) → IsPlanned options log p q → (code : ℕ) → act_lost options log p (Ends code) ≡ lost_unless (plan_rows q.plan q.snap.db) (plan_load q.plan q.snap.db)
   end_loses q k code =
       ap (λ plan. option_map_or (λ pl. lost_unless (plan_rows pl (tables_begun options log p)) (plan_load pl (tables_begun options log p))) plan 0) k.plan
       ∙ ap (λ db. lost_unless (plan_rows q.plan db) (plan_load q.plan db)) k.db
@@ -181,7 +181,7 @@ module _ (book : BookView) (session : ℕ) where
   abbrev Worked : Step → Type 0
   Worked at = IsWorkedStep book.options (log_tree book.log) p at
 
-  query_lost : (q : Query) → IsPlanned book.options (log_tree book.log) p q → (to : Step) → lost_at q to ≤ lost_next book session (stage.Querying to)
+  query_lost : (q : RunningQuery) → IsPlanned book.options (log_tree book.log) p q → (to : Step) → lost_at q to ≤ lost_next book session (stage.Querying to)
   query_lost q k (step.Ending reply work) = let loses = end_loses book.options (log_tree book.log) p q k (code_of reply) in omega (arith, loses)
   query_lost q k (step.Begun to) = omega arith
   query_lost q k (step.Open to) = omega arith

@@ -7,7 +7,7 @@ use Rattle.mal_check.specs.Checked.{plan_fault}
 use Rattle.mal_print.specs.Canon.{plan_text}
 use Rattle.sql_tree.specs.declared.tree.Stmt.{Stmt}
 use Rattle.sql_tree.specs.Tree.{stmt_tree}
-use Rattle.sql_semantics.specs.declared.refusal.Refusal.{Refusal}
+use Rattle.sql_definitions.specs.declared.refusal.Refusal.{Refusal}
 use Rattle.sql_grammar.specs.Formed.{IsFormed}
 use Rattle.read_laws.specs.Answered.{Reads}
 use Rattle.pool_policy.specs.declared.entry.Who.{Who}
@@ -23,7 +23,7 @@ use Rattle.answer_text.specs.Log.{Said, doing_over, shown_over, statement_place}
 use Rattle.answer_text.specs.Layout.{replies_text}
 use Rattle.book_core.specs.Versions.{HasVersions}
 use Rattle.query_keys.specs.Keys.{AreIdsOf}
-use Rattle.query_run.specs.declared.step.Query.{Query}
+use Rattle.query_run.specs.declared.step.RunningQuery.{RunningQuery}
 use Rattle.query_run.specs.declared.step.Step.{Step}
 use Rattle.query_run.specs.declared.step.Step.TheVariants as step
 use Rattle.query_run.specs.Queries.{AsksFor, HasArgs, HasBefore, HasMark, IsAt, IsOffered, IsUnderWay, Serves, has_result, id_at, was_asked}
@@ -38,7 +38,7 @@ use Rattle.session_run.specs.Turns.{AsReady, InPlan, IsLaterAct, Order, state_be
 -- ## Queries
 
 -- a query knows the tables over which it began, and its ids are worth its results
-pub record Knows (seen : LogState) (given : List Face) (plan : Plan) (q : Query) : Type 0 where
+pub record Knows (seen : LogState) (given : List Face) (plan : Plan) (q : RunningQuery) : Type 0 where
   pub under : IsUnderWay q
   pub plan_is : q.plan ≡ plan
   pub db : q.snap.db ≡ seen.db
@@ -46,30 +46,30 @@ pub record Knows (seen : LogState) (given : List Face) (plan : Plan) (q : Query)
   pub ids : AreIdsOf given q.ids.items (plan_values seen.db plan.instrs)
 
 -- a query that has begun knows them too
-pub record Began (seen : LogState) (plan : Plan) (q : Query) : Type 0 where
+pub record Began (seen : LogState) (plan : Plan) (q : RunningQuery) : Type 0 where
   pub fresh : IsFresh q
   pub plan_is : q.plan ≡ plan
   pub db : q.snap.db ≡ seen.db
   pub versions : HasVersions seen.versions q.snap
 
--- the log has noted a result as the query has it: whether it is marked, whether it is there, its id, and whether the pool was asked for it
+-- the log has a result as the query has it: whether it is marked, whether it is there, its id, and whether the pool was asked for it
 abbrev pub IsNoted : Got → Bool → Bool → ℕ → Bool → Type 0
 IsNoted got false there id asked = got ≡ Unasked
 IsNoted got true true id asked = got ≡ Has id
 IsNoted got true false id true = (at : ℕ) × (got ≡ Asked at)
 IsNoted got true false id false = got ≡ Unasked
 
--- so each
-abbrev pub AreNoted : (ℕ → Got) → Query → Type 0
+-- the log has each result as the query has it
+abbrev pub AreNoted : (ℕ → Got) → RunningQuery → Type 0
 AreNoted results q = (n : ℕ) (mark : Bool) → HasMark q n mark → IsNoted (results n) mark (has_result q n) (id_at q n) (was_asked q n)
 
--- what holds besides where a query goes through its plan in order: all before an instruction is there
-abbrev pub IsInTurn : Order → Query → ℕ → Type 0
+-- in the order of the plan also: all results before an instruction are there
+abbrev pub IsInTurn : Order → RunningQuery → ℕ → Type 0
 IsInTurn InPlan q n = HasBefore q n
 IsInTurn AsReady q n = Unit {0}
 
--- and nothing else was asked for in vain
-abbrev pub OwesNone : Order → Query → (ℕ → Type 0) → Type 0
+-- in the order of the plan also: no other result was asked for in vain
+abbrev pub OwesNone : Order → RunningQuery → (ℕ → Type 0) → Type 0
 OwesNone InPlan q but = (n : ℕ) → has_result q n ≡ false → (but n → ⊥) → was_asked q n ≡ false
 OwesNone AsReady q but = Unit {0}
 
@@ -86,7 +86,7 @@ IsStep order seen given plan results (step.Ending reply work) = ⊥
 
 -- ## Statements that have begun
 
--- it ends with this reply, whatever others do
+-- it ends with this reply, whatever other sessions do
 pub record EndsWith (order : Order) (seen : LogState) (results : ℕ → Got) (said : Said) (reply : Shown) : Type 0 where
   pub act : (s : LogState) (who : Who) → IsLaterAct order s who seen results (doing_over seen.db said) (Ends (code_of reply))
   pub shows : reply ≡ shown_over seen.db said
@@ -100,7 +100,7 @@ pub record IsRun (order : Order) (seen : LogState) (given : List Face) (results 
 -- it shows a plan
 pub record IsExplained (seen : LogState) (said : Said) (plan : Plan) : Type 0 where
   pub checked : plan_fault plan ≡ None
-  pub does : doing_over seen.db said ≡ Beginning None (shown.Plan (plan_text plan))
+  pub does : doing_over seen.db said ≡ Beginning None (shown.Mal (plan_text plan))
 
 abbrev pub IsUnder : Order → LogState → List Face → (ℕ → Got) → Said → Stage → Type 0
 IsUnder order seen given results said (stage.Querying (step.Ending reply work)) = EndsWith order seen results said reply
@@ -108,7 +108,7 @@ IsUnder order seen given results said (stage.Querying at) = IsRun order seen giv
 IsUnder order seen given results said (stage.Explaining plan) = IsExplained seen said plan
 IsUnder order seen given results said _ = ⊥
 
--- in which order a session goes through its plans
+-- the order in which a session goes through its plans
 abbrev pub order_of : Session → Order
 order_of x = if x.wide then AsReady else InPlan
 
@@ -127,29 +127,29 @@ pub record HasBegun (options : PoolOptions) (log : List EventTree) (x : Session)
 
 -- ## Sessions
 
--- how many statements of the session have a place in the log
+-- the number of statements of the session that have a place in the log
 abbrev pub opened : Progress → Option ℕ → ℕ
 opened p None = p.ended
 opened p (Some at) = p.ended + 1
 
--- the text of the statement behind so many reads so
+-- the text of the statement after this many has this reading
 abbrev pub HasRead : List (List ℕ) → ℕ → Result Stmt Refusal → Type 0
 HasRead pieces ended (Ok statement) = (piece : List ℕ) × (slice_get pieces ended ≡ Some piece) × Reads piece (Ok (stmt_tree statement)) × IsFormed (stmt_tree statement)
 HasRead pieces ended (Err refusal) = (piece : List ℕ) × (slice_get pieces ended ≡ Some piece) × Reads piece (Err refusal)
 
--- what its stage says
+-- the facts of its stage
 abbrev pub IsStage : PoolOptions → List EventTree → Session → Progress → Stage → Type 0
 IsStage options log x p stage.Between = p.begun ≡ None
 IsStage options log x p (stage.Reading read) = (p.begun ≡ None) × HasRead x.pieces x.ended read
 IsStage options log x p (stage.Telling reply) = (p.begun ≡ None) × (1 ≤ x.ended)
 IsStage options log x p _ = HasBegun options log x p
 
--- the reply that isn't written yet
+-- the text of the reply that isn't written yet
 abbrev pub untold : ℕ → Stage → List ℕ
 untold k (stage.Telling reply) = reply_text k reply
 untold k _ = []
 
--- a session stands where its events in the log say: as many of its statements have ended, with these replies, and its stage is that of the next one
+-- a session agrees with its events in the log: as many of its statements have ended, with these replies, and its stage is that of the next one
 pub record Stands (options : PoolOptions) (log : List EventTree) (x : Session) : Type 0 where
   pub low : 1 ≤ x.number
   pub high : x.number ≤ 16

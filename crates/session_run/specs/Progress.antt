@@ -1,12 +1,12 @@
--- Where a session stands, by its own events in the log.
+-- The progress of a session, by its own events in the log.
 use Rattle.std.specs.Prelude.{ℕ, ◌+◌, ◌-◌, ◌==◌, List, [], ◌∷◌, map, if◌then◌else◌, Option, Some, None}
 use Rattle.std.specs.List.{range_with_len}
-use Rattle.run_log.specs.declared.event.Looked.{Looked}
-use Rattle.run_log.specs.declared.event.Looked.TheVariants.{Exact}
+use Rattle.run_log.specs.declared.event.FoundLog.{FoundLog}
+use Rattle.run_log.specs.declared.event.FoundLog.TheVariants.{Exact}
 use Rattle.run_log.specs.Events.{ActTree, Begins, Looks, Admits, Writes, Ends, EventTree}
 use Rattle.query_keys.specs.Laws.{id_given}
 
--- how far a query's result is
+-- the state of a query's result
 pub data Got : Type 0 where
   -- the pool was not asked for it
   Unasked : Got
@@ -26,16 +26,16 @@ nothing_got n = Unasked
 abbrev pub not_begun : Progress
 not_begun = record { ended = 0; begun = None; results = nothing_got }
 
--- what a look gives, at a position
-abbrev pub got_by : ℕ → Looked → Got
+-- the state by a look at a position
+abbrev pub got_by : ℕ → FoundLog → Got
 got_by at (Exact id) = Has id
 got_by at found = Asked at
 
--- one of the results stands so
+-- one of the results is in this state
 abbrev pub noted : ℕ → Got → (ℕ → Got) → ℕ → Got
 noted n got results m = if m == n then got else results m
 
--- behind an act of the session, whose position in the log is this; instructions count from 1 in acts
+-- after an act of the session, which has this position in the log; instructions count from 1 in acts
 abbrev pub progress_by : ℕ → ActTree → Progress → Progress
 progress_by at (Begins code plan) p = record p { begun = Some at; results = nothing_got }
 progress_by at (Looks instr key found) p = record p { results = noted (instr - 1) (got_by at found) p.results }
@@ -43,11 +43,11 @@ progress_by at (Admits instr key result) p = record p { results = noted (instr -
 progress_by at (Writes statement code count) p = record p { ended = p.ended + 1 }
 progress_by at (Ends code) p = record p { ended = p.ended + 1; begun = None; results = nothing_got }
 
--- behind an event of any session
+-- after an event of any session
 abbrev pub progress_after : ℕ → ℕ → Progress → EventTree → Progress
 progress_after session at p event = if event.session == session then progress_by at event.act p else p
 
--- behind the events of a log from a position on
+-- after the events of a log from a position on
 abbrev pub progress_from : ℕ → ℕ → Progress → List EventTree → Progress
 progress_from session at p [] = p
 progress_from session at p (event ∷ log) = progress_from session (at + 1) (progress_after session at p event) log
@@ -61,6 +61,6 @@ abbrev pub id_of : Got → ℕ
 id_of (Has id) = id
 id_of got = 0
 
--- those of the results before an instruction, 0 for none
+-- the ids of the results before an instruction, 0 for none
 abbrev pub ids_before : (ℕ → Got) → ℕ → List ℕ
 ids_before results n = map (λ m. id_of (results m)) (range_with_len 0 n)

@@ -1,9 +1,9 @@
 -- How one stage of a session follows from another.
 use Rattle.std.specs.Prelude.{◌≡◌, ℕ, ◌+◌, ◌≤◌, List, [], ◌∷◌, ◌++◌, length, Bool, false, None, Result, Ok, Err}
 use Rattle.mal_meaning.specs.declared.plan.Plan.{Plan}
-use Rattle.sql_semantics.specs.declared.refusal.Refusal.{Refusal}
+use Rattle.sql_definitions.specs.declared.refusal.Refusal.{Refusal}
 use Rattle.table_store.specs.Content.{Content}
-use Rattle.query_run.specs.declared.step.Query.{Query}
+use Rattle.query_run.specs.declared.step.RunningQuery.{RunningQuery}
 use Rattle.mal_check.specs.Checked.{plan_fault}
 use Rattle.mal_print.specs.Canon.{plan_text}
 use Rattle.run_log.specs.declared.event.Event.{Event}
@@ -47,27 +47,27 @@ at_stage x next = record x { stage = next }
 
 -- ## Outside
 
--- what a stage needs to be computed
+-- the facts that a stage needs to be computed
 abbrev pub IsSoundStage : Stage → Type 0
 IsSoundStage (stage.Querying at) = IsSoundStep at
 IsSoundStage (stage.Explaining plan) = plan_fault plan ≡ None
 IsSoundStage _ = Unit {0}
 
--- behind so many statements that have ended the text of the next one is read, if there is one
+-- after this many statements have ended, the text of the next one is read, if there is one
 abbrev pub ReadsOn : List (List ℕ) → ℕ → Stage → Type 0
 ReadsOn pieces ended stage.Between = length pieces ≤ ended
 ReadsOn pieces ended (stage.Reading read) = HasRead pieces ended read
 ReadsOn pieces ended _ = ⊥
 
--- what a session's stage comes to, with the text of its replies
+-- the stage to which a session's stage comes, with the text of its replies
 abbrev pub ComesTo : Session → Stage → Stage → List ℕ → Type 0
 ComesTo x (stage.Querying from) next text = (to : Step) × (next ≡ stage.Querying to) × Computes from to × (text ≡ x.text.items)
-ComesTo x (stage.Explaining plan) next text = (next ≡ stage.Querying (step.Ending (shown.Plan (plan_text plan)) 0)) × (text ≡ x.text.items)
+ComesTo x (stage.Explaining plan) next text = (next ≡ stage.Querying (step.Ending (shown.Mal (plan_text plan)) 0)) × (text ≡ x.text.items)
 ComesTo x (stage.Telling reply) next text = ReadsOn x.pieces x.ended next × (text ≡ x.text.items ++ reply_text x.ended reply)
 ComesTo x stage.Between next text = ReadsOn x.pieces x.ended next × (text ≡ x.text.items)
 ComesTo x (stage.Reading read) next text = (next ≡ stage.Reading read) × (text ≡ x.text.items)
 
--- a session computes: nothing of it changes but its stage and its text
+-- a session computes: only its stage and its text change
 pub record HasComputed (old new : Session) : Type 0 where
   pub number : new.number ≡ old.number
   pub pieces : new.pieces ≡ old.pieces
@@ -85,7 +85,7 @@ GoesInPlan x _ = Unit {0}
 
 -- ## As results are ready
 
--- a session's query moves by itself: nothing of the session changes but its stage
+-- a session's query moves by itself: only the session's stage changes
 pub record HasMoved (old new : Session) : Type 0 where
   pub from : Step
   pub to : Step
@@ -95,7 +95,7 @@ pub record HasMoved (old new : Session) : Type 0 where
 
 -- ## Inside
 
--- its next event stands
+-- the stage has its next event
 abbrev pub IsReady : Stage → Type 0
 IsReady (stage.Reading read) = Unit {0}
 IsReady (stage.Querying (step.Asking q n key)) = Unit {0}
@@ -103,17 +103,17 @@ IsReady (stage.Querying (step.Offering q n offer)) = Unit {0}
 IsReady (stage.Querying (step.Ending reply work)) = Unit {0}
 IsReady _ = ⊥
 
--- what comes of an event: a query that asked has its result, or what that is computed from, and one that offered has its result; behind any other event no query is under way in its plan
+-- the stage after an event: a query that asked has its result, or what that is computed from, and one that offered has its result; after any other event no query is under way in its plan
 abbrev pub Follows : Stage → Stage → Type 0
 Follows (stage.Querying (step.Asking q n key)) next = (to : Step) × (pool : PoolState) × (next ≡ stage.Querying to) × IsLooked q n pool key to
-Follows (stage.Querying (step.Offering q n offer)) next = (to : Query) × (id : ℕ) × (next ≡ stage.Querying (step.Open to)) × HasGained q n (obj.Bat offer.value) id q.work to
+Follows (stage.Querying (step.Offering q n offer)) next = (to : RunningQuery) × (id : ℕ) × (next ≡ stage.Querying (step.Open to)) × HasGained q n (obj.Bat offer.value) id q.work to
 Follows from next = MayBegin next
 
--- one statement more has ended, with this reply
+-- one more statement has ended, with this reply
 abbrev pub with_reply : Session → Shown → Session
 with_reply x reply = record x { ended = x.ended + 1; stage = stage.Telling reply }
 
--- a session does its next event, and then stands where the log says, with the work that its events count; an End tells the code of the reply
+-- a session does its next event, and then agrees with the log, with the work that its events count; an End has the code of the reply
 pub record HasDone (old new : BookView) (before after : Session) : Type 0 where
   pub event : Event
   pub log : new.log ≡ old.log ++ event ∷ []
@@ -124,8 +124,8 @@ pub record HasDone (old new : BookView) (before after : Session) : Type 0 where
 
 -- ## A query begins
 
--- a query that has no room for results yet, over this snapshot by this plan
-pub record IsNew (q : Query) (snap : Content) (plan : Plan) (marks : List Bool) : Type 0 where
+-- a query by this plan over this snapshot, without room for results yet
+pub record IsNew (q : RunningQuery) (snap : Content) (plan : Plan) (marks : List Bool) : Type 0 where
   pub snap_is : q.snap ≡ snap
   pub plan_is : q.plan ≡ plan
   pub marks_are : q.marks.items ≡ marks
@@ -133,10 +133,10 @@ pub record IsNew (q : Query) (snap : Content) (plan : Plan) (marks : List Bool) 
 
 -- the stage of a query that has begun with a plan, or that is refused
 abbrev pub BeginsWith : Content → List Bool → Result Plan Refusal → Stage → Type 0
-BeginsWith snap marks (Ok plan) next = (q : Query) × (next ≡ stage.Querying (step.Begun q)) × IsNew q snap plan marks
+BeginsWith snap marks (Ok plan) next = (q : RunningQuery) × (next ≡ stage.Querying (step.Begun q)) × IsNew q snap plan marks
 BeginsWith snap marks (Err refusal) next = next ≡ stage.Querying (step.Ending (shown.Refused refusal) 0)
 
--- the stage of an EXPLAIN, so
+-- the stage of an EXPLAIN that has begun with a plan, or that is refused
 abbrev pub explained : Result Plan Refusal → Stage
 explained (Ok plan) = stage.Explaining plan
 explained (Err refusal) = stage.Querying (step.Ending (shown.Refused refusal) 0)

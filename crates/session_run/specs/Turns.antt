@@ -1,4 +1,4 @@
--- The next event of a session, behind a log.
+-- The next event of a session, after a log.
 use Rattle.std.specs.Prelude.{◌≡◌, ℕ, ◌+◌, ◌-◌, ◌≤◌, List, ◌∷◌, length, take, Bool, true, false, Option, Some, None, IsSome, slice_get}
 use Rattle.std.specs.List.{AllByRecursion}
 use Rattle.cell_core.specs.declared.operator.Arg.{Arg}
@@ -9,8 +9,8 @@ use Rattle.mal_meaning.specs.declared.plan.Plan.{Plan}
 use Rattle.mal_meaning.specs.Meaning.{plan_rows, plan_values}
 use Rattle.recycle_mark.specs.Marks.{marks_of}
 use Rattle.lineage_key.specs.declared.key.Key.{Key}
-use Rattle.sql_semantics.specs.Refusals.{refusal_number}
-use Rattle.sql_semantics.specs.declared.refusal.Refusal.TheVariants.{Overflow}
+use Rattle.sql_definitions.specs.Refusals.{refusal_number}
+use Rattle.sql_definitions.specs.declared.refusal.Refusal.TheVariants.{Overflow}
 use Rattle.read_laws.specs.Answered.{Reads}
 use Rattle.pool_policy.specs.declared.entry.Who.{Who}
 use Rattle.pool_policy.specs.declared.options.PoolOptions.{PoolOptions}
@@ -49,7 +49,7 @@ admit_at s who versions results n instr = let key = key_at versions results n in
 
 -- ### In the order of the plan
 
--- the first instruction that a query comes to: it asks for its result, or offers its value, where there is one; or that has no value; or none is left
+-- the first instruction to which a query comes: it asks for its result, or offers its value, if there is one; or it has no value; or none is left
 pub data Next : Type 0 where
   Asks : ℕ → Instr → Next
   Offers : ℕ → Instr → Option Value → Next
@@ -76,7 +76,7 @@ act_of_next s who versions results (Offers n instr None) = Ends overflow_code
 act_of_next s who versions results Faults = Ends overflow_code
 act_of_next s who versions results Finishes = Ends 0
 
--- what a query does next, in a state, that began in another and has these results
+-- the next act, in a state, of a query that began in another and has these results
 abbrev pub query_act : LogState → Who → LogState → Plan → (ℕ → Got) → ActTree
 query_act s who seen plan results = act_of_next s who seen.versions results (next_from results 0 plan.instrs (marks_of plan) (plan_values seen.db plan.instrs))
 
@@ -98,7 +98,7 @@ pub data MayDo (s : LogState) (who : Who) (seen : LogState) (plan : Plan) (resul
 
 -- ### In either order
 
--- in which order a session goes through the plan of a query
+-- the order in which a session goes through the plan of a query
 pub data Order : Type 0 where
   InPlan : Order
   AsReady : Order
@@ -107,7 +107,7 @@ abbrev pub IsQueryAct : Order → LogState → Who → LogState → Plan → (�
 IsQueryAct InPlan s who seen plan results act = act ≡ query_act s who seen plan results
 IsQueryAct AsReady s who seen plan results act = MayDo s who seen plan results act
 
--- what a statement does that began in some state, where it does this: its plan is run, or it ends
+-- the next act of a statement that began in some state and does this: its plan is run, or it ends
 abbrev pub IsLaterAct : Order → LogState → Who → LogState → (ℕ → Got) → Doing Plan → ActTree → Type 0
 IsLaterAct order s who seen results (Beginning (Some plan) shown) act = IsQueryAct order s who seen plan results act
 IsLaterAct order s who seen results doing act = act ≡ Ends (code_of (shown_in doing))
@@ -123,11 +123,11 @@ abbrev pub IsNextAct : Order → PoolOptions → List EventTree → Who → Prog
 IsNextAct order options log who p None said act = IsFirstAct (doing_over (run_of options log).db said) act
 IsNextAct order options log who p (Some at) said act = let seen = state_before options log at in IsLaterAct order (run_of options log) who seen p.results (doing_over seen.db said) act
 
--- the statement that a session is at
+-- the present statement of a session
 abbrev pub who_at : ℕ → Progress → Who
 who_at session p = record { session = session; statement = p.ended + 1 }
 
--- the texts of a session's script, from its first on, are these: it does its next event
+-- the event is the next one of a session whose script has these statements' texts
 pub record IsNext (order : Order) (options : PoolOptions) (pieces : List (List ℕ)) (session : ℕ) (log : List EventTree) (event : EventTree) : Type 0 where
   pub piece : List ℕ
   pub here : slice_get pieces (progress_of session log).ended ≡ Some piece

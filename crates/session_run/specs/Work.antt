@@ -26,7 +26,7 @@ use Rattle.session_run.specs.Turns.{state_before}
 abbrev pub piece_work : PoolState → Entry → ℕ
 piece_work pool piece = length (value_of pool piece.0) + length (selected_in piece.1 (value_of pool piece.0))
 
--- the work by which a result of so many pairs is computed from what a look found: that of its instruction; or what is read and what is selected of a containing selection; or that of each piece of a cover, and what is merged
+-- the work to compute a result of this many pairs after a look. It is that of its instruction; or the pairs that are read and selected from a containing selection; or the work of each piece of a cover and the pairs that are merged
 abbrev pub work_by : PoolState → Finding → ℕ → ℕ → ℕ
 work_by pool (Within id) load pairs = length (value_of pool id) + pairs
 work_by pool (Across pieces) load pairs = sum_by (piece_work pool) pieces + pairs
@@ -45,7 +45,7 @@ abbrev pub plan_in : ActTree → Option Plan
 plan_in (Begins code plan) = plan
 plan_in _ = None
 
--- the plan of the query that a session has begun, where it has one; it stands in the log with its Begin
+-- the plan of the query that a session has begun, if any; its Begin has it in the log
 abbrev pub plan_begun : List EventTree → Progress → Option Plan
 plan_begun log p = option_and_then (λ at. option_and_then (λ (event : EventTree). plan_in event.act) (slice_get log (at - 1))) p.begun
 
@@ -53,7 +53,7 @@ plan_begun log p = option_and_then (λ at. option_and_then (λ (event : EventTre
 abbrev pub tables_begun : PoolOptions → List EventTree → Progress → Db
 tables_begun options log p = (state_before options log (unwrap_or p.begun 0)).db
 
--- the position of the look for a result that the pool was asked for in vain
+-- the position of the look for a result for which the pool was asked in vain
 abbrev pub asked_by : Got → ℕ
 asked_by (Asked at) = at
 asked_by got = 0
@@ -62,7 +62,7 @@ asked_by got = 0
 abbrev pub pool_asked : PoolOptions → List EventTree → Got → PoolState
 pool_asked options log got = (state_before options log (asked_by got)).pool
 
--- the work that a session's act counts, which comes next behind a log: an Admit counts that of its result, in the way that its look said, and the End of a query that was run to its end that of the instructions that aren't marked
+-- the work that a session's next act after a log counts: an Admit counts that of its result, by the answer to its look; the End of a query that was run to its end counts that of its unmarked instructions
 abbrev pub act_work : PoolOptions → List EventTree → Progress → ActTree → ℕ
 act_work options log p (Admits instr key result) =
     let pool = pool_asked options log (p.results (instr - 1)) in
@@ -71,7 +71,7 @@ act_work options log p (Admits instr key result) =
 act_work options log p (Ends code) = if code == 0 then option_map_or (λ plan. unmarked_work plan (tables_begun options log p)) (plan_begun log p) 0 else 0
 act_work options log p _ = 0
 
--- what a counter may tell beyond that, up to this act: the load of a plan that overflows
+-- the most that a counter may rise beyond that, up to this act: the load of a plan that overflows
 abbrev pub act_lost : PoolOptions → List EventTree → Progress → ActTree → ℕ
 act_lost options log p (Writes (Some stmt) code count) = write_lost stmt (run_of options log).db
 act_lost options log p (Ends code) =
@@ -81,7 +81,7 @@ act_lost options log p _ = 0
 
 -- ## Logs
 
--- the sum over the events of a log of what each takes, behind those before it
+-- the sum of what each event of a log takes, after those before it
 abbrev pub sum_behind : (List EventTree → EventTree → ℕ) → List EventTree → List EventTree → ℕ
 sum_behind takes before [] = 0
 sum_behind takes before (event ∷ log) = takes before event + sum_behind takes (before ++ event ∷ []) log
@@ -99,11 +99,11 @@ own_work options session log event = if event.session == session then event_work
 abbrev pub session_work : PoolOptions → ℕ → List EventTree → ℕ
 session_work options session log = sum_behind (own_work options session) [] log
 
--- that of all sessions
+-- the work that the events of all sessions count
 abbrev pub sessions_work : PoolOptions → List EventTree → ℕ
 sessions_work options log = sum_behind (event_work options) [] log
 
--- the work of a run: that of its sessions, of its DELETEs and UPDATEs, and of what came back in its writes
+-- the work of a run: that of its sessions, of its DELETEs and UPDATEs, and of entries that came back in its writes
 abbrev pub run_work : PoolOptions → List EventTree → ℕ
 run_work options log = sessions_work options log + (run_of options log).totals.work
 
@@ -111,6 +111,6 @@ run_work options log = sessions_work options log + (run_of options log).totals.w
 abbrev pub run_totals : PoolOptions → List EventTree → Totals
 run_totals options log = record (run_of options log).totals { work = run_work options log }
 
--- what a counter may tell of a run beyond its work: the loads of the plans that overflow
+-- the most that a counter may rise beyond a run's work: the loads of the plans that overflow
 abbrev pub run_lost : PoolOptions → List EventTree → ℕ
 run_lost options log = sum_behind (event_lost options) [] log

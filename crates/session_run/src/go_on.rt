@@ -13,7 +13,7 @@ use crate::stage::Stage;
 use book_core::Book;
 use cell_core::Memory;
 use lineage_key::Key;
-use query_run::{Offer, Query, Step};
+use query_run::{Offer, RunningQuery, Step};
 use reply_layout::Shown;
 use run_log::ACCEPTED;
 use score_hook::Scorer;
@@ -56,7 +56,7 @@ impl Session {
         &mut self,
         alloc: Global,
         book: &mut Book,
-        query: Query,
+        query: RunningQuery,
         n: usize,
         key: Key,
     ) -> Result<(), Memory>
@@ -72,11 +72,11 @@ impl Session {
         ensures counts { OnOk result ((steps : ℕ) → CountsInside book.old book.new (at_stage self.old (stage.Querying (step.Asking query n key))) self.new steps steps) }
         ensures same { OnErr result (book.new ≡ book.old) }
     {
-        // What the book keeps is read before and after the event: a log that is lawful.
-        let _ = book.log();
+        // The log is lawful before and after the event.
+        book.log_is_lawful();
         let who = self.who();
         let next = query.ask(alloc, book, who, n, key)?;
-        let _ = book.log();
+        book.log_is_lawful();
         self.stage = Stage::Querying(next);
         Ok(())
     }
@@ -87,7 +87,7 @@ impl Session {
         alloc: Global,
         book: &mut Book,
         scorer: &Scorer,
-        query: Query,
+        query: RunningQuery,
         n: usize,
         offer: Offer,
     ) -> Result<(), Memory>
@@ -105,17 +105,17 @@ impl Session {
         ensures counts { OnOk result ((steps : ℕ) → CountsInside book.old book.new (at_stage self.old (stage.Querying (step.Offering query n offer))) self.new steps steps) }
         ensures same { OnErr result (book.new ≡ book.old) }
     {
-        let _ = book.log();
+        book.log_is_lawful();
         let who = self.who();
         let work = self.work.checked_add(offer.done).ok_or(Memory)?;
         let next = query.offer(alloc, book, scorer, who, n, offer)?;
-        let _ = book.log();
+        book.log_is_lawful();
         self.stage = Stage::Querying(next);
         self.work = work;
         Ok(())
     }
 
-    /// Ends its query with this reply.
+    /// Ends its query with this reply; `work` is that of its unmarked instructions.
     fn end(&mut self, book: &mut Book, shown: Shown, work: u128) -> Result<(), Memory>
         requires stands { Stands book.old.options (log_tree book.old.log) (at_stage self.old (stage.Querying (step.Ending shown work))) }
         requires worked { IsWorked book.old.options (log_tree book.old.log) (at_stage self.old (stage.Querying (step.Ending shown work))) }
@@ -129,7 +129,7 @@ impl Session {
         ensures counts { OnOk result ((steps : ℕ) → CountsInside book.old book.new (at_stage self.old (stage.Querying (step.Ending shown work))) self.new steps steps) }
         ensures same { OnErr result (book.new ≡ book.old) }
     {
-        let _ = book.log();
+        book.log_is_lawful();
         let who = self.who();
         self.work = self.work.checked_add(work).ok_or(Memory)?;
         book.end(who, code_of(&shown));

@@ -4,7 +4,7 @@ ghost use Rattle.mal_print.specs.Canon.{plan_text};
 ghost use Rattle.pool_policy.specs.declared.options.PoolOptions.{PoolOptions as OptionsSeen};
 ghost use Rattle.run_log.specs.Events.{log_tree};
 ghost use Rattle.sql_parse.specs.declared.error.ParseError.TheVariants.{Refused};
-ghost use Rattle.sql_semantics.specs.declared.refusal.Refusal.{Refusal as RefusalSeen};
+ghost use Rattle.sql_definitions.specs.declared.refusal.Refusal.{Refusal as RefusalSeen};
 ghost use Rattle.reply_layout.specs.Doings.{code_of as code_shown};
 ghost use Rattle.reply_layout.specs.declared.shown.Shown.TheVariants as shown;
 ghost use Rattle.query_run.specs.declared.step.Step.TheVariants as step;
@@ -30,25 +30,25 @@ use std::alloc::Global;
 use std::mem;
 use std::sync::ledger::Ledger;
 
-/// One script's way through a run.
+/// The run of one script.
 pub struct Session {
     /// Its number, from 1.
     pub number: u32,
     /// The texts of its statements.
     pub pieces: Sequence<Word>,
-    /// How many of them have ended.
+    /// The number of statements that have ended.
     pub ended: u32,
     /// Their replies, as they are printed.
     pub text: Vec<u8>,
     /// The stated work of its queries so far, as it was done.
     pub work: u128,
-    /// Whether it goes through plans as results are ready, and not in their order.
+    /// Whether it goes through plans as results are ready, not in the order of their instructions.
     pub wide: bool,
     /// What it does next.
     pub stage: Stage,
 }
 
-// By a call of its own, so that proofs needn't go through its forms where one is let go.
+// By a call of its own, so that proofs needn't go through its forms where one is dropped.
 impl Drop for Session {
     fn drop(self) {
         let Session {
@@ -88,7 +88,7 @@ impl Session {
         }
     }
 
-    /// Its replies, as they are printed, for which it is given up.
+    /// Its replies, as they are printed. The rest is dropped.
     pub fn into_text(self) -> Vec<u8>
         ensures { result ≡ self.text }
     {
@@ -111,7 +111,7 @@ impl Session {
         self.ended as usize >= self.pieces.len()
     }
 
-    /// The statement that it is at.
+    /// Its number and that of its present statement.
     pub(crate) fn who(&self) -> Who
         requires { self.now.ended < 256 }
         ensures { result ≡ record { session = self.now.number; statement = self.now.ended + 1 } }
@@ -122,9 +122,9 @@ impl Session {
         }
     }
 
-    /// Computes what the next event needs: it writes the reply of a statement that has ended, and reads the
-    /// text of the next one. The counter rises by the work that is done; where the query's plan overflows,
-    /// by at most its load more.
+    /// Computes up to the next event. It also writes the reply to a statement that has ended, and
+    /// parses the text of the next one. The counter rises by the work that is done; where the
+    /// query's plan overflows, by at most its load more.
     pub fn outside<E: Operate, L: Ledger>(
         &mut self,
         alloc: Global,
@@ -140,9 +140,9 @@ impl Session {
         Ok(())
     }
 
-    /// Does the next event. Where memory runs out, the book stays as it was, and nothing is said of the
-    /// session. The counter rises by what a write adds to the work of the totals; where its plan overflows,
-    /// by at most its load more.
+    /// Does the next event. Where memory runs out, the book stays as it was, and nothing is
+    /// promised of the session. The counter rises by the work that a write adds to the totals;
+    /// where its plan overflows, by at most its load more.
     pub fn inside<E: Operate, L: Ledger>(
         &mut self,
         alloc: Global,
@@ -174,7 +174,7 @@ impl Session {
         }
     }
 
-    /// What a stage comes to.
+    /// The stage that follows `stage` before the next event.
     fn compute<E: Operate, L: Ledger>(
         &mut self,
         alloc: Global,
@@ -200,7 +200,7 @@ impl Session {
         }
     }
 
-    /// Reads the text of the next statement, if there is one.
+    /// Parses the text of the next statement, if there is one.
     fn read_on(&self, alloc: Global) -> Result<Stage, Memory>
         ensures { IfOk result (ReadsOn self.now.pieces self.now.ended) }
     {
@@ -214,7 +214,7 @@ impl Session {
         }
     }
 
-    /// Its next statement.
+    /// Parses the text of its next statement.
     fn read_next(&self, alloc: Global) -> Result<Stmt, ParseError>
         requires { self.now.ended < length self.now.pieces }
         ensures read { IfOk result (λ stmt. HasRead self.now.pieces self.now.ended (Ok stmt)) }
@@ -231,7 +231,7 @@ impl Session {
         &self.pieces.as_slice()[self.ended as usize]
     }
 
-    /// Its statement has ended with this reply.
+    /// Ends its statement with this reply.
     pub(crate) fn tell(&mut self, shown: Shown)
         requires { self.old.ended < 256 }
         ensures { self.new ≡ with_reply self.old shown }
@@ -241,12 +241,12 @@ impl Session {
     }
 }
 
-/// An EXPLAIN ends with the text of its plan.
+/// The end of an EXPLAIN, with the text of its plan.
 fn explain(alloc: Global, plan: &Plan) -> Result<Stage, Memory>
     requires { plan_fault plan.now ≡ None }
-    ensures { IfOk result (λ next. next ≡ stage.Querying (step.Ending (shown.Plan (plan_text plan.now)) 0)) }
+    ensures { IfOk result (λ next. next ≡ stage.Querying (step.Ending (shown.Mal (plan_text plan.now)) 0)) }
 {
     let text = print_mal(alloc, plan)?;
-    let shown = Shown::Plan(Sequence::from_vec(text));
+    let shown = Shown::Mal(Sequence::from_vec(text));
     Ok(Stage::Querying(Step::Ending(shown, 0)))
 }

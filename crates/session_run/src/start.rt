@@ -3,7 +3,7 @@ ghost use Rattle.std.specs.Prelude.{◌≡◌, ℕ, ◌<◌, List, length, slice
 ghost use Rattle.sql_grammar.specs.Formed.{IsFormed};
 ghost use Rattle.read_laws.specs.Answered.{Reads};
 ghost use Rattle.sql_parse.specs.declared.error.ParseError.TheVariants.{Refused};
-ghost use Rattle.sql_semantics.specs.declared.refusal.Refusal.{Refusal as RefusalSeen};
+ghost use Rattle.sql_definitions.specs.declared.refusal.Refusal.{Refusal as RefusalSeen};
 ghost use Rattle.sql_tree.specs.Tree.{query_tree, stmt_tree};
 ghost use Rattle.sql_tree.specs.Tree.StmtTree.{Select, ExplainSelect};
 ghost use Rattle.run_log.specs.Events.{log_tree};
@@ -21,16 +21,16 @@ use crate::stage::Stage;
 use bat_core::Operate;
 use book_core::{Begun, Book};
 use cell_core::{Memory, Steps, Word};
-use query_run::{Query, Step};
+use query_run::{RunningQuery, Step};
 use reply_layout::Shown;
 use score_hook::Scorer;
-use sql_semantics::{Refusal, Reply};
+use sql_definitions::{Refusal, Reply};
 use sql_tree::Stmt;
 use std::alloc::Global;
 use std::sync::ledger::Ledger;
 
 impl Session {
-    /// Begins the next statement, whose text reads so, or does it whole where it is no query.
+    /// Begins the next statement, whose text has this reading. A change is done whole.
     pub(crate) fn start<E: Operate, L: Ledger>(
         &mut self,
         alloc: Global,
@@ -61,7 +61,7 @@ impl Session {
         }
     }
 
-    /// Logs a text that is refused.
+    /// Logs a refused text.
     fn refuse(&mut self, book: &mut Book, refusal: Refusal) -> Result<(), Memory>
         requires between { self.old.stage ≡ stage.Between }
         requires stands { Stands book.old.options (log_tree book.old.log) self.old }
@@ -76,13 +76,13 @@ impl Session {
         ensures counts { OnOk result ((steps : ℕ) → CountsInside book.old book.new self.old self.new steps steps) }
         ensures same { OnErr result (book.new ≡ book.old) }
     {
-        let _ = book.log();
+        book.log_is_lawful();
         book.refuse(self.who(), &refusal)?;
         self.tell(Shown::Refused(refusal));
         Ok(())
     }
 
-    /// Begins a statement, or does it whole where it is no query.
+    /// Begins a query or an EXPLAIN, or does a change whole.
     fn start_stmt<E: Operate, L: Ledger>(
         &mut self,
         alloc: Global,
@@ -142,7 +142,7 @@ impl Session {
         ensures counts { OnOk result (CountsInside book.old book.new self.old self.new steps.old steps.new) }
         ensures same { OnErr result (book.new ≡ book.old) }
     {
-        let _ = book.log();
+        book.log_is_lawful();
         let reply = book.write(alloc, scorer, self.who(), stmt, kernel, steps)?;
         self.tell(shown_of(reply));
         Ok(())
@@ -171,7 +171,7 @@ impl Session {
         ensures counts { OnOk result ((steps : ℕ) → CountsInside book.old book.new self.old self.new steps steps) }
         ensures same { OnErr result (book.new ≡ book.old) }
     {
-        let _ = book.log();
+        book.log_is_lawful();
         let begun = book.begin(alloc, self.who(), stmt, query)?;
         self.stage = query_stage(alloc, begun);
         Ok(())
@@ -200,25 +200,25 @@ impl Session {
         ensures counts { OnOk result ((steps : ℕ) → CountsInside book.old book.new self.old self.new steps steps) }
         ensures same { OnErr result (book.new ≡ book.old) }
     {
-        let _ = book.log();
+        book.log_is_lawful();
         let begun = book.begin(alloc, self.who(), stmt, query)?;
         self.stage = explain_stage(begun);
         Ok(())
     }
 }
 
-/// Where a query stands that has begun.
+/// The stage of a query that has begun.
 fn query_stage(alloc: Global, begun: Begun) -> Stage
     ensures { BeginsWith begun.snap begun.marks.items begun.plan result }
 {
     let (snap, plan, marks) = begun.into_parts();
     match plan {
-        Ok(plan) => Stage::Querying(Step::Begun(Query::new(alloc, snap, plan, marks))),
+        Ok(plan) => Stage::Querying(Step::Begun(RunningQuery::new(alloc, snap, plan, marks))),
         Err(refusal) => refused(refusal),
     }
 }
 
-/// Where an EXPLAIN stands that has begun.
+/// The stage of an EXPLAIN that has begun.
 fn explain_stage(begun: Begun) -> Stage
     ensures { result ≡ explained begun.plan }
 {
@@ -228,14 +228,14 @@ fn explain_stage(begun: Begun) -> Stage
     }
 }
 
-/// The end of a query that its tables refuse.
+/// The stage of a query that its tables refuse.
 fn refused(refusal: Refusal) -> Stage
     ensures { result ≡ stage.Querying (step.Ending (shown.Refused refusal) 0) }
 {
     Stage::Querying(Step::Ending(Shown::Refused(refusal), 0))
 }
 
-/// What a change shows.
+/// The reply to a change.
 fn shown_of(reply: Reply) -> Shown
     ensures { result ≡ shown_reply reply }
 {

@@ -5,12 +5,13 @@ use Rattle.std.specs.List.{list_any}
 use Rattle.cell_core.specs.declared.table.Column.{Column}
 use Rattle.cell_core.specs.declared.table.Table.{Table}
 use Rattle.cell_core.specs.declared.table.Db.{Db}
-use Rattle.sql_semantics.specs.declared.refusal.Refusal.{Refusal}
-use Rattle.sql_semantics.specs.declared.refusal.Refusal.TheVariants.{TextTooLong, NullStored, Limit}
-use Rattle.sql_semantics.specs.declared.refusal.Reply.{Reply}
-use Rattle.sql_semantics.specs.declared.refusal.Reply.TheVariants as reply
-use Rattle.sql_semantics.specs.Check.{refused_if}
-use Rattle.sql_semantics.specs.Effect.{unless_refused, is_long_default, is_null_refused, column_limit, created, done_by, with_column, column_refused, altered}
+use Rattle.cell_core.specs.Tables.{with_column}
+use Rattle.sql_definitions.specs.declared.refusal.Refusal.{Refusal}
+use Rattle.sql_definitions.specs.declared.refusal.Refusal.TheVariants.{TextTooLong, NullStored, Limit}
+use Rattle.sql_definitions.specs.declared.refusal.Reply.{Reply}
+use Rattle.sql_definitions.specs.declared.refusal.Reply.TheVariants as reply
+use Rattle.sql_definitions.specs.Check.{refused_if}
+use Rattle.sql_definitions.specs.Effect.{unless_refused, is_long_default, is_null_refused, column_limit, created, done_by, column_refused, altered}
 use Rattle.sql_changes.specs.Parts.{alter_refusal}
 use Rattle.sql_changes.proofs.RefusalLemmas.{first_is, refused_as, accepted_as}
 

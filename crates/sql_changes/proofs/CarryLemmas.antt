@@ -5,14 +5,14 @@ use Rattle.cell_core.specs.declared.table.Table.{Table}
 use Rattle.cell_core.specs.declared.table.Db.{Db}
 use Rattle.sql_tree.specs.Names.{name_text}
 use Rattle.sql_tree.specs.Tree.{StmtTree}
-use Rattle.sql_semantics.specs.declared.refusal.Refusal.{Refusal}
-use Rattle.sql_semantics.specs.declared.refusal.Refusal.TheVariants.{NoTable}
-use Rattle.sql_semantics.specs.declared.refusal.Reply.{Reply}
-use Rattle.sql_semantics.specs.declared.refusal.Reply.TheVariants as reply
-use Rattle.sql_semantics.specs.Sources.{schema_of}
-use Rattle.sql_semantics.specs.Check.{check_refusal}
-use Rattle.sql_semantics.specs.Effect.{Change, changed, changed_by, accepted, effect, effect_unless}
-use Rattle.sql_semantics.proofs.RefusedLemmas.{accepted_leaves}
+use Rattle.sql_definitions.specs.declared.refusal.Refusal.{Refusal}
+use Rattle.sql_definitions.specs.declared.refusal.Refusal.TheVariants.{NoTable}
+use Rattle.sql_definitions.specs.declared.refusal.Reply.{Reply}
+use Rattle.sql_definitions.specs.declared.refusal.Reply.TheVariants as reply
+use Rattle.sql_definitions.specs.Sources.{schema_of}
+use Rattle.sql_definitions.specs.Check.{check_refusal}
+use Rattle.sql_definitions.specs.Effect.{Change, changed, changed_by, accepted, effect, effect_unless}
+use Rattle.sql_definitions.proofs.RefusedLemmas.{accepted_leaves}
 use Rattle.sql_changes.specs.declared.plan.Work.{Work}
 use Rattle.sql_changes.specs.declared.plan.PlannedChange.{PlannedChange}
 use Rattle.sql_changes.specs.declared.plan.PlannedChange.TheVariants.{Refused, Accepted}

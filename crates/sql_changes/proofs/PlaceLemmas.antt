@@ -5,8 +5,7 @@ use Rattle.std.specs.List.{list_any}
 use Rattle.std.specs.Option.{option_map}
 use Rattle.cell_core.specs.declared.cell.Cell.{Cell}
 use Rattle.cell_core.specs.declared.table.Table.{Table}
-use Rattle.cell_core.specs.Tables.{first_named}
-use Rattle.sql_semantics.specs.Effect.{with_new_rows}
+use Rattle.cell_core.specs.Tables.{first_named, with_new_rows}
 use Rattle.sql_changes.specs.declared.plan.Work.{Work}
 use Rattle.sql_changes.specs.Plans.{rows_after, is_named, place_once, reworked}
 

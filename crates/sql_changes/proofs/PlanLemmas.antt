@@ -7,11 +7,11 @@ use Rattle.cell_core.specs.declared.cell.Cell.{Cell}
 use Rattle.cell_core.specs.declared.table.Column.{Column}
 use Rattle.cell_core.specs.declared.table.Table.{Table}
 use Rattle.sql_tree.specs.Tree.{ExprTree, CondTree}
-use Rattle.sql_semantics.specs.declared.refusal.Refusal.{Refusal}
-use Rattle.sql_semantics.specs.declared.refusal.Refusal.TheVariants.{TextTooLong, NullStored, Overflow, Limit}
-use Rattle.sql_semantics.specs.Check.{refused_if, targets}
-use Rattle.sql_semantics.specs.Kept.{cond_overflows}
-use Rattle.sql_semantics.specs.Effect.{Change, unless_refused, is_hit, deleted, updated, updated_row, inserted, placed, is_too_long_row, is_null_row, is_too_long_set, is_null_set, overflows_in, is_any_set, row_limit}
+use Rattle.sql_definitions.specs.declared.refusal.Refusal.{Refusal}
+use Rattle.sql_definitions.specs.declared.refusal.Refusal.TheVariants.{TextTooLong, NullStored, Overflow, Limit}
+use Rattle.sql_definitions.specs.Check.{refused_if, targets}
+use Rattle.sql_definitions.specs.Kept.{cond_overflows}
+use Rattle.sql_definitions.specs.Effect.{Change, unless_refused, is_hit, deleted, updated, updated_row, inserted, placed, is_too_long_row, is_null_row, is_too_long_set, is_null_set, overflows_in, is_any_set, row_limit}
 use Rattle.sql_changes.specs.declared.fate.Fate.{Fate}
 use Rattle.sql_changes.specs.declared.fate.Fate.TheVariants.{Stays, Goes, Becomes}
 use Rattle.sql_changes.specs.declared.plan.Work.TheVariants.{Settles}

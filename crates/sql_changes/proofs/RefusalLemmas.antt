@@ -1,8 +1,8 @@
 -- The first of refusals in their order, and what it decides.
 use Rattle.std.proofs.Common.{◌≡◌, List, [], ◌∷◌, Bool, true, false, refl, ap, Option, Some, None}
 use Rattle.std.specs.Prelude.{slice_get, Result, Ok, Err}
-use Rattle.sql_semantics.specs.declared.refusal.Refusal.{Refusal}
-use Rattle.sql_semantics.specs.Effect.{unless_refused}
+use Rattle.sql_definitions.specs.declared.refusal.Refusal.{Refusal}
+use Rattle.sql_definitions.specs.Effect.{unless_refused}
 use Rattle.sql_changes.specs.Faults.{in_turn, first_of}
 
 pub first_is : (a b c : Bool) (r s t : Refusal) → first_of a r b s c t ≡ slice_get (in_turn a r b s c t) 0

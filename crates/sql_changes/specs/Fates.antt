@@ -1,4 +1,4 @@
--- What becomes of the rows of a table; private contracts alone speak of it.
+-- What becomes of the rows of a table; only private contracts cite it.
 use Rattle.std.specs.Prelude.{List, [], ◌∷◌, ◌++◌, Bool, true, false, Option, Some, None}
 use Rattle.std.specs.Option.{option_to_list}
 use Rattle.cell_core.specs.declared.cell.Cell.{Cell}

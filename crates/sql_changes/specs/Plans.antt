@@ -1,18 +1,18 @@
--- What a change is to do to a table; private contracts alone speak of it.
+-- What a change is to do to a table; only private contracts cite it.
 use Rattle.std.specs.Prelude.{ℕ, suc, List, [], ◌∷◌, ◌++◌, length, map, count_by, Bool, if◌then◌else◌, bytes_eq, Option, Some, None, Ok, Err}
 use Rattle.std.specs.List.{list_any}
 use Rattle.std.specs.Option.{option_map}
 use Rattle.cell_core.specs.declared.cell.Cell.{Cell}
-use Rattle.cell_core.specs.declared.table.Column.{Column}
 use Rattle.cell_core.specs.declared.table.Table.{Table}
-use Rattle.sql_semantics.specs.Effect.{Change, with_new_rows}
+use Rattle.cell_core.specs.Tables.{with_new_rows}
+use Rattle.sql_definitions.specs.Effect.{Change}
 use Rattle.sql_changes.specs.declared.plan.Work.{Work}
 use Rattle.sql_changes.specs.declared.plan.Work.TheVariants.{Adds, Settles}
 use Rattle.sql_changes.specs.declared.plan.PlannedChange.{PlannedChange}
 use Rattle.sql_changes.specs.declared.plan.PlannedChange.TheVariants.{Refused, Accepted}
 use Rattle.sql_changes.specs.Fates.{is_touched, settled}
 
--- the rows that the work leaves of these
+-- these rows after the work
 abbrev pub rows_after : Work → List (List Cell) → List (List Cell)
 rows_after (Adds more) rows = rows ++ more
 rows_after (Settles fates) rows = settled fates rows
@@ -27,22 +27,18 @@ abbrev pub change_of : PlannedChange → List (List Cell) → Change
 change_of (Refused refusal) rows = Err refusal
 change_of (Accepted work) rows = Ok (rows_after work rows, touched_by work)
 
--- the table with one more column, whose cells are its default
-abbrev pub grown : Column → Table → Table
-grown column table = record table { columns = table.columns ++ column ∷ []; rows = map (λ (row : List Cell). row ++ column.default ∷ []) table.rows }
-
 -- the table has this name
 abbrev pub is_named : List ℕ → Table → Bool
 is_named name table = bytes_eq table.name name
 
--- the place of the table with this name, where one alone has it
+-- the place of the table with this name, where only one has it
 abbrev pub place_once : List ℕ → List Table → Option ℕ
 place_once name [] = None
 place_once name (table ∷ tables) =
     if bytes_eq table.name name then (if list_any (is_named name) tables then None else Some 0)
     else option_map (λ n. suc n) (place_once name tables)
 
--- each table with the name gets the rows that the work leaves of the first of them
+-- each table with the name gets the rows of the first of them after the work
 abbrev pub reworked : List ℕ → Work → Option Table → List Table → List Table
 reworked name work None tables = tables
 reworked name work (Some table) tables = map (with_new_rows name (rows_after work table.rows)) tables

@@ -2,9 +2,9 @@
 ghost use Rattle.std.specs.Prelude.{◌≡◌, ◌++◌, ◌<◌, [], ◌∷◌, List, length, map, slice_get, slice_index_or, slice_set, IfOk, OnOk, OnErr};
 ghost use Rattle.cell_core.specs.declared.cell.Cell.{Cell as CellSeen};
 ghost use Rattle.cell_core.specs.declared.table.Table.{Table as TableSeen};
-ghost use Rattle.sql_semantics.specs.Effect.{column_refused, with_column};
+ghost use Rattle.cell_core.specs.Tables.{grown, with_column};
+ghost use Rattle.sql_definitions.specs.Effect.{column_refused};
 ghost use Rattle.sql_changes.specs.Parts.{alter_refusal};
-ghost use Rattle.sql_changes.specs.Plans.{grown};
 
 use crate::carry::find_once;
 use crate::copy::copy_table;
@@ -12,7 +12,7 @@ use cell_core::{
     Cell, Column, Db, Memory, Sequence, Table, Word, copy_cells, copy_columns, word_of,
 };
 use row_values::{is_null_refused, is_too_long};
-use sql_semantics::Refusal;
+use sql_definitions::Refusal;
 use std::alloc::Global;
 use std::mem;
 

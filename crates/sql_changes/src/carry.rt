@@ -3,13 +3,13 @@ ghost use Rattle.std.specs.Prelude.{◌≡◌, ◌<◌, length, slice_set, slice
 ghost use Rattle.std.specs.List.{list_any};
 ghost use Rattle.cell_core.specs.declared.table.Table.{Table as TableSeen};
 ghost use Rattle.cell_core.specs.Tables.{named_table};
-ghost use Rattle.sql_semantics.specs.Effect.{changed};
+ghost use Rattle.sql_definitions.specs.Effect.{changed};
 ghost use Rattle.sql_changes.specs.Plans.{change_of, is_named, place_once, reworked, rows_after};
 
 use crate::copy::{copies_with, copy_table};
 use crate::plan::{PlannedChange, Work, rework};
 use cell_core::{Db, Memory, Sequence, Table, Word};
-use sql_semantics::Reply;
+use sql_definitions::Reply;
 use std::alloc::Global;
 use std::mem;
 
@@ -27,7 +27,7 @@ fn has_name(tables: &[Table], name: &Word) -> bool
     false
 }
 
-/// The place of the table with this name, where one alone has it.
+/// The place of the table with this name, where only one has it.
 pub(crate) fn find_once(tables: &[Table], name: &Word) -> Option<usize>
     ensures place { result ≡ place_once name.now tables.now }
     ensures within { IfSome result (λ at. at < length tables.now) }
@@ -57,8 +57,8 @@ fn rework_at(alloc: Global, at: usize, work: Work, db: &mut Db) -> Result<(), Me
     outcome
 }
 
-/// Does the work on a copy of the first table with this name, and gives its rows to all with the
-/// name.
+/// Does the work on a copy of the first table with this name, and assigns its rows to all tables
+/// with the name.
 fn rework_copy(alloc: Global, name: &Word, work: Work, db: &mut Db) -> Result<(), Memory>
     ensures done { OnOk result (db.new.tables ≡ reworked name.now work (named_table name.now db.old) db.old.tables) }
     ensures kept { OnErr result (db.new ≡ db.old) }

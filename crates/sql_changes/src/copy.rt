@@ -1,6 +1,6 @@
 //! Equal tables, which share their texts.
 ghost use Rattle.std.specs.Prelude.{◌≡◌, map, IfOk};
-ghost use Rattle.sql_semantics.specs.Effect.{with_new_rows};
+ghost use Rattle.cell_core.specs.Tables.{with_new_rows};
 
 use cell_core::{Cell, Db, Memory, Sequence, Table, Word, copy_columns, copy_rows};
 use std::alloc::Global;

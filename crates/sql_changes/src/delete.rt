@@ -2,7 +2,7 @@
 ghost use Rattle.std.specs.Prelude.{◌≡◌, map, IfOk};
 ghost use Rattle.std.specs.Option.{option_map};
 ghost use Rattle.sql_tree.specs.Tree.{cond_tree};
-ghost use Rattle.sql_semantics.specs.Effect.{deleted};
+ghost use Rattle.sql_definitions.specs.Effect.{deleted};
 ghost use Rattle.sql_changes.specs.Plans.{change_of};
 ghost use Rattle.sql_changes.specs.Parts.{deleted_fate};
 
@@ -11,7 +11,7 @@ use crate::hits::is_true_of;
 use crate::plan::{PlannedChange, Work};
 use cell_core::{Memory, Sequence, Table};
 use row_values::{LentRow, cond_overflows};
-use sql_semantics::Refusal;
+use sql_definitions::Refusal;
 use sql_tree::Cond;
 use std::alloc::Global;
 

@@ -6,12 +6,12 @@ ghost use Rattle.cell_core.specs.declared.table.Table.{Table as TableSeen};
 ghost use Rattle.cell_core.specs.Tables.{named_table};
 ghost use Rattle.sql_tree.specs.Tree.{cond_tree, set_tree, stmt_tree};
 ghost use Rattle.sql_tree.specs.Names.{name_text};
-ghost use Rattle.sql_semantics.specs.declared.refusal.Refusal.{Refusal as RefusalSeen};
-ghost use Rattle.sql_semantics.specs.declared.refusal.Refusal.TheVariants as refusal;
-ghost use Rattle.sql_semantics.specs.declared.refusal.Reply.TheVariants.{Refused};
-ghost use Rattle.sql_semantics.specs.Sources.{schema_of};
-ghost use Rattle.sql_semantics.specs.Check.{check_refusal};
-ghost use Rattle.sql_semantics.specs.Effect.{accepted, altered, changed, created, deleted, dropped, effect, inserted, updated};
+ghost use Rattle.sql_definitions.specs.declared.refusal.Refusal.{Refusal as RefusalSeen};
+ghost use Rattle.sql_definitions.specs.declared.refusal.Refusal.TheVariants as refusal;
+ghost use Rattle.sql_definitions.specs.declared.refusal.Reply.TheVariants.{Refused};
+ghost use Rattle.sql_definitions.specs.Sources.{schema_of};
+ghost use Rattle.sql_definitions.specs.Check.{check_refusal};
+ghost use Rattle.sql_definitions.specs.Effect.{accepted, altered, changed, created, deleted, dropped, effect, inserted, updated};
 
 use crate::alter::{add_column, why_not_added};
 use crate::carry::carry_out;
@@ -21,12 +21,12 @@ use crate::insert::insert_plan;
 use crate::update::update_plan;
 use cell_core::{Cell, Column, Db, Memory, Sequence, Table, Word, copy_columns};
 use row_values::has_long_default;
-use sql_semantics::{Refusal, Reply};
+use sql_definitions::{Refusal, Reply};
 use sql_tree::{Cond, Expr, Stmt, printed_name};
 use std::alloc::Global;
 use std::mem;
 
-/// Adds a table without rows, behind the others.
+/// Adds a table without rows, after the others.
 fn create(alloc: Global, name: &Word, columns: &[Column], db: &mut Db) -> Result<Reply, Memory>
     ensures done { IfOk result (λ reply. (db.new, reply) ≡ created name.now columns.now db.old) }
     ensures kept { OnErr result (db.new ≡ db.old) }
@@ -52,7 +52,7 @@ fn without(tables: Vec<Table>, name: &Word) -> Vec<Table>
     others
 }
 
-/// Takes away the tables with this name.
+/// Removes the tables with this name.
 fn drop_named(alloc: Global, name: &Word, db: &mut Db) -> Reply
     ensures { (db.new, result) ≡ dropped name.now db.old }
 {
@@ -61,7 +61,7 @@ fn drop_named(alloc: Global, name: &Word, db: &mut Db) -> Reply
     Reply::Done
 }
 
-/// What a change of a table that isn't there replies.
+/// What a change of a table that doesn't exist replies.
 fn no_table(alloc: Global, name: &Word) -> Result<Reply, Memory>
     ensures { IfOk result (λ reply. reply ≡ Refused (refusal.NoTable (name_text name.now))) }
 {
@@ -132,7 +132,7 @@ fn update(
     carry_out(alloc, name, plan, db)
 }
 
-/// What an accepted statement does, in place.
+/// Does what an accepted statement does, in place.
 fn accept(alloc: Global, stmt: &Stmt, db: &mut Db) -> Result<Reply, Memory>
     ensures done { IfOk result (λ reply. (db.new, reply) ≡ accepted (stmt_tree stmt.now) db.old) }
     ensures kept { OnErr result (db.new ≡ db.old) }
@@ -153,9 +153,10 @@ fn accept(alloc: Global, stmt: &Stmt, db: &mut Db) -> Result<Reply, Memory>
     }
 }
 
-/// Does what an accepted statement does to a database, in place, and tells its reply. A query
-/// changes nothing, and a change of a table that isn't there is refused; where the check accepts the
-/// statement, this is its effect. A refused statement leaves the database as it was. Where memory runs out the database is as it was.
+/// Does what an accepted statement does to a database, in place, and returns its reply. A query
+/// changes nothing, and a change of a table that doesn't exist is refused. Where the check accepts
+/// the statement, this is its effect. Where it is refused or memory runs out, the database is as it
+/// was.
 pub fn change(alloc: Global, stmt: &Stmt, db: &mut Db) -> Result<Reply, Memory>
     ensures done { IfOk result (λ reply. (db.new, reply) ≡ accepted (stmt_tree stmt.now) db.old) }
     ensures effect { check_refusal (stmt_tree stmt.now) (schema_of db.old) ≡ None → IfOk result (λ reply. (db.new, reply) ≡ effect (stmt_tree stmt.now) db.old) }
@@ -165,7 +166,7 @@ pub fn change(alloc: Global, stmt: &Stmt, db: &mut Db) -> Result<Reply, Memory>
     accept(alloc, stmt, db)
 }
 
-/// The same on a copy: what an accepted statement leaves of a database, and its reply.
+/// The same on a copy: the database after an accepted statement, and its reply.
 pub fn slow_effect(alloc: Global, stmt: &Stmt, db: &Db) -> Result<(Db, Reply), Memory>
     ensures done { IfOk result (λ outcome. outcome ≡ accepted (stmt_tree stmt.now) db.now) }
     ensures effect { check_refusal (stmt_tree stmt.now) (schema_of db.now) ≡ None → IfOk result (λ outcome. outcome ≡ effect (stmt_tree stmt.now) db.now) }

@@ -33,7 +33,7 @@ pub(crate) fn touched(fates: &[Fate]) -> usize
     fates.iter().filter(|fate| is_touched(fate)).count()
 }
 
-/// What a row's fate leaves in its place.
+/// What is in a row's place after its fate.
 fn left_of(fate: Fate, row: Sequence<Cell>) -> Option<Sequence<Cell>>
     ensures { result ≡ left_of fate row }
 {
@@ -56,7 +56,7 @@ fn push_within(rows: &mut Vec<Sequence<Cell>>, row: Sequence<Cell>)
     };
 }
 
-/// The rows as their fates leave them, moved to where there is room.
+/// The rows after their fates, moved to where there is room.
 pub(crate) fn settle(
     rows: Vec<Sequence<Cell>>,
     fates: Vec<Fate>,

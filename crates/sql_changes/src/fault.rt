@@ -4,7 +4,7 @@ ghost use Rattle.std.specs.List.{list_any};
 ghost use Rattle.std.specs.Option.{option_map_or};
 ghost use Rattle.cell_core.specs.declared.table.Column.{Column as ColumnSeen};
 ghost use Rattle.sql_tree.specs.Tree.{set_tree};
-ghost use Rattle.sql_semantics.specs.Effect.{is_too_long as is_too_long_of, is_null_refused as is_null_refused_of, is_too_long_set as is_too_long_set_of, is_null_set as is_null_set_of, is_any_set};
+ghost use Rattle.sql_definitions.specs.Effect.{is_too_long as is_too_long_of, is_null_refused as is_null_refused_of, is_too_long_set as is_too_long_set_of, is_null_set as is_null_set_of, is_any_set};
 ghost use Rattle.sql_changes.specs.Faults.{has_fault as has_fault_of, is_refused_there};
 
 use crate::hits::{cell_of, overflows_for, value_of};
@@ -14,7 +14,7 @@ use sql_tree::Expr;
 
 /// What may be wrong with a value for a row.
 #[derive(Clone, Copy)]
-pub(crate) enum Fault {
+pub(crate) enum ValueFault {
     /// It is a text that is too long for its column.
     TooLong,
     /// It is Nil, which its column refuses.
@@ -79,7 +79,7 @@ fn is_null_set(table: &Table, row: &LentRow<'_>, set: &(Word, Expr)) -> Result<b
 
 /// Whether the value for a row has this fault.
 fn has_fault(
-    fault: Fault,
+    fault: ValueFault,
     table: &Table,
     row: &LentRow<'_>,
     set: &(Word, Expr),
@@ -87,15 +87,15 @@ fn has_fault(
     ensures { IfOk result (λ has. has ≡ has_fault_of fault table.now row.now (set_tree set.now)) }
 {
     match fault {
-        Fault::TooLong => is_too_long_set(table, row, set),
-        Fault::Null => is_null_set(table, row, set),
-        Fault::Overflow => overflows_for(table, row, &set.1),
+        ValueFault::TooLong => is_too_long_set(table, row, set),
+        ValueFault::Null => is_null_set(table, row, set),
+        ValueFault::Overflow => overflows_for(table, row, &set.1),
     }
 }
 
 /// Whether one of the values for a row has it.
 fn has_row_fault(
-    fault: Fault,
+    fault: ValueFault,
     table: &Table,
     row: &LentRow<'_>,
     sets: &[(Word, Expr)],
@@ -114,7 +114,7 @@ fn has_row_fault(
 
 /// Whether one of the values for these rows has it.
 pub(crate) fn has_any_fault(
-    fault: Fault,
+    fault: ValueFault,
     table: &Table,
     sets: &[(Word, Expr)],
     rows: &[LentRow<'_>],

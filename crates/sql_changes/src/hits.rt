@@ -2,13 +2,13 @@
 ghost use Rattle.std.specs.Prelude.{◌≡◌, [], ◌∷◌, filter, is_none, IfOk};
 ghost use Rattle.std.specs.Option.{option_map};
 ghost use Rattle.sql_tree.specs.Tree.{cond_tree, expr_tree};
-ghost use Rattle.sql_semantics.specs.Values.{value as value_in, cell_over as cell_over_of};
-ghost use Rattle.sql_semantics.specs.Kept.{is_kept as is_kept_of};
-ghost use Rattle.sql_semantics.specs.Effect.{own_table, is_hit};
+ghost use Rattle.sql_definitions.specs.Values.{value as value_in, cell_over as cell_over_of};
+ghost use Rattle.sql_definitions.specs.Kept.{is_kept as is_kept_of};
+ghost use Rattle.sql_definitions.specs.Effect.{own_table, is_hit};
 
 use cell_core::{Cell, Memory, Table};
 use row_values::{LentRow, cell_over, cond_overflows, is_kept, overflows_over, value_over};
-use sql_semantics::Called;
+use sql_definitions::Called;
 use sql_tree::{Cond, Expr};
 use std::alloc::Global;
 

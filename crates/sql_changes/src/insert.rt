@@ -3,7 +3,7 @@ ghost use Rattle.std.specs.Prelude.{◌≡◌, ◌+◌, bytes_eq, length, map, n
 ghost use Rattle.std.specs.List.{position_or_len};
 ghost use Rattle.cell_core.specs.declared.table.Column.{Column as ColumnSeen};
 ghost use Rattle.cell_core.specs.declared.table.Table.{Table as TableSeen};
-ghost use Rattle.sql_semantics.specs.Effect.{inserted, placed, row_limit};
+ghost use Rattle.sql_definitions.specs.Effect.{inserted, placed, row_limit};
 ghost use Rattle.sql_changes.specs.Added.{added_rows, added_to, by_name};
 ghost use Rattle.sql_changes.specs.Plans.{change_of};
 ghost use Rattle.sql_changes.specs.Parts.{insert_refusal};
@@ -11,7 +11,7 @@ ghost use Rattle.sql_changes.specs.Parts.{insert_refusal};
 use crate::plan::{PlannedChange, Work};
 use cell_core::{Cell, Column, Memory, Sequence, Table, Word, copy_rows, word_of};
 use row_values::{are_rows_too_long, has_null_row};
-use sql_semantics::{Refusal, targets};
+use sql_definitions::{Refusal, targets};
 use std::alloc::Global;
 
 /// The most rows of a table.
@@ -25,7 +25,7 @@ pub enum AddedRows<'a> {
     Made(Sequence<Sequence<Cell>>),
 }
 
-// By a call of its own, so that proofs needn't go through its forms where one is let go.
+// By a call of its own, so that proofs needn't go through its forms where one is dropped.
 impl<'a> Drop for AddedRows<'a> {
     fn drop(self) {
         match self {
@@ -45,7 +45,7 @@ impl AddedRows<'_> {
         }
     }
 
-    /// The rows for somebody who keeps them.
+    /// The rows, to keep them.
     fn into_rows(self, alloc: Global) -> Result<Sequence<Sequence<Cell>>, Memory>
         ensures { IfOk result (λ rows. rows ≡ added_rows self.entry) }
     {
@@ -139,8 +139,8 @@ fn passes_limit(rows: usize, more: usize) -> bool
     more > ROW_LIMIT || rows > ROW_LIMIT - more
 }
 
-/// Why an INSERT is refused whose values go to these columns, and make these rows of a table with other
-/// columns and so many rows.
+/// Why an INSERT is refused whose values go to these columns, and make these rows of a table with
+/// other columns and so many rows.
 fn refusal_for(
     alloc: Global,
     targets: &[Column],

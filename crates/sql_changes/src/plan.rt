@@ -4,7 +4,7 @@ ghost use Rattle.sql_changes.specs.Plans.{rows_after, touched_by};
 
 use crate::fate::{Fate, settle, touched};
 use cell_core::{Cell, Memory, Sequence, Table};
-use sql_semantics::Refusal;
+use sql_definitions::Refusal;
 use std::alloc::Global;
 use std::mem;
 
@@ -49,7 +49,7 @@ pub(crate) fn rework(alloc: Global, work: Work, table: &mut Table) -> Result<(),
     }
 }
 
-/// Leaves of each row of a table what its fate says.
+/// Replaces the rows of a table by those after their fates.
 fn settle_table(alloc: Global, fates: Sequence<Fate>, table: &mut Table) -> Result<(), Memory>
     ensures done { OnOk result (table.new ≡ record table.old { rows = rows_after (Work.Settles fates) table.old.rows }) }
     ensures kept { OnErr result (table.new ≡ table.old) }

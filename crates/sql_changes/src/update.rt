@@ -3,18 +3,18 @@ ghost use Rattle.std.specs.Prelude.{◌≡◌, ℕ, List, bytes_eq, find, map, I
 ghost use Rattle.std.specs.List.{list_any};
 ghost use Rattle.std.specs.Option.{option_copied, option_map};
 ghost use Rattle.sql_tree.specs.Tree.{ExprTree, cond_tree, set_tree};
-ghost use Rattle.sql_semantics.specs.Values.{constant_overflows as constant_overflows_of};
-ghost use Rattle.sql_semantics.specs.Effect.{updated_row as updated_row_of, updated};
+ghost use Rattle.sql_definitions.specs.Values.{constant_overflows as constant_overflows_of};
+ghost use Rattle.sql_definitions.specs.Effect.{updated_row as updated_row_of, updated};
 ghost use Rattle.sql_changes.specs.Plans.{change_of};
 ghost use Rattle.sql_changes.specs.Parts.{constants_overflow as constants_overflow_of, set_at, set_cells as set_cells_of, update_refusal, updated_fate};
 
 use crate::fate::Fate;
-use crate::fault::{Fault, has_any_fault};
+use crate::fault::{ValueFault, has_any_fault};
 use crate::hits::{cell_of, hits, is_true_of};
 use crate::plan::{PlannedChange, Work};
 use cell_core::{Cell, Column, Memory, Sequence, Table, Word};
 use row_values::{LentRow, cond_overflows, constant_overflows};
-use sql_semantics::Refusal;
+use sql_definitions::Refusal;
 use sql_tree::{Cond, Expr};
 use std::alloc::Global;
 
@@ -48,13 +48,13 @@ fn refusal_for(
 ) -> Result<Option<Refusal>, Memory>
     ensures { IfOk result (λ found. found ≡ update_refusal (map set_tree sets.now) (option_map cond_tree cond.now) table.now rows.now) }
 {
-    if has_any_fault(Fault::TooLong, table, sets, rows)? {
+    if has_any_fault(ValueFault::TooLong, table, sets, rows)? {
         return Ok(Some(Refusal::TextTooLong));
     }
-    if has_any_fault(Fault::Null, table, sets, rows)? {
+    if has_any_fault(ValueFault::Null, table, sets, rows)? {
         return Ok(Some(Refusal::NullStored));
     }
-    if constants_overflow(sets, cond)? || has_any_fault(Fault::Overflow, table, sets, rows)? {
+    if constants_overflow(sets, cond)? || has_any_fault(ValueFault::Overflow, table, sets, rows)? {
         return Ok(Some(Refusal::Overflow));
     }
     Ok(None)
@@ -74,7 +74,7 @@ fn find_set<'a>(sets: &'a [(Word, Expr)], name: &Word) -> Option<&'a (Word, Expr
     None
 }
 
-/// The cell that a column gets from a row: the value of its expression, or else the old cell.
+/// The new cell of a column in a row: the value of its expression, or else the old cell.
 #[tactic(auto, unfolding(crate::specs::Parts::set_at))]
 fn set_cell(
     table: &Table,
@@ -91,7 +91,7 @@ fn set_cell(
     }
 }
 
-/// The cells that columns get from a row that has these cells there.
+/// The new cells of columns in a row that has these cells there.
 fn set_cells(
     alloc: Global,
     table: &Table,
@@ -115,7 +115,7 @@ fn set_cells(
     Ok(new)
 }
 
-/// A row with its set cells replaced by their expressions' values over the row as it was.
+/// A row with its set cells replaced by the values of their expressions over the old row.
 #[tactic(auto, unfolding(crate::specs::Parts::set_at))]
 fn updated_row(
     alloc: Global,

@@ -5,12 +5,12 @@ use Rattle.std.specs.Option.{option_or}
 use Rattle.cell_core.specs.declared.cell.Cell.{Cell}
 use Rattle.cell_core.specs.declared.table.Column.{Column}
 use Rattle.sql_tree.specs.Tree.{ExprTree, CondTree}
-use Rattle.sql_semantics.specs.declared.refusal.Refusal.{Refusal}
-use Rattle.sql_semantics.specs.declared.refusal.Refusal.TheVariants.{WrongCount, KindsDiffer}
-use Rattle.sql_semantics.specs.declared.source.Source.{Source}
-use Rattle.sql_semantics.specs.Sources.{NamedSource}
+use Rattle.sql_definitions.specs.declared.refusal.Refusal.{Refusal}
+use Rattle.sql_definitions.specs.declared.refusal.Refusal.TheVariants.{WrongCount, KindsDiffer}
+use Rattle.sql_definitions.specs.declared.source.Source.{Source}
+use Rattle.sql_definitions.specs.Sources.{NamedSource}
 use Rattle.sql_tree.specs.Exprs.{exprs_of_cond}
-use Rattle.sql_semantics.specs.Check.{refused_if, unknown_names, names_twice, targets, is_wrong_count, is_misfit_row, is_misfit_set, is_misfit_cond, is_misfit_default, bad_in_exprs, insert_refusals}
+use Rattle.sql_definitions.specs.Check.{refused_if, unknown_names, names_twice, targets, is_wrong_count, is_misfit_row, is_misfit_set, is_misfit_cond, is_misfit_default, bad_in_exprs, insert_refusals}
 use Rattle.sql_check.specs.First.{first, first_by, bad_expr, column_list, rows_first, delete_list, update_list}
 use Rattle.sql_check.proofs.FirstLemmas.{by_both, bad_by_exprs}
 use Rattle.sql_check.proofs.QueryLemmas.{next}

@@ -8,16 +8,16 @@ use Rattle.std.proofs.lemmas.List.{map-append}
 use Rattle.std.proofs.lemmas.List.Elements.{filter-append}
 use Rattle.sql_tree.specs.Tree.{ExprTree, ItemTree}
 use Rattle.sql_tree.specs.declared.tree.ColRef.{ColRef}
-use Rattle.sql_semantics.specs.declared.called.Found.{Found}
-use Rattle.sql_semantics.specs.declared.refusal.Refusal.{Refusal}
-use Rattle.sql_semantics.specs.Sources.{NamedSource, places}
-use Rattle.sql_semantics.specs.Found.{found_of}
-use Rattle.sql_semantics.specs.References.{references, outer_references}
-use Rattle.sql_semantics.specs.Check.{misplaced, bad_references, bad_in_exprs, is_group_column, bad_key}
-use Rattle.sql_semantics.specs.declared.refusal.Refusal.TheVariants.{NoColumn, Ambiguous, NotGrouped}
+use Rattle.sql_definitions.specs.declared.called.Resolved.{Resolved}
+use Rattle.sql_definitions.specs.declared.refusal.Refusal.{Refusal}
+use Rattle.sql_definitions.specs.Sources.{NamedSource, places}
+use Rattle.sql_definitions.specs.Found.{found_of}
+use Rattle.sql_definitions.specs.References.{references, outer_references}
+use Rattle.sql_definitions.specs.Check.{misplaced, bad_references, bad_in_exprs, is_group_column, bad_key}
+use Rattle.sql_definitions.specs.declared.refusal.Refusal.TheVariants.{NoColumn, Ambiguous, NotGrouped}
 use Rattle.sql_tree.specs.declared.tree.Place.{Place}
 use Rattle.sql_tree.specs.declared.tree.Place.TheVariants.{Named}
-use Rattle.sql_semantics.specs.Answer.{key_place}
+use Rattle.sql_definitions.specs.Answer.{key_place}
 use Rattle.sql_tree.specs.Names.{name_text}
 use Rattle.sql_check.specs.First.{first, first_by, bad_expr, ungrouped, ungrouped_expr, misplaced_found, key_refusal}
 
@@ -31,7 +31,7 @@ misplaced_is ref [] = refl
 misplaced_is ref (place ∷ []) = refl
 misplaced_is ref (place ∷ other ∷ more) = refl
 
-pub misplaced_by_found : (sources : List NamedSource) (ref : ColRef) (table : Option (List ℕ)) (found : Found) (refusal : Option Refusal)
+pub misplaced_by_found : (sources : List NamedSource) (ref : ColRef) (table : Option (List ℕ)) (found : Resolved) (refusal : Option Refusal)
     → table ≡ ref.table → found ≡ found_of (places sources (record { table = table; column = ref.column })) → refusal ≡ misplaced_found ref found
     → refusal ≡ first (misplaced ref (places sources ref))
 misplaced_by_found sources ref table found refusal is_table is_found is_refusal =
@@ -46,7 +46,7 @@ pub bad_in_both : (sources : List NamedSource) (xs ys : List ColRef) → first (
 bad_in_both sources xs ys =
     ap first (flat_map-append (λ (ref : ColRef). misplaced ref (places sources ref)) xs ys) ∙ first_in_both (bad_references sources xs) (bad_references sources ys)
 
--- the first that two lists of expressions give
+-- the first refusal of two lists of expressions
 pub by_both : (refusal : ExprTree → Option Refusal) (xs ys : List ExprTree) → first_by refusal (xs ++ ys) ≡ option_or (first_by refusal xs) (first_by refusal ys)
 by_both refusal [] ys = refl
 by_both refusal (x ∷ xs) ys = ap (option_or (refusal x)) (by_both refusal xs ys) ∙ or_in_turn (refusal x) (first_by refusal xs) (first_by refusal ys)
@@ -55,7 +55,7 @@ by_both refusal (x ∷ xs) ys = ap (option_or (refusal x)) (by_both refusal xs y
     or_in_turn None b c = refl
     or_in_turn (Some x) b c = refl
 
--- one expression after the other gives the first bad reference of all
+-- the first refusal, taken expression by expression, is that of the first bad reference of all
 pub bad_by_exprs : (sources : List NamedSource) (exprs : List ExprTree) → first_by (bad_expr sources) exprs ≡ first (bad_in_exprs sources exprs)
 unfolding bad_expr
 bad_by_exprs sources [] = refl
@@ -87,7 +87,7 @@ key_refusal_is ref (place ∷ []) = refl
 key_refusal_is ref (place ∷ other ∷ more) =
     ap (λ b. first (cond b (Ambiguous (name_text ref.column) ∷ []) (NoColumn (name_text ref.column) ∷ []))) (sym (lt-ltb 1 (length (place ∷ other ∷ more)) (omega arith)))
 
-pub key_by_found : (sources : List NamedSource) (items : List ItemTree) (ref : ColRef) (table : Option (List ℕ)) (found : Found) (refusal : Refusal)
+pub key_by_found : (sources : List NamedSource) (items : List ItemTree) (ref : ColRef) (table : Option (List ℕ)) (found : Resolved) (refusal : Refusal)
     → is_some (key_place sources items (Named ref)) ≡ false
     → table ≡ ref.table → found ≡ found_of (places sources (record { table = table; column = ref.column })) → refusal ≡ key_refusal ref found
     → Some refusal ≡ first (bad_key sources items (Named ref))
@@ -96,7 +96,7 @@ key_by_found sources items ref table found refusal none is_table is_found is_ref
     ∙ key_refusal_is ref (places sources ref)
     ∙ ap (λ b. first (cond b [] (cond (nat_lt 1 (length (places sources ref))) (Ambiguous (name_text ref.column) ∷ []) (NoColumn (name_text ref.column) ∷ [])))) (sym none)
 
-pub key_by_place : (sources : List NamedSource) (items : List ItemTree) (place : Place) (ref : ColRef) (table : Option (List ℕ)) (item : Option ℕ) (has_item : Bool) (found : Found) (refusal : Refusal)
+pub key_by_place : (sources : List NamedSource) (items : List ItemTree) (place : Place) (ref : ColRef) (table : Option (List ℕ)) (item : Option ℕ) (has_item : Bool) (found : Resolved) (refusal : Refusal)
     → place ≡ Named ref → item ≡ key_place sources items place → has_item ≡ is_some item → has_item ≡ false
     → table ≡ ref.table → found ≡ found_of (places sources (record { table = table; column = ref.column })) → refusal ≡ key_refusal ref found
     → Some refusal ≡ first (bad_key sources items place)

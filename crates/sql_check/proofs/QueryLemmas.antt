@@ -7,14 +7,14 @@ use Rattle.sql_tree.specs.Tree.{ExprTree, ItemTree, QueryTree}
 use Rattle.sql_tree.specs.declared.tree.ColRef.{ColRef}
 use Rattle.sql_tree.specs.declared.tree.FromItem.{FromItem}
 use Rattle.sql_tree.specs.declared.tree.SortKey.{SortKey}
-use Rattle.sql_semantics.specs.declared.refusal.Refusal.{Refusal}
-use Rattle.sql_semantics.specs.declared.refusal.Refusal.TheVariants.{KindsDiffer}
-use Rattle.sql_semantics.specs.declared.source.Schema.{Schema}
-use Rattle.sql_semantics.specs.Sources.{NamedSource, from_name, from_sources}
+use Rattle.sql_definitions.specs.declared.refusal.Refusal.{Refusal}
+use Rattle.sql_definitions.specs.declared.refusal.Refusal.TheVariants.{KindsDiffer}
+use Rattle.sql_definitions.specs.declared.source.Schema.{Schema}
+use Rattle.sql_definitions.specs.Sources.{NamedSource, from_name, from_sources}
 use Rattle.sql_tree.specs.Exprs.{exprs_of_cond}
-use Rattle.sql_semantics.specs.References.{items_of, item_exprs, outer_references, is_grouped}
-use Rattle.sql_semantics.specs.Kinds.{is_misfit}
-use Rattle.sql_semantics.specs.Check.{refused_if, names_twice, missing_tables, bad_references, bad_in_exprs, bad_keys, not_grouped, is_misfit_cond, is_misfit_query, column_refusals, query_refusals}
+use Rattle.sql_definitions.specs.References.{items_of, item_exprs, outer_references, is_grouped}
+use Rattle.sql_definitions.specs.Kinds.{is_misfit}
+use Rattle.sql_definitions.specs.Check.{refused_if, names_twice, missing_tables, bad_references, bad_in_exprs, bad_keys, not_grouped, is_misfit_cond, is_misfit_query, column_refusals, query_refusals}
 use Rattle.sql_check.specs.First.{first, first_by, bad_expr, ungrouped, ungrouped_expr, bad_keys_of}
 use Rattle.sql_check.proofs.FirstLemmas.{first_in_both, by_both, bad_by_exprs, ungrouped_by_exprs}
 

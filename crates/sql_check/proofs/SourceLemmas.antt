@@ -1,4 +1,4 @@
--- A statement is refused over the tables that it speaks of as it is over all.
+-- A statement is refused over the tables that it names as it is over all.
 use Rattle.std.proofs.Common.{◌≡◌, ℕ, List, [], ◌∷◌, ◌++◌, map, filter, filter_map, Bool, true, false, cond, refl, ap, sym, subst, ◌∙◌, Option, Some, None}
 use Rattle.std.specs.Prelude.{bytes_eq, find, is_some, is_none, slice_get}
 use Rattle.std.specs.List.{list_any, cons_option}
@@ -10,12 +10,12 @@ use Rattle.sql_tree.specs.Names.{name_text}
 use Rattle.sql_tree.specs.Tree.{QueryTree, StmtTree}
 use Rattle.sql_tree.specs.Tree.StmtTree.{CreateTable, DropTable, AlterTable, InsertInto, DeleteFrom, UpdateTable, Select, ExplainSelect}
 use Rattle.sql_tree.specs.declared.tree.FromItem.{FromItem}
-use Rattle.sql_semantics.specs.declared.refusal.Refusal.{Refusal}
-use Rattle.sql_semantics.specs.declared.refusal.Refusal.TheVariants.{NoTable, TableExists, KindsDiffer}
-use Rattle.sql_semantics.specs.declared.source.Schema.{Schema}
-use Rattle.sql_semantics.specs.declared.source.Source.{Source}
-use Rattle.sql_semantics.specs.Sources.{NamedSource, source_named, from_name, from_sources}
-use Rattle.sql_semantics.specs.Check.{refused_if, names_twice, is_misfit_default, insert_refusals, alter_refusals, delete_refusals, update_refusals, drop_refusals, over_table, missing_tables, column_refusals, query_refusals, refusals_of, check_refusal, sources_named, tables_of}
+use Rattle.sql_definitions.specs.declared.refusal.Refusal.{Refusal}
+use Rattle.sql_definitions.specs.declared.refusal.Refusal.TheVariants.{NoTable, TableExists, KindsDiffer}
+use Rattle.sql_definitions.specs.declared.source.Schema.{Schema}
+use Rattle.sql_definitions.specs.declared.source.Source.{Source}
+use Rattle.sql_definitions.specs.Sources.{NamedSource, source_named, from_name, from_sources}
+use Rattle.sql_definitions.specs.Check.{refused_if, names_twice, is_misfit_default, insert_refusals, alter_refusals, delete_refusals, update_refusals, drop_refusals, over_table, missing_tables, column_refusals, query_refusals, refusals_of, check_refusal, sources_named, tables_of}
 use Rattle.sql_check.specs.First.{first}
 
 -- ## The table of a name
@@ -139,7 +139,7 @@ change_same : (name : List ℕ) (schema : Schema) (change : Source → List Refu
     → first (over_table name (source_named name (own (name ∷ []) schema)) change) ≡ first (over_table name (source_named name schema) change)
 change_same name schema change = ap (λ (o : Option Source). first (over_table name o change)) (found_again [] name [] schema)
 
--- a statement that isn't refused over a schema isn't refused over the tables that it speaks of
+-- a statement that isn't refused over a schema isn't refused over the tables that it names
 pub accepted_over_own : (stmt : StmtTree) (schema : Schema) → check_refusal stmt schema ≡ None → check_refusal stmt (own (tables_of stmt) schema) ≡ None
 accepted_over_own (CreateTable name columns) schema e = create (is_some (source_named name schema)) e
   where

@@ -5,26 +5,26 @@ use Rattle.std.specs.List.{list_any}
 use Rattle.cell_core.specs.declared.cell.Cell.{Cell}
 use Rattle.cell_core.specs.declared.cell.Kind.{Kind}
 use Rattle.cell_core.specs.declared.table.Column.{Column}
-use Rattle.sql_semantics.specs.Kinds.{column_at}
+use Rattle.sql_definitions.specs.Kinds.{column_at}
 use Rattle.sql_tree.specs.Names.{name_text}
 use Rattle.sql_tree.specs.Tree.{ExprTree, CondTree, ItemTree, set_tree}
 use Rattle.sql_tree.specs.declared.tree.ColRef.{ColRef}
 use Rattle.sql_tree.specs.declared.tree.Expr.{Expr}
 use Rattle.sql_tree.specs.declared.tree.SortKey.{SortKey}
-use Rattle.sql_semantics.specs.declared.called.Found.{Found}
-use Rattle.sql_semantics.specs.declared.called.Found.TheVariants.{Nowhere, At, Twice}
-use Rattle.sql_semantics.specs.declared.refusal.Refusal.{Refusal}
-use Rattle.sql_semantics.specs.declared.refusal.Refusal.TheVariants.{NoColumn, Ambiguous, NotGrouped, WrongCount, KindsDiffer}
-use Rattle.sql_semantics.specs.Sources.{NamedSource}
-use Rattle.sql_semantics.specs.Check.{bad_key, bad_references, bad_in_exprs, is_group_column, refused_if, unknown_names, names_twice, is_misfit_default, is_wrong_count, is_misfit_row, is_misfit_set, is_misfit_cond}
+use Rattle.sql_definitions.specs.declared.called.Resolved.{Resolved}
+use Rattle.sql_definitions.specs.declared.called.Resolved.TheVariants.{Nowhere, At, Twice}
+use Rattle.sql_definitions.specs.declared.refusal.Refusal.{Refusal}
+use Rattle.sql_definitions.specs.declared.refusal.Refusal.TheVariants.{NoColumn, Ambiguous, NotGrouped, WrongCount, KindsDiffer}
+use Rattle.sql_definitions.specs.Sources.{NamedSource}
+use Rattle.sql_definitions.specs.Check.{bad_key, bad_references, bad_in_exprs, is_group_column, refused_if, unknown_names, names_twice, is_misfit_default, is_wrong_count, is_misfit_row, is_misfit_set, is_misfit_cond}
 use Rattle.sql_tree.specs.Exprs.{exprs_of_cond}
-use Rattle.sql_semantics.specs.References.{references, outer_references}
+use Rattle.sql_definitions.specs.References.{references, outer_references}
 
 abbrev pub first : List Refusal → Option Refusal
 first refusals = slice_get refusals 0
 
 -- the refusal of a reference with so many places
-abbrev pub misplaced_found : ColRef → Found → Option Refusal
+abbrev pub misplaced_found : ColRef → Resolved → Option Refusal
 misplaced_found ref Nowhere = Some (NoColumn (name_text ref.column))
 misplaced_found ref (At table column) = None
 misplaced_found ref Twice = Some (Ambiguous (name_text ref.column))
@@ -37,7 +37,7 @@ set_exprs sets = map (λ (set : List ℕ × ExprTree). set.1) (map set_tree sets
 abbrev pub bad_keys_of : List NamedSource → List ItemTree → List SortKey → List Refusal
 bad_keys_of sources items keys = flat_map (λ (key : SortKey). bad_key sources items key.at) keys
 
--- the first that one of the expressions gives
+-- the first refusal that a function finds for one of the expressions
 abbrev pub first_by : (ExprTree → Option Refusal) → List ExprTree → Option Refusal
 first_by refusal [] = None
 first_by refusal (expr ∷ exprs) = option_or (refusal expr) (first_by refusal exprs)
@@ -60,7 +60,7 @@ abbrev pub kind_at_place : List NamedSource → Option (ℕ × ℕ) → Option K
 kind_at_place sources place = option_map (λ (column : Column). column.kind) (option_and_then (column_at sources) place)
 
 -- the refusal of a key whose column has so many places
-abbrev pub key_refusal : ColRef → Found → Refusal
+abbrev pub key_refusal : ColRef → Resolved → Refusal
 key_refusal ref Nowhere = NoColumn (name_text ref.column)
 key_refusal ref (At table column) = NoColumn (name_text ref.column)
 key_refusal ref Twice = Ambiguous (name_text ref.column)

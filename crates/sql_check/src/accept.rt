@@ -4,9 +4,9 @@ ghost use Rattle.sql_grammar.specs.Formed.{IsFormed};
 ghost use Rattle.sql_tree.specs.Tree.{stmt_tree};
 ghost use Rattle.sql_tree.specs.declared.tree.FromItem.{FromItem as FromItemSeen};
 ghost use Rattle.sql_tree.specs.Names.{name_text};
-ghost use Rattle.sql_semantics.specs.declared.refusal.Refusal.{Refusal as RefusalSeen};
-ghost use Rattle.sql_semantics.specs.declared.refusal.Refusal.TheVariants.{NoTable};
-ghost use Rattle.sql_semantics.specs.Check.{check_refusal, sources_named as sources_named_of, tables_of};
+ghost use Rattle.sql_definitions.specs.declared.refusal.Refusal.{Refusal as RefusalSeen};
+ghost use Rattle.sql_definitions.specs.declared.refusal.Refusal.TheVariants.{NoTable};
+ghost use Rattle.sql_definitions.specs.Check.{check_refusal, sources_named as sources_named_of, tables_of};
 ghost use Rattle.sql_check.specs.declared.error.CheckError.TheVariants.{Refused};
 
 use crate::changes::{
@@ -16,11 +16,11 @@ use crate::error::CheckError;
 use crate::names::source_named;
 use crate::query::query_refusal;
 use cell_core::{Memory, Sequence, Word, copy_columns};
-use sql_semantics::{Refusal, Schema, Source, Typed};
+use sql_definitions::{Refusal, Schema, Source, Typed};
 use sql_tree::{FromItem, Stmt, printed_name};
 use std::alloc::Global;
 
-/// The refusal of a change of a table that isn't there.
+/// The refusal of a change of a table that doesn't exist.
 fn no_table(alloc: Global, table: &Word) -> Result<Option<Refusal>, Memory>
     ensures { IfOk result (λ refusal. refusal ≡ Some (NoTable (name_text table.now))) }
 {
@@ -28,8 +28,8 @@ fn no_table(alloc: Global, table: &Word) -> Result<Option<Refusal>, Memory>
     Ok(Some(Refusal::NoTable(name)))
 }
 
-/// The first refusal of a statement over a schema, or none where it is accepted. It copies nothing, and
-/// so serves where the statement isn't kept.
+/// The first refusal of a statement over a schema, or none where it is accepted. It copies nothing,
+/// for callers that don't keep the statement.
 pub fn refusal_of(alloc: Global, stmt: &Stmt, schema: &Schema) -> Result<Option<Refusal>, Memory>
     ensures { IfOk result (λ refusal. refusal ≡ check_refusal (stmt_tree stmt.now) schema.now) }
 {
@@ -105,7 +105,7 @@ fn sources_of_table(
     Ok(sources)
 }
 
-/// The tables that a statement speaks of.
+/// The tables that a statement names.
 fn sources_of(alloc: Global, stmt: &Stmt, schema: &Schema) -> Result<Sequence<Source>, Memory>
     ensures { IfOk result (λ sources. sources ≡ sources_named_of (tables_of (stmt_tree stmt.now)) schema.now) }
 {
@@ -121,7 +121,7 @@ fn sources_of(alloc: Global, stmt: &Stmt, schema: &Schema) -> Result<Sequence<So
     }
 }
 
-/// An accepted statement with the tables that it speaks of.
+/// An accepted statement with the tables that it names.
 fn typed_over(alloc: Global, stmt: &Stmt, schema: &Schema) -> Result<Typed, Memory>
     requires formed { IsFormed (stmt_tree stmt.now) }
     requires accepted { check_refusal (stmt_tree stmt.now) schema.now ≡ None }
@@ -133,9 +133,8 @@ fn typed_over(alloc: Global, stmt: &Stmt, schema: &Schema) -> Result<Typed, Memo
     Typed::new(copy, sources)
 }
 
-/// The statement with the tables that it speaks of, if the check accepts it over the schema, and
-/// else its first refusal. A schema with a table of 2^32 columns or more is answered as want of
-/// memory.
+/// The statement with the tables that it names, if the check accepts it over the schema, and
+/// else its first refusal. A schema with a table of 2^32 columns or more fails with `Memory`.
 pub fn check(alloc: Global, stmt: &Stmt, schema: &Schema) -> Result<Typed, CheckError>
     requires formed { IsFormed (stmt_tree stmt.now) }
     ensures accepted { IfOk result (λ typed. check_refusal (stmt_tree stmt.now) schema.now ≡ None) }

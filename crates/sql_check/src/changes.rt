@@ -4,8 +4,8 @@ ghost use Rattle.cell_core.specs.declared.cell.Cell.{Cell as CellSeen};
 ghost use Rattle.std.specs.List.{list_any};
 ghost use Rattle.std.specs.Option.{option_map};
 ghost use Rattle.sql_tree.specs.Tree.{ExprTree, cond_tree, set_tree};
-ghost use Rattle.sql_semantics.specs.declared.refusal.Refusal.TheVariants.{WrongCount};
-ghost use Rattle.sql_semantics.specs.Check.{refused_if, create_refusals, drop_refusals, alter_refusals, insert_refusals, delete_refusals, update_refusals, own_source, is_misfit_default as is_misfit_default_of, is_misfit_row as is_misfit_row_of, is_misfit_set as is_misfit_set_of, is_misfit_cond};
+ghost use Rattle.sql_definitions.specs.declared.refusal.Refusal.TheVariants.{WrongCount};
+ghost use Rattle.sql_definitions.specs.Check.{refused_if, create_refusals, drop_refusals, alter_refusals, insert_refusals, delete_refusals, update_refusals, own_source, is_misfit_default as is_misfit_default_of, is_misfit_row as is_misfit_row_of, is_misfit_set as is_misfit_set_of, is_misfit_cond};
 ghost use Rattle.sql_check.specs.First.{first, column_list, rows_first, delete_list, update_list};
 
 use crate::kinds::{is_cond_misfit, is_misfit, kind_of_expr};
@@ -14,7 +14,7 @@ use crate::query::{either, kinds_differ};
 use crate::references::{bad_in_cond, bad_in_sets};
 use cell_calc::{agrees, kind_of};
 use cell_core::{Cell, Column, Memory, Sequence, Word};
-use sql_semantics::{Called, Refusal, Schema, Source, column_named, targets};
+use sql_definitions::{Called, Refusal, Schema, Source, column_named, targets};
 use sql_tree::{Cond, Expr, printed_name};
 use std::alloc::Global;
 

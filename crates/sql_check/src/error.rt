@@ -1,7 +1,7 @@
 ghost use Rattle.std.specs.Prelude.{◌≡◌};
 
 use cell_core::Memory;
-use sql_semantics::Refusal;
+use sql_definitions::Refusal;
 use thiserror::Error;
 
 /// Why a statement isn't accepted.
@@ -10,7 +10,7 @@ pub enum CheckError {
     /// It is refused.
     #[error("the statement is refused")]
     Refused(Refusal),
-    /// Memory ran out, or a table has more than 2^32 columns.
+    /// Memory ran out, or a table has 2^32 columns or more.
     #[error("memory ran out")]
     Memory,
 }

@@ -2,15 +2,15 @@
 ghost use Rattle.std.specs.Prelude.{◌≡◌, [], ◌∷◌, IfOk};
 ghost use Rattle.std.specs.Option.{option_map};
 ghost use Rattle.sql_tree.specs.Tree.{cond_tree, expr_tree};
-ghost use Rattle.sql_semantics.specs.Sources.{same_place as same_place_of};
+ghost use Rattle.sql_definitions.specs.Sources.{same_place as same_place_of};
 ghost use Rattle.sql_tree.specs.Exprs.{cond_exprs, exprs_of_cond};
-ghost use Rattle.sql_semantics.specs.Check.{is_group_column as is_group_column_of};
+ghost use Rattle.sql_definitions.specs.Check.{is_group_column as is_group_column_of};
 ghost use Rattle.sql_check.specs.First.{first, first_by, ungrouped, ungrouped_expr};
-ghost use Rattle.sql_semantics.specs.Exprs.{exprs_of};
+ghost use Rattle.sql_definitions.specs.Exprs.{exprs_of};
 
 use crate::references::place;
 use cell_core::Memory;
-use sql_semantics::{Called, Refusal};
+use sql_definitions::{Called, Refusal};
 use sql_tree::{ColRef, Cond, Expr, Item, printed_name};
 use std::alloc::Global;
 
@@ -143,7 +143,7 @@ fn ungrouped_in_tree(
     }
 }
 
-/// The same of a condition that may not be there.
+/// The same of a condition, where there is one.
 pub(crate) fn ungrouped_in_cond(
     alloc: Global,
     sources: &[Called<'_>],

@@ -1,12 +1,12 @@
 //! Keys of ORDER BY that sort by no item.
 ghost use Rattle.std.specs.Prelude.{◌≡◌, map, decimal, IfOk};
 ghost use Rattle.sql_tree.specs.Tree.{item_tree};
-ghost use Rattle.sql_semantics.specs.Check.{bad_key as bad_key_of};
+ghost use Rattle.sql_definitions.specs.Check.{bad_key as bad_key_of};
 ghost use Rattle.sql_check.specs.First.{first, key_refusal, bad_keys_of};
 
 use cell_core::{Memory, Word, word_of};
 use itoa::Buffer;
-use sql_semantics::{Called, Found, Refusal, find_column, key_place};
+use sql_definitions::{Called, Refusal, Resolved, find_column, key_place};
 use sql_tree::{ColRef, Item, Place, SortKey, printed_name};
 use std::alloc::Global;
 
@@ -19,13 +19,13 @@ fn printed_number(alloc: Global, number: u64) -> Result<Word, Memory>
 }
 
 /// The refusal of a key whose column has so many places.
-fn refused_key(alloc: Global, reference: &ColRef, found: Found) -> Result<Refusal, Memory>
+fn refused_key(alloc: Global, reference: &ColRef, found: Resolved) -> Result<Refusal, Memory>
     ensures { IfOk result (λ refusal. refusal ≡ key_refusal reference.now found) }
 {
     let name = printed_name(alloc, &reference.column)?;
     match found {
-        Found::Nowhere | Found::At(_, _) => Ok(Refusal::NoColumn(name)),
-        Found::Twice => Ok(Refusal::Ambiguous(name)),
+        Resolved::Nowhere | Resolved::At(_, _) => Ok(Refusal::NoColumn(name)),
+        Resolved::Twice => Ok(Refusal::Ambiguous(name)),
     }
 }
 

@@ -4,15 +4,15 @@ ghost use Rattle.std.specs.List.{list_any};
 ghost use Rattle.std.specs.Option.{option_copied, option_map};
 ghost use Rattle.cell_core.specs.Kinds as kinds;
 ghost use Rattle.sql_tree.specs.Tree.{cond_tree, expr_tree};
-ghost use Rattle.sql_semantics.specs.Kinds as sql;
-ghost use Rattle.sql_semantics.specs.Check.{is_misfit_cond};
+ghost use Rattle.sql_definitions.specs.Kinds as sql;
+ghost use Rattle.sql_definitions.specs.Check.{is_misfit_cond};
 ghost use Rattle.sql_check.specs.First.{kind_at_place};
-ghost use Rattle.sql_semantics.specs.Exprs.{exprs_of};
+ghost use Rattle.sql_definitions.specs.Exprs.{exprs_of};
 
 use crate::references::place;
 use cell_calc::{agrees, are_comparable, kind_of};
 use cell_core::{Column, Kind};
-use sql_semantics::Called;
+use sql_definitions::Called;
 use sql_tree::{AggOp, ColRef, Cond, Expr, Item};
 
 /// The column at a place.
@@ -69,7 +69,7 @@ pub(crate) fn kind_of_expr(sources: &[Called<'_>], expr: &Expr) -> Option<Kind>
     }
 }
 
-/// Not an Int, as arithmetic and SUM need it.
+/// Whether a kind isn't Int, which arithmetic and SUM need.
 fn is_no_int(kind: Option<Kind>) -> bool
     ensures { result ≡ sql.is_no_int kind }
 {
@@ -135,7 +135,7 @@ fn is_tree_misfit(sources: &[Called<'_>], cond: &Cond) -> bool
     }
 }
 
-/// The same of a condition that may not be there.
+/// The same of a condition, where there is one.
 pub(crate) fn is_cond_misfit(sources: &[Called<'_>], cond: &Option<Cond>) -> bool
     ensures { result ≡ is_misfit_cond sources.now (option_map cond_tree cond.now) }
 {

@@ -1,9 +1,9 @@
-//! Whether a statement is accepted over a schema, and which refusal it gets if it isn't.
+//! Whether a statement is accepted over a schema, and if not, its refusal.
 //!
-//! It stands on `sql_semantics`, whose definition of the check `check` gives exactly: the first of a
-//! statement's refusals, in their order, or the statement with the tables that it speaks of;
-//! `refusal_of` tells the refusal alone. Kinds are those of `cell_calc`. Each part is looked at once; want of memory alone is
-//! free.
+//! It builds on `sql_definitions`, whose definition of the check `check` computes exactly: the first
+//! of a statement's refusals, in their order, or the statement with the tables that it names.
+//! `refusal_of` returns the refusal alone. The only other answer is that memory ran out. Kinds are
+//! those of `cell_calc`. Each part is looked at once.
 #![tactic(auto)]
 
 mod accept;

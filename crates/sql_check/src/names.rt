@@ -3,12 +3,12 @@ ghost use Rattle.std.specs.Prelude.{◌≡◌, map, slice_get, IfOk};
 ghost use Rattle.std.specs.List.{list_any};
 ghost use Rattle.std.specs.Option.{option_copied};
 ghost use Rattle.std.specs.Str.{bytes_eq};
-ghost use Rattle.sql_semantics.specs.Sources.{source_named as source_named_of};
-ghost use Rattle.sql_semantics.specs.Check.{repeated as repeated_of, names_twice, unknown_names};
+ghost use Rattle.sql_definitions.specs.Sources.{source_named as source_named_of};
+ghost use Rattle.sql_definitions.specs.Check.{repeated as repeated_of, names_twice, unknown_names};
 ghost use Rattle.sql_check.specs.First.{first};
 
 use cell_core::{Column, Memory, Sequence, Word};
-use sql_semantics::{Refusal, Schema, Source, column_named};
+use sql_definitions::{Refusal, Schema, Source, column_named};
 use sql_tree::printed_name;
 use std::alloc::Global;
 
@@ -66,7 +66,7 @@ pub(crate) fn name_twice(alloc: Global, names: &[Word]) -> Result<Option<Refusal
     }
 }
 
-/// The refusal of names of which one is no column's.
+/// The refusal of the first name that no column has.
 pub(crate) fn unknown_name(
     alloc: Global,
     columns: &[Column],

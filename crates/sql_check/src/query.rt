@@ -2,10 +2,10 @@
 ghost use Rattle.std.specs.Prelude.{◌≡◌, map, IfOk};
 ghost use Rattle.std.specs.Option.{option_or as option_or_of};
 ghost use Rattle.sql_tree.specs.Tree.{item_tree, query_tree};
-ghost use Rattle.sql_semantics.specs.Sources.{from_name as from_name_of, from_sources as from_sources_of};
-ghost use Rattle.sql_semantics.specs.References.{items_of};
-ghost use Rattle.sql_semantics.specs.Check.{missing_tables, refused_if, not_grouped as not_grouped_of, is_misfit_query as is_misfit_query_of, column_refusals, query_refusals};
-ghost use Rattle.sql_semantics.specs.declared.refusal.Refusal.TheVariants.{KindsDiffer};
+ghost use Rattle.sql_definitions.specs.Sources.{from_name as from_name_of, from_sources as from_sources_of};
+ghost use Rattle.sql_definitions.specs.References.{items_of};
+ghost use Rattle.sql_definitions.specs.Check.{missing_tables, refused_if, not_grouped as not_grouped_of, is_misfit_query as is_misfit_query_of, column_refusals, query_refusals};
+ghost use Rattle.sql_definitions.specs.declared.refusal.Refusal.TheVariants.{KindsDiffer};
 ghost use Rattle.sql_check.specs.First.{first};
 
 use crate::grouped::{ungrouped_in_cond, ungrouped_in_items};
@@ -14,7 +14,7 @@ use crate::kinds::{are_items_misfit, is_cond_misfit};
 use crate::names::{name_twice, source_named};
 use crate::references::{bad_in_cond, bad_in_items, bad_references};
 use cell_core::{Memory, Sequence, Word};
-use sql_semantics::{Called, Refusal, Schema, all_columns, from_name, is_grouped};
+use sql_definitions::{Called, Refusal, Schema, all_columns, from_name, is_grouped};
 use sql_tree::{FromItem, Item, Query, printed_name};
 use std::alloc::Global;
 
@@ -39,7 +39,7 @@ pub(crate) fn kinds_differ(is_misfit: bool) -> Option<Refusal>
     }
 }
 
-/// The refusal of tables of FROM of which one isn't there.
+/// The refusal of the first table of FROM that doesn't exist.
 fn missing_table(
     alloc: Global,
     froms: &[FromItem],
@@ -70,7 +70,7 @@ fn from_names(alloc: Global, froms: &[FromItem]) -> Result<Sequence<Word>, Memor
     Ok(names)
 }
 
-/// The tables of FROM that are there, under their FROM names.
+/// The tables of FROM that exist, under their FROM names.
 fn from_sources<'a>(
     alloc: Global,
     froms: &'a [FromItem],
@@ -120,7 +120,7 @@ fn is_misfit_query(sources: &[Called<'_>], items: &[Item], query: &Query) -> boo
         || is_cond_misfit(sources, &query.having)
 }
 
-/// The first refusal of a query whose tables are there, with these items.
+/// The first refusal of a query whose tables exist, with these items.
 fn refusal_with(
     alloc: Global,
     sources: &[Called<'_>],
@@ -146,7 +146,7 @@ fn refusal_with(
     Ok(refusal)
 }
 
-/// The first refusal of a query whose tables are there.
+/// The first refusal of a query whose tables exist.
 fn column_refusal(
     alloc: Global,
     sources: &[Called<'_>],

@@ -2,14 +2,14 @@
 ghost use Rattle.std.specs.Prelude.{◌≡◌, [], ◌∷◌, IfOk};
 ghost use Rattle.std.specs.Option.{option_map};
 ghost use Rattle.sql_tree.specs.Tree.{cond_tree, expr_tree};
-ghost use Rattle.sql_semantics.specs.Sources.{place_of, places};
+ghost use Rattle.sql_definitions.specs.Sources.{place_of, places};
 ghost use Rattle.sql_tree.specs.Exprs.{cond_exprs, exprs_of_cond};
-ghost use Rattle.sql_semantics.specs.Check.{misplaced, bad_references as bad_references_of};
+ghost use Rattle.sql_definitions.specs.Check.{misplaced, bad_references as bad_references_of};
 ghost use Rattle.sql_check.specs.First.{first, first_by, bad_expr, misplaced_found, set_exprs};
-ghost use Rattle.sql_semantics.specs.Exprs.{exprs_of};
+ghost use Rattle.sql_definitions.specs.Exprs.{exprs_of};
 
 use cell_core::{Memory, Word};
-use sql_semantics::{Called, Found, Refusal, column_place, find_column};
+use sql_definitions::{Called, Refusal, Resolved, column_place, find_column};
 use sql_tree::{ColRef, Cond, Expr, Item, printed_name};
 use std::alloc::Global;
 
@@ -21,13 +21,17 @@ pub(crate) fn place(sources: &[Called<'_>], reference: &ColRef) -> Option<(usize
 }
 
 /// The refusal of a reference that may mean so many columns.
-fn misplaced_by(alloc: Global, reference: &ColRef, found: Found) -> Result<Option<Refusal>, Memory>
+fn misplaced_by(
+    alloc: Global,
+    reference: &ColRef,
+    found: Resolved,
+) -> Result<Option<Refusal>, Memory>
     ensures { IfOk result (λ refusal. refusal ≡ misplaced_found reference.now found) }
 {
     match found {
-        Found::At(_, _) => Ok(None),
-        Found::Nowhere => Ok(Some(Refusal::NoColumn(printed_name(alloc, &reference.column)?))),
-        Found::Twice => Ok(Some(Refusal::Ambiguous(printed_name(alloc, &reference.column)?))),
+        Resolved::At(_, _) => Ok(None),
+        Resolved::Nowhere => Ok(Some(Refusal::NoColumn(printed_name(alloc, &reference.column)?))),
+        Resolved::Twice => Ok(Some(Refusal::Ambiguous(printed_name(alloc, &reference.column)?))),
     }
 }
 
@@ -166,7 +170,7 @@ fn bad_in_tree(
     }
 }
 
-/// The same of a condition that may not be there.
+/// The same of a condition, where there is one.
 pub(crate) fn bad_in_cond(
     alloc: Global,
     sources: &[Called<'_>],

@@ -1,5 +1,5 @@
 -- What the grammar says of small statements: a derivation, its tokens and its tree.
-use Rattle.std.proofs.Common.{◌≡◌, ℕ, ◌+◌, [], ◌∷◌, true, false, Some, None, pos, negsuc, codes, refl}
+use Rattle.std.proofs.Common.{◌≡◌, ℕ, ◌+◌, List, [], ◌∷◌, ◌++◌, replicate, true, false, Some, None, pos, negsuc, codes, refl}
 use Rattle.cell_core.specs.declared.cell.Cell.TheVariants as cell
 use Rattle.cell_core.specs.declared.cell.Kind.TheVariants as kind
 use Rattle.sql_grammar.specs.Grammar.{sign, ExprRule, FactorRule, OperandRule, expr_of, write_expr}
@@ -24,13 +24,15 @@ use Rattle.sql_grammar.specs.Statements.ColumnEnd.{DefaultNotNull}
 use Rattle.sql_grammar.specs.Statements.TypeRule.{TextType}
 use Rattle.sql_grammar.specs.Grammar.LiteralRule.{StringLiteral}
 use Rattle.sql_grammar.specs.Formed.{IsFormed}
-use Rattle.sql_grammar.specs.Refused.{rule_at, left_out}
+use Rattle.sql_grammar.specs.Nesting.{open_after}
+use Rattle.sql_grammar.specs.Refused.{rule_at, left_out, is_too_deep}
 use Rattle.sql_tree.specs.Tree.{ExprTree, CondTree}
 use Rattle.sql_tree.specs.Tree.ExprTree.{Literal, ColumnOf, Operator, AggregateAll}
 use Rattle.sql_tree.specs.Tree.CondTree.{Compare, IsNull, Negation, Either}
 use Rattle.sql_tree.specs.Tree.StmtTree.{DeleteFrom, AlterTable}
 use Rattle.sql_tree.specs.declared.token.Keyword.TheVariants as word
 use Rattle.sql_tree.specs.declared.token.Symbol.TheVariants as symbol
+use Rattle.sql_tree.specs.declared.token.Token.{Token}
 use Rattle.sql_tree.specs.declared.token.Token.TheVariants.{Name, Text, Digits, Key}
 use Rattle.sql_tree.specs.declared.tree.AggOp.TheVariants as aggregate
 use Rattle.sql_tree.specs.declared.tree.ArithOp.TheVariants as arith
@@ -123,3 +125,37 @@ subquery = refl
 
 column_arithmetic : left_out (DeleteFrom (codes "t") (Some (Negation (Compare compare.Eq (Operator arith.Plus tree_a (number 1)) (number 2))))) ≡ Some (codes "ARITHMETIC IN WHERE")
 column_arithmetic = refl
+
+-- ## Levels
+
+-- NOT ( - ( opens four constructs
+four_open : open_after (Key word.Not ∷ sign symbol.Open ∷ sign symbol.Minus ∷ sign symbol.Open ∷ []) ≡ 4
+four_open = refl
+
+-- with its `)` the inner parenthesis is closed, and the `-` before it
+two_closed : open_after (Key word.Not ∷ sign symbol.Open ∷ sign symbol.Minus ∷ sign symbol.Open ∷ Name (codes "a") ∷ sign symbol.Close ∷ []) ≡ 2
+two_closed = refl
+
+-- a - - and ( ( a ) b
+run_open : open_after (Name (codes "a") ∷ sign symbol.Minus ∷ sign symbol.Minus ∷ []) ≡ 2
+run_open = refl
+
+run_ended : open_after (sign symbol.Minus ∷ sign symbol.Minus ∷ Name (codes "a") ∷ []) ≡ 0
+run_ended = refl
+
+outer_open : open_after (sign symbol.Open ∷ sign symbol.Open ∷ Name (codes "a") ∷ sign symbol.Close ∷ Name (codes "b") ∷ []) ≡ 1
+outer_open = refl
+
+-- a `)` too many closes nothing that comes later
+close_first : open_after (sign symbol.Close ∷ sign symbol.Open ∷ []) ≡ 1
+close_first = refl
+
+-- 511 times `-`, a parenthesis and a name aren't too deep, and 512 times `-` are
+abbrev levels_of : ℕ → List Token
+levels_of n = replicate n (sign symbol.Minus) ++ sign symbol.Open ∷ Name (codes "a") ∷ []
+
+deepest : is_too_deep [] 0 (levels_of 511) ≡ false
+deepest = refl
+
+too_deep : is_too_deep [] 0 (levels_of 512) ≡ true
+too_deep = refl

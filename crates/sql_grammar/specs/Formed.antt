@@ -1,4 +1,4 @@
--- Formed statements: what is known of each statement that reading answers, whatever its text.
+-- Formed statements: what holds of each statement that reading returns, whatever its text.
 use Rattle.std.specs.Prelude.{◌≡◌, ◌≢◌, ℕ, List, [], Option, Some, None}
 use Rattle.std.specs.List.{AllByRecursion}
 use Rattle.cell_core.specs.declared.cell.Kind.{Kind}
@@ -32,8 +32,8 @@ pub record IsShapedQuery (query : QueryTree) : Type 0 where
   pub having : IfWritten IsValueCond query.having
 
 -- the parts of a statement have forms that can be written: a table has a column, an INSERT a row, a row a cell,
--- an UPDATE a change, a query a source; aggregates stand only on top of items and of operands of HAVING; each
--- cell is one that a literal gives
+-- an UPDATE a change, a query a source; aggregates occur only at the top of items and of operands of HAVING; each
+-- cell is one that a literal can write
 abbrev pub IsShaped : StmtTree → Type 0
 IsShaped (CreateTable table columns) = (columns ≢ []) × AllByRecursion IsShapedColumn columns
 IsShaped (DropTable table) = Unit {0}
@@ -44,8 +44,8 @@ IsShaped (UpdateTable table sets cond) = (sets ≢ []) × AllByRecursion (λ (se
 IsShaped (Select query) = IsShapedQuery query
 IsShaped (ExplainSelect query) = IsShapedQuery query
 
--- the parts are of these forms, nothing is left out (so no condition has an operator over a column), and no
--- limit is passed that the tree decides
+-- the parts have these forms; nothing is left out, so no condition has an operator over a column; and no limit is
+-- passed that depends on the tree alone
 pub record IsFormed (statement : StmtTree) : Type 0 where
   pub shaped : IsShaped statement
   pub kept : left_out statement ≡ None

@@ -1,5 +1,5 @@
--- The grammar of SQL, rule by rule. A derivation is told as plain data, with a constructor for each
--- alternative: how it is written before the tokens that follow it, and the tree that it stands for.
+-- The grammar of SQL, rule by rule. A derivation is plain data, with a constructor for each alternative.
+-- Each says how it is written before the tokens that follow it, and the tree that it stands for.
 use Rattle.std.specs.Prelude.{ℕ, List, [], ◌∷◌, ◌++◌, map, Bool, true, false, if◌then◌else◌, Option, Some, None, ℤ, pos, neg_ℤ}
 use Rattle.std.specs.Str.Parse.{digits_value}
 use Rattle.cell_core.specs.Day.{IsDayText, day_in}
@@ -43,7 +43,7 @@ module _ {X : Type 0} (write : X → List Token → List Token) where
   abbrev pub write_enclosed : X × List X → List Token → List Token
   write_enclosed xs rest = sign symbol.Open ∷ write_some xs (sign symbol.Close ∷ rest)
 
-  -- a part that may be left out, behind its words
+  -- an optional part, after its words
   abbrev pub write_behind : List Keyword → Option X → List Token → List Token
   write_behind words None rest = rest
   write_behind words (Some x) rest = map Key words ++ write x rest
@@ -76,7 +76,7 @@ name_of (QuotedName name) = name
 abbrev pub number_of : List ℕ → ℕ
 number_of digits = digits_value 10 digits
 
--- the same behind a `-`
+-- the same after a `-`
 abbrev pub negative_of : List ℕ → ℤ
 negative_of digits = neg_ℤ (pos (digits_value 10 digits))
 
@@ -139,7 +139,7 @@ mutual
     NoFactor : FactorsRule
     MoreFactors : FactorRule → FactorsRule → FactorsRule
 
-  -- factor = digits | operand: a `-` directly before digits belongs to the literal, so what it negates is no digits
+  -- factor = digits | operand: a `-` directly before digits belongs to the literal, and so negates no digits
   pub data FactorRule : Type 0 where
     Number : List ℕ → FactorRule
     Operand : OperandRule → FactorRule
@@ -190,7 +190,7 @@ abbrev pub sign_op : SignRule → ArithOp
 sign_op PlusSign = arith.Plus
 sign_op MinusSign = arith.Minus
 
--- repeated operators group to the left, and `-x` of what is no number is 0 - x
+-- repeated operators group to the left, and `-x` is 0 - x where x is no number
 abbrev mutual
   pub expr_of : ExprRule → ExprTree
   expr_of (Sum term terms) = terms_of (term_of term) terms
@@ -343,7 +343,7 @@ module _ {E : Type 0} (write : E → List Token → List Token) where
     write_unit (CondUnit cond) rest = sign symbol.Open ∷ write_cond cond (sign symbol.Close ∷ rest)
     write_unit (TestUnit test) rest = write_test test rest
 
--- the condition or its denial
+-- the condition, or its negation where it is denied
 abbrev pub denied_if : Bool → CondTree → CondTree
 denied_if denied cond = if denied then Negation cond else cond
 

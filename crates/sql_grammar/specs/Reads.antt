@@ -7,7 +7,7 @@ use Rattle.sql_tree.specs.declared.token.Token.{Token}
 use Rattle.sql_grammar.specs.Refused.{IsFirstRule, is_too_deep, left_out, passed_limits, first_passed}
 use Rattle.sql_grammar.specs.Statements.{Derives}
 
--- a statement, no syntax, a part of SQL that the profile leaves out, or a limit that is passed
+-- a statement, a syntax error, a part of SQL that the profile leaves out, or a limit that is passed
 pub data Reading : Type 0 where
   ReadsAs : StmtTree → Reading
   NoSyntax : Reading
@@ -19,7 +19,7 @@ abbrev pub last_end : Placed → List Placed → ℕ
 last_end placed [] = placed.end
 last_end placed (next ∷ more) = last_end next more
 
--- the bytes from the first token's first to the last token's last
+-- the number of bytes from the first of the first token to the last of the last
 abbrev pub statement_bytes : List Placed → ℕ
 statement_bytes [] = 0
 statement_bytes (placed ∷ more) = last_end placed more - placed.start
@@ -33,7 +33,7 @@ pub record ArePlain (tokens : List Token) : Type 0 where
   pub no_rule : IsFirstRule tokens None
   pub shallow : is_too_deep [] 0 tokens ≡ false
 
--- what a derived statement is refused for, where it is
+-- the reading of a derived statement, which may be refused for what is left out or for a limit
 abbrev pub reading_of : List Placed → StmtTree → Reading
 reading_of all statement = by_left_out (left_out statement)
   where

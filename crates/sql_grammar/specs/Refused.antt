@@ -1,6 +1,6 @@
--- What is refused in SQL text, step by step. A text without tokens is a syntax error first of all. Then
+-- What is refused in SQL text, step by step. A text that can't be cut into tokens is a syntax error. Then
 -- comes the first token to which a rule of the profile applies, then levels past the limit or a text
--- that no derivation gives, then what the profile leaves out of derived statements, then the limits.
+-- without a derivation, then what the profile leaves out of derived statements, then the limits.
 use Rattle.std.specs.Prelude.{◌≡◌, ℕ, zero, suc, ◌+◌, ◌-◌, ◌<◌, ◌==◌, List, [], ◌∷◌, ◌++◌, length, map, sum, take, Bool, true, false, not, ◌&&◌, ◌||◌, nat_le, nat_lt, if◌then◌else◌, bytes_eq, slice_get, codes, Option, Some, None, ℤ, pos}
 use Rattle.std.specs.List.{list_any}
 use Rattle.cell_core.specs.Calc.{fits_int}
@@ -56,7 +56,7 @@ has_expressions (Some (Key word.Delete)) = true
 has_expressions (Some (Key word.Update)) = true
 has_expressions other = false
 
--- the first token, or the one directly behind a first EXPLAIN
+-- the first token, or the one directly after a first EXPLAIN
 abbrev pub leads : List Token → ℕ → Bool
 leads tokens i = (i == 0) || ((i == 1) && is_explain (slice_get tokens 0))
 
@@ -96,19 +96,19 @@ IsFirstRule tokens (Some name) = (i : ℕ) × (rule_at tokens i ≡ Some name) �
 
 -- ## Levels
 
--- how many NOT and `-` stand directly before the next token
+-- how many NOT and `-` come directly before the next token
 abbrev pub next_run : ℕ → Token → ℕ
 next_run run (Key word.Not) = run + 1
 next_run run (token.Symbol symbol.Minus) = run + 1
 next_run run other = 0
 
--- the levels of the parentheses that are open behind a token, the innermost last: each counts itself and the NOT and `-` directly before it
+-- the levels of the parentheses that are open after a token, the innermost last: each counts itself and the NOT and `-` directly before it
 abbrev pub open_behind : List ℕ → ℕ → Token → List ℕ
 open_behind outer run (token.Symbol symbol.Open) = outer ++ (run + 1) ∷ []
 open_behind outer run (token.Symbol symbol.Close) = take (length outer - 1) outer
 open_behind outer run other = outer
 
--- somewhere stand more than 512 levels: those of open parentheses, and the run of NOT and `-` that goes on there
+-- some token has more than 512 levels: those of open parentheses, and the run of NOT and `-` directly before it
 abbrev pub is_too_deep : List ℕ → ℕ → List Token → Bool
 is_too_deep outer run [] = false
 is_too_deep outer run (t ∷ tokens) = nat_lt 512 (sum outer + run) || is_too_deep (open_behind outer run t) (next_run run t) tokens
@@ -223,7 +223,7 @@ is_long_name (Name name) = nat_lt 64 (length name)
 is_long_name (Quoted name) = nat_lt 64 (length name)
 is_long_name other = false
 
--- the columns that a statement writes pass a test
+-- the columns that a statement defines pass a test
 abbrev pub columns_pass : (List Column → Bool) → StmtTree → Bool
 columns_pass test (CreateTable table columns) = test columns
 columns_pass test (AlterTable table column) = test (column ∷ [])
@@ -245,7 +245,7 @@ passes_conditions (DeleteFrom table cond) = nat_lt 128 (nodes_of_cond cond)
 passes_conditions (UpdateTable table sets cond) = nat_lt 128 (nodes_of_cond cond)
 passes_conditions other = false
 
--- the limits that its tree alone decides, in their order, and whether a statement passes each
+-- the limits that depend on its tree alone, in their order, and whether a statement passes each
 abbrev pub tree_limits : StmtTree → List (Bool × List ℕ)
 tree_limits statement =
     (passes_literal statement, codes "literal")

@@ -64,7 +64,7 @@ write_source source rest = write_name source.0 (write_alias source.1 rest)
 abbrev pub source_of : NameRule × AliasRule → FromItem
 source_of source = record { table = name_of source.0; alias = alias_of source.1 }
 
--- one more source: behind a comma, or behind JOIN with its condition
+-- one more source: after a comma, or after JOIN with its condition
 pub data JoinRule : Type 0 where
   CommaSource : NameRule × AliasRule → JoinRule
   JoinOn : Bool → NameRule × AliasRule → WhereRule → JoinRule
@@ -82,18 +82,18 @@ abbrev pub joined_source : JoinRule → FromItem
 joined_source (CommaSource source) = source_of source
 joined_source (JoinOn inner source cond) = source_of source
 
--- one more condition behind those so far
+-- one more condition after those so far
 abbrev pub and_also : Option CondTree → CondTree → Option CondTree
 and_also None cond = Some cond
 and_also (Some left) cond = Some (Both left cond)
 
--- what each ON asks, as they are written, joined behind what is asked so far
+-- the conditions of ON, in the order of the text, joined by AND after those so far
 abbrev pub on_conds : Option CondTree → List JoinRule → Option CondTree
 on_conds so_far [] = so_far
 on_conds so_far (CommaSource source ∷ joins) = on_conds so_far joins
 on_conds so_far (JoinOn inner source cond ∷ joins) = on_conds (and_also so_far (where_of cond)) joins
 
--- and what WHERE asks, last
+-- and the condition of WHERE, last
 abbrev pub with_where : Option CondTree → Option WhereRule → Option CondTree
 with_where so_far None = so_far
 with_where so_far (Some cond) = and_also so_far (where_of cond)
@@ -215,7 +215,7 @@ kind_of TextType = kind.Text
 kind_of DateType = kind.Day
 kind_of (VarcharType digits) = kind.Text
 
--- a length that may be limited; 0, which would say that there is no limit, stands as the first length past it
+-- a length of texts; 0, which would mean that there is no limit, becomes the first length that is refused
 abbrev pub length_of : ℕ → ℕ
 length_of length = if length == 0 then 65536 else length
 
@@ -224,7 +224,7 @@ abbrev pub width_of : TypeRule → ℕ
 width_of (VarcharType digits) = length_of (number_of digits)
 width_of other = 0
 
--- what stands behind the type: nothing, or NOT NULL and DEFAULT literal in either order, or one of these
+-- what follows the type: nothing, or NOT NULL and DEFAULT literal in either order, or one of these
 pub data ColumnEnd : Type 0 where
   PlainEnd : ColumnEnd
   NotNullEnd : ColumnEnd
@@ -303,7 +303,7 @@ write_row row rest = write_enclosed write_literal row rest
 abbrev pub row_of : LiteralRule × List LiteralRule → List Cell
 row_of row = map literal_cell (all_of row)
 
--- a statement of each kind; a query may stand behind EXPLAIN
+-- a statement of each kind; a query may follow EXPLAIN
 pub data StmtRule : Type 0 where
   CreateRule : NameRule → ColdefRule × List ColdefRule → StmtRule
   DropRule : NameRule → StmtRule

@@ -1,4 +1,4 @@
--- Plain expressions, which hold no aggregate and whose cells literals give, and what is made of them.
+-- Plain expressions, which have no aggregate and whose cells literals can write, and what is built of them.
 use Rattle.std.specs.Prelude.{◌≡◌, ℕ, List, IsTrue}
 use Rattle.cell_core.specs.Calc.{fits_int}
 use Rattle.cell_core.specs.Day.{IsDayText, day_in}
@@ -9,7 +9,7 @@ use Rattle.sql_tree.specs.Tree.ExprTree.{Literal, ColumnOf, Operator, AggregateA
 use Rattle.sql_tree.specs.declared.tree.AggOp.TheVariants as aggregate
 use Rattle.sql_tree.specs.Tree.CondTree.{Compare, Within, IsNull, Negation, Both, Either}
 
--- a cell that a literal gives
+-- a cell that a literal can write
 abbrev pub IsLiteral : Cell → Type 0
 IsLiteral cell.Nil = Unit {0}
 IsLiteral (cell.Int n) = IsTrue (fits_int n)
@@ -17,7 +17,7 @@ IsLiteral (cell.Text text) = Unit {0}
 IsLiteral (cell.Day day) = (text : List ℕ) × IsDayText text × (day_in text ≡ day)
 IsLiteral other = ⊥
 
--- an expression without aggregates, whose cells literals give
+-- an expression without aggregates, whose cells literals can write
 abbrev pub IsPlain : ExprTree → Type 0
 IsPlain (Literal literal) = IsLiteral literal
 IsPlain (ColumnOf column) = Unit {0}

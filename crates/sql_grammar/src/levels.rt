@@ -9,7 +9,7 @@ use std::alloc::Global;
 /// The most levels at a token.
 const MOST_LEVELS: usize = 512;
 
-/// Whether more than 512 levels stand open at some token: parentheses, and the NOT and `-` directly
+/// Whether some token has more than 512 open levels: parentheses, and the NOT and `-` directly
 /// before these or before the token.
 pub fn is_too_deep(alloc: Global, tokens: &[Placed]) -> Result<bool, Memory>
     ensures { IfOk result (λ deep. deep ≡ refused.is_too_deep [] 0 (tokens_in tokens.now)) }
@@ -29,7 +29,7 @@ pub fn is_too_deep(alloc: Global, tokens: &[Placed]) -> Result<bool, Memory>
     Ok(false)
 }
 
-/// Opens or closes a parenthesis, and tells the levels of those that are open behind the token.
+/// Opens or closes a parenthesis, and returns the levels of those that are open after the token.
 fn step(outer: &mut Vec<usize>, levels: usize, run: usize, token: &Token) -> Result<usize, Memory>
     requires levels { levels ≡ sum outer.old.items }
     requires small { levels + run ≤ 512 }
@@ -50,7 +50,7 @@ fn step(outer: &mut Vec<usize>, levels: usize, run: usize, token: &Token) -> Res
     }
 }
 
-/// How many NOT and `-` stand directly before the next token.
+/// How many NOT and `-` come directly before the next token.
 fn next_run(run: usize, token: &Token) -> usize
     requires { run ≤ 512 }
     ensures { result ≡ refused.next_run run token.now }

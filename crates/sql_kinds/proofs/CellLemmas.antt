@@ -16,10 +16,10 @@ use Rattle.sql_tree.specs.Tree.{ExprTree}
 use Rattle.sql_tree.specs.Tree.ExprTree.{Literal, ColumnOf, Operator, AggregateAll, Aggregate}
 use Rattle.sql_tree.specs.declared.tree.ArithOp.{ArithOp}
 use Rattle.sql_tree.specs.declared.tree.ArithOp.TheVariants as op
-use Rattle.sql_semantics.specs.Sources.{NamedSource, place_of}
-use Rattle.sql_semantics.specs.Values.{cell_at, result_of, value, cell_over}
-use Rattle.sql_semantics.specs.Kinds.{column_at, kind_of_expr}
-use Rattle.sql_semantics.specs.Valid.{fits_columns}
+use Rattle.sql_definitions.specs.Sources.{NamedSource, place_of}
+use Rattle.sql_definitions.specs.Values.{cell_at, result_of, value, cell_over}
+use Rattle.sql_definitions.specs.Kinds.{column_at, kind_of_expr}
+use Rattle.sql_definitions.specs.Valid.{fits_columns}
 
 pub same_kinds : (a b : Kind) → same_kind a b ≡ true → a ≡ b
 same_kinds kind.Int kind.Int e = refl

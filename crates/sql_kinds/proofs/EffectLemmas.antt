@@ -12,18 +12,18 @@ use Rattle.cell_core.specs.declared.cell.Kind.TheVariants as kind
 use Rattle.cell_core.specs.declared.table.Column.{Column}
 use Rattle.cell_core.specs.declared.table.Table.{Table}
 use Rattle.cell_core.specs.declared.table.Db.{Db}
-use Rattle.cell_core.specs.Tables.{first_named, named_table}
+use Rattle.cell_core.specs.Tables.{first_named, grown, named_table, with_column}
 use Rattle.sql_tree.specs.Names.{name_text}
 use Rattle.sql_tree.specs.Tree.{ExprTree, CondTree, StmtTree}
 use Rattle.sql_tree.specs.Tree.StmtTree.{CreateTable, DropTable, AlterTable, InsertInto, DeleteFrom, UpdateTable, Select, ExplainSelect}
-use Rattle.sql_semantics.specs.declared.refusal.Refusal.{Refusal}
-use Rattle.sql_semantics.specs.declared.refusal.Refusal.TheVariants.{TableExists, WrongCount, KindsDiffer, NameTwice, TextTooLong}
-use Rattle.sql_semantics.specs.declared.source.Source.{Source}
+use Rattle.sql_definitions.specs.declared.refusal.Refusal.{Refusal}
+use Rattle.sql_definitions.specs.declared.refusal.Refusal.TheVariants.{TableExists, WrongCount, KindsDiffer, NameTwice, TextTooLong}
+use Rattle.sql_definitions.specs.declared.source.Source.{Source}
 use Rattle.sql_tree.specs.Exprs.{exprs_of_cond}
-use Rattle.sql_semantics.specs.Sources.{source_named, schema_of}
-use Rattle.sql_semantics.specs.Check.{refused_if, names_twice, unknown_names, column_named, targets, is_wrong_count, is_misfit_row, is_misfit_set, is_misfit_cond, is_misfit_default, bad_in_exprs, create_refusals, alter_refusals, insert_refusals, update_refusals, over_table, check_refusal}
-use Rattle.sql_semantics.specs.Effect.{Change, unless_refused, placed, inserted, own_table, is_hit, deleted, updated_row, updated, changed_by, changed, done_by, is_long_default, with_column, column_refused, created, dropped, altered, accepted, effect_unless, effect, replay_from}
-use Rattle.sql_semantics.specs.Valid.{names_differ, column_names, is_stored, is_valid_column, are_valid_columns, fits_columns, is_valid_table, IsValid}
+use Rattle.sql_definitions.specs.Sources.{source_named, schema_of}
+use Rattle.sql_definitions.specs.Check.{refused_if, names_twice, unknown_names, column_named, targets, is_wrong_count, is_misfit_row, is_misfit_set, is_misfit_cond, is_misfit_default, bad_in_exprs, create_refusals, alter_refusals, insert_refusals, update_refusals, over_table, check_refusal}
+use Rattle.sql_definitions.specs.Effect.{Change, unless_refused, placed, inserted, own_table, is_hit, deleted, updated_row, updated, changed_by, changed, done_by, is_long_default, column_refused, created, dropped, altered, accepted, effect_unless, effect, replay_from}
+use Rattle.sql_definitions.specs.Valid.{names_differ, column_names, is_stored, is_valid_column, are_valid_columns, fits_columns, is_valid_table, IsValid}
 use Rattle.sql_grammar.specs.Formed.{IsColumnKind, IsShapedColumn, IsShaped, IsFormed}
 use Rattle.sql_kinds.proofs.NameLemmas.{map_empty, left_empty, right_empty, differ, names_more, not_there}
 use Rattle.sql_kinds.proofs.CellLemmas.{cell_agrees}
@@ -40,7 +40,7 @@ not_refused : (b : Bool) (refusal : Refusal) → refused_if b refusal ≡ [] →
 not_refused true refusal e = cc
 not_refused false refusal e = refl
 
--- an accepted change is one of a table that is there, and is accepted over its columns
+-- an accepted change is one of a table that exists, and is accepted over its columns
 over_found : (name : List ℕ) (db : Db) (table : Table) (change : Source → List Refusal) → named_table name db ≡ Some table
     → slice_get (over_table name (source_named name (schema_of db)) change) 0 ≡ None → change (as_source table) ≡ []
 over_found name db table change found e =
@@ -145,10 +145,6 @@ updated_fit sets c table holds accepted =
 done_holds : (refusals : List Refusal) (left db : Db) → IsValid db → IsValid left → IsValid (done_by (unless_refused refusals left) db).0
 done_holds [] left db holds valid = valid
 done_holds (refusal ∷ more) left db holds valid = holds
-
--- the table with one more column, whose cells are its default
-abbrev grown : Column → Table → Table
-grown column table = record table { columns = table.columns ++ column ∷ []; rows = map (λ (row : List Cell). row ++ column.default ∷ []) table.rows }
 
 -- columns that can be written, with defaults of their kinds, are valid
 stored : (k : Kind) → IsColumnKind k → is_stored k ≡ true

@@ -7,8 +7,8 @@ use Rattle.std.proofs.lemmas.List.{append_assoc, length-append}
 use Rattle.std.proofs.lemmas.List.Folds.{list_any-append}
 use Rattle.std.proofs.lemmas.Slice.Eq.{bytes_eq-Decides}
 use Rattle.cell_core.specs.declared.table.Column.{Column}
-use Rattle.sql_semantics.specs.Check.{names_twice, column_named}
-use Rattle.sql_semantics.specs.Valid.{names_differ, column_names}
+use Rattle.sql_definitions.specs.Check.{names_twice, column_named}
+use Rattle.sql_definitions.specs.Valid.{names_differ, column_names}
 
 -- ## Equal names
 
@@ -116,7 +116,7 @@ found_other name other (c ∷ columns) column none e =
     same_column : (a b : Column) → Some a ≡ Some b → a ≡ b
     same_column a b h = cc
 
--- a column that its own name finds is still found behind a column of another name
+-- a column that its own name finds is still found after a column of another name
 pub still_named : (first : Column) (columns : List Column) (column : Column) → list_any (bytes_eq first.name) (column_names columns) ≡ false
     → column_named columns column.name ≡ Some column → column_named (first ∷ columns) column.name ≡ Some column
 still_named first columns column none e =

@@ -10,10 +10,10 @@ use Rattle.cell_core.specs.declared.table.Column.{Column}
 use Rattle.cell_core.specs.declared.table.Table.{Table}
 use Rattle.cell_core.specs.Kinds.{kind_of, agrees, is_of_kind}
 use Rattle.sql_tree.specs.Tree.{ExprTree}
-use Rattle.sql_semantics.specs.Check.{column_named, targets, is_misfit_row, is_misfit_set, own_source}
-use Rattle.sql_semantics.specs.Effect.{placed, own_table, set_cell, updated_row}
-use Rattle.sql_semantics.specs.Kinds.{kind_of_expr, is_misfit}
-use Rattle.sql_semantics.specs.Valid.{names_differ, column_names, fits_columns, is_valid_column, are_valid_columns}
+use Rattle.sql_definitions.specs.Check.{column_named, targets, is_misfit_row, is_misfit_set, own_source}
+use Rattle.sql_definitions.specs.Effect.{placed, own_table, set_cell, updated_row}
+use Rattle.sql_definitions.specs.Kinds.{kind_of_expr, is_misfit}
+use Rattle.sql_definitions.specs.Valid.{names_differ, column_names, fits_columns, is_valid_column, are_valid_columns}
 use Rattle.sql_kinds.proofs.NameLemmas.{same_name, still_named, first_named, none_left}
 use Rattle.sql_kinds.proofs.CellLemmas.{cell_agrees, value_fits}
 
@@ -72,7 +72,7 @@ made_row f (column ∷ columns) differ fits =
     and_from _ _ (fits column (first_named column columns))
     (made_row f columns parts.1 (λ other found. fits other (still_named column columns other (not-true _ parts.0) found)))
 
--- the place of a name behind another one
+-- the place of a name after another one
 behind : (b : Bool) (c other : Cell) (row : List Cell) (n : ℕ) → slice_index_or (c ∷ row) (cond (not b) (1 + n) 0) other ≡ cond b c (slice_index_or row n other)
 behind true c other row n = refl
 behind false c other row n = ap (λ k. slice_index_or (c ∷ row) k other) (one_more n)
@@ -125,7 +125,7 @@ module _ (columns : List Column) (column : Column) (found : column_named columns
 is_listed : (name : List ℕ) (listed : List (List ℕ)) → (length (name ∷ listed) == 0) ≡ false
 is_listed name listed = grind arith
 
--- the row that a row of VALUES gives
+-- the row that a row of VALUES makes
 pub placed_fits : (columns : List Column) (listed : List (List ℕ)) (row : List Cell) → are_valid_columns columns ≡ true
     → filter (λ name. is_none (column_named columns name)) listed ≡ []
     → (length row == length (targets columns listed)) ≡ true → is_misfit_row (targets columns listed) row ≡ false

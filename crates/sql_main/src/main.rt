@@ -1,7 +1,7 @@
 //! The program `recycle_sql`: it hands the words of the command line, the files of the system and
 //! standard output to `sql_shell::top`, and ends with the status.
 //!
-//! Where the status isn't 0, `status <s> at <at>` stands on standard error.
+//! Where the status isn't 0, it writes `status <s> at <at>` to standard error.
 #![tactic(auto)]
 
 ghost use Rattle.std.specs.Prelude.{◌≡◌, ◌<◌};
@@ -73,12 +73,12 @@ fn run<L: Ledger, R: Threads + Wait + Sync, F: Files + Drop, W: Write + Drop>(
         log,
         ..
     } = served;
-    // The process ends next: the system takes back the log at once, not row by row.
+    // The process ends next: the system frees the log at once, not row by row.
     mem::forget(log);
     (status, at)
 }
 
-/// The words behind the program's name. Words that the system can't tell as text are outside the
+/// The words after the program's name. Words that the system can't provide as text are outside the
 /// grammar.
 fn words_of(rt: &HostRuntime) -> Result<Vec<Word>, Outcome> {
     let args = match env::args(rt) {

@@ -11,13 +11,13 @@ use Rattle.sql_tree.specs.Tree.{ExprTree, ItemTree, QueryTree}
 use Rattle.sql_tree.specs.declared.tree.ColRef.{ColRef}
 use Rattle.sql_tree.specs.declared.tree.FromItem.{FromItem}
 use Rattle.sql_tree.specs.declared.tree.SortKey.{SortKey}
-use Rattle.sql_semantics.specs.Sources.{NamedSource, NamedTable, source_of, rows_of, from_tables}
+use Rattle.sql_definitions.specs.Sources.{NamedSource, NamedTable, source_of, rows_of, from_tables}
 use Rattle.sql_tree.specs.Exprs.{exprs_of_cond}
-use Rattle.sql_semantics.specs.References.{items_of, is_grouped}
-use Rattle.sql_semantics.specs.Values.{Choice, constant_overflows, over_choices}
-use Rattle.sql_semantics.specs.Kept.{kept}
-use Rattle.sql_semantics.specs.Rows.{kept_choices, groups_of, choice_row, rows_from, query_rows, overflows_for}
-use Rattle.sql_semantics.specs.Answer.{key_place, limited, undoubled, arranged, answer_over, answer}
+use Rattle.sql_definitions.specs.References.{items_of, is_grouped}
+use Rattle.sql_definitions.specs.Values.{Choice, constant_overflows, over_choices}
+use Rattle.sql_definitions.specs.Kept.{kept}
+use Rattle.sql_definitions.specs.Rows.{kept_choices, groups_of, choice_row, rows_from, query_rows, overflows_for}
+use Rattle.sql_definitions.specs.Answer.{key_place, limited, undoubled, arranged, answer_over, answer}
 use Rattle.sql_meaning.specs.Shown.{row_of_group, is_group_shown, rows_of_shown}
 
 -- the keys of a query with these items

@@ -1,10 +1,10 @@
--- Groups by cells that stand beside the choices.
+-- Groups by the cells that are paired with the choices.
 use Rattle.std.proofs.Common.{◌≡◌, List, [], ◌∷◌, map, filter, Bool, true, false, cond, refl, ap, ◌∙◌}
 use Rattle.std.specs.Prelude.{zip}
 use Rattle.cell_core.specs.declared.cell.Cell.{Cell}
 use Rattle.cell_core.specs.Groups.{distinct}
-use Rattle.sql_semantics.specs.Values.{Choice}
-use Rattle.sql_semantics.specs.Rows.{same_cells, groups_by}
+use Rattle.sql_definitions.specs.Values.{Choice}
+use Rattle.sql_definitions.specs.Rows.{same_cells, groups_by}
 use Rattle.sql_meaning.specs.Members.{members_by}
 
 member_step : (b : Bool) (key : List Cell) (choice : Choice) (rest : List (List Cell × Choice)) (others : List Choice) → map (λ (p : List Cell × Choice). p.1) rest ≡ others

@@ -1,11 +1,11 @@
--- The rows of groups, without a look into how a cell comes about.
+-- The rows of groups, with the computation of their cells kept opaque.
 use Rattle.std.specs.Prelude.{List, map, filter, Bool, Option}
 use Rattle.cell_core.specs.declared.cell.Cell.{Cell}
 use Rattle.sql_tree.specs.Tree.{ExprTree, CondTree}
-use Rattle.sql_semantics.specs.Sources.{NamedSource}
-use Rattle.sql_semantics.specs.Values.{Choice, group_cell}
-use Rattle.sql_semantics.specs.Truth.{holds}
-use Rattle.sql_semantics.specs.Rows.{group_row}
+use Rattle.sql_definitions.specs.Sources.{NamedSource}
+use Rattle.sql_definitions.specs.Values.{Choice, group_cell}
+use Rattle.sql_definitions.specs.Truth.{holds}
+use Rattle.sql_definitions.specs.Rows.{group_row}
 
 -- the items' cells over a group
 unfoldable pub row_of_group : List NamedSource → List ExprTree → List Choice → List Cell

@@ -1,46 +1,24 @@
 //! What a query answers.
-ghost use Rattle.std.specs.Prelude.{◌≡◌, map, filter_map, Some, None, Err, IfOk, IsSome};
-ghost use Rattle.std.specs.Option.{option_map};
+ghost use Rattle.std.specs.Prelude.{◌≡◌, map, Some, None, Err, IfOk, IsSome};
 ghost use Rattle.cell_core.specs.declared.memory.RunError.TheVariants as RunError;
 ghost use Rattle.sql_tree.specs.Tree.{item_tree, query_tree, stmt_tree};
-ghost use Rattle.sql_semantics.specs.Sources.{source_of};
-ghost use Rattle.sql_semantics.specs.References.{items_of};
-ghost use Rattle.sql_semantics.specs.Rows.{rows_from};
-ghost use Rattle.sql_semantics.specs.Answer.{key_place as key_place_of, limited, undoubled, arranged, answer_over as answer_over_of, answer as answer_of, query_of, answer_of_stmt};
+ghost use Rattle.sql_definitions.specs.Sources.{source_of};
+ghost use Rattle.sql_definitions.specs.References.{items_of};
+ghost use Rattle.sql_definitions.specs.Rows.{rows_from};
+ghost use Rattle.sql_definitions.specs.Answer.{limited, undoubled, arranged, answer_over as answer_over_of, answer as answer_of, query_of, answer_of_stmt};
 
 use crate::groups::{distinct, groups_of};
 use crate::kept::kept_choices;
 use crate::overflow::{constants_overflow, shown_overflow};
 use crate::rows::{choice_rows, group_rows};
-use crate::tables::{Named, called_all, from_tables};
+use crate::tables::{CalledTable, called_all, from_tables};
 use cell_core::{Cell, Db, Memory, RunError, Sequence, sort_rows_by};
 use row_values::LentRow;
-use sql_semantics::{Called, Typed, all_columns, is_grouped, key_place};
-use sql_tree::{Item, Query, SortKey, Stmt};
+use sql_definitions::{Called, Typed, all_columns, is_grouped, sort_keys};
+use sql_tree::{Item, Query, Stmt};
 use std::alloc::Global;
 
-/// The keys of ORDER BY as places of items, each with whether low cells come first.
-fn sort_keys(
-    alloc: Global,
-    sources: &[Called<'_>],
-    items: &[Item],
-    keys: &[SortKey],
-) -> Result<Vec<(u32, bool)>, Memory>
-    ensures { IfOk result (λ places. places.items ≡ filter_map (λ (key : SortKey). option_map (λ n. (n, key.ascending)) (key_place_of sources.now (map item_tree items.now) key.at)) keys.now) }
-{
-    let mut places = Vec::new(alloc);
-    let mut rest = keys;
-    'keys: while let [key, more @ ..] = rest {
-        if let Some(place) = key_place(sources, items, &key.at) {
-            let place = u32::try_from(place).map_err(|_| Memory)?;
-            places.push((place, key.ascending))?;
-        }
-        rest = more;
-    }
-    Ok(places)
-}
-
-/// The rows without doubles, where DISTINCT asks for that.
+/// The rows, without duplicates under DISTINCT.
 fn without_doubles(
     alloc: Global,
     is_distinct: bool,
@@ -69,7 +47,7 @@ fn cut(limit: Option<u64>, rows: Vec<Sequence<Cell>>) -> Vec<Sequence<Cell>>
     rows
 }
 
-/// The rows without doubles where the query says DISTINCT, sorted, and then the first ones.
+/// The rows, without duplicates under DISTINCT, sorted, and then the first of them.
 fn arrange(
     alloc: Global,
     sources: &[Called<'_>],
@@ -111,7 +89,7 @@ fn rows_of_query(
 /// What a query with these items answers over tables, or none where it overflows.
 fn answer_with(
     alloc: Global,
-    tables: &[Named<'_>],
+    tables: &[CalledTable<'_>],
     sources: &[Called<'_>],
     items: &[Item],
     query: &Query,
@@ -135,7 +113,7 @@ fn answer_with(
 /// What a query answers over tables, or none where it overflows.
 fn answer_over(
     alloc: Global,
-    tables: &[Named<'_>],
+    tables: &[CalledTable<'_>],
     query: &Query,
 ) -> Result<Option<Sequence<Sequence<Cell>>>, Memory>
     ensures { IfOk result (λ answer. answer ≡ answer_over_of tables.now (query_tree query.now)) }

@@ -1,17 +1,17 @@
-//! The groups of a query, and rows without doubles.
+//! The groups of a query, and rows without duplicates.
 ghost use Rattle.std.specs.Prelude.{◌≡◌, ◌==◌, [], ◌∷◌, map, filter, not, length, if◌then◌else◌, IfOk};
 ghost use Rattle.cell_core.specs.Groups.{distinct as distinct_of};
-ghost use Rattle.sql_semantics.specs.Rows.{same_cells as same_cells_of, group_key as group_key_of, groups_of as groups_of_choices};
+ghost use Rattle.sql_definitions.specs.Rows.{same_cells as same_cells_of, group_key as group_key_of, groups_of as groups_of_choices};
 ghost use Rattle.sql_meaning.specs.Members.{members_by};
 
 use crate::kept::again;
 use cell_core::{Cell, Memory, Sequence, copy_cells};
 use row_values::{LentRow, column_cell};
-use sql_semantics::Called;
+use sql_definitions::Called;
 use sql_tree::ColRef;
 use std::alloc::Global;
 
-/// Whether two lists have the same cells, where Nil is the same as Nil.
+/// Whether two lists have the same cells, where Nil equals Nil.
 fn same_cells(a: &[Cell], b: &[Cell]) -> bool
     ensures { result ≡ same_cells_of a.now b.now }
 {
@@ -88,7 +88,7 @@ fn group_keys(
     Ok(keys)
 }
 
-/// The choices beside which these cells stand.
+/// The choices that are paired with these cells.
 fn members<'a>(
     alloc: Global,
     keys: &[Sequence<Cell>],

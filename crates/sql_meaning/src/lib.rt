@@ -1,9 +1,10 @@
 //! The plain program of what a query answers over a database: as rows, or none where it overflows
-//! (`plain_answer`); of a checked statement (`slow_answer`).
+//! (`plain_answer`); and of a checked statement (`slow_answer`).
 //!
-//! It stands on `sql_semantics`, whose definition of the answer it gives exactly, and on `row_values` for
-//! the values of expressions and the truth of conditions: loops over choices of rows and groups, without
-//! columns, hashes or plans. A choice holds rows that are lent, so no row is copied before it is shown.
+//! It builds on `sql_definitions`, whose definition of the answer it computes exactly, and on
+//! `row_values` for the values of expressions and the truth of conditions. It is loops over choices
+//! of rows and groups, without columns, hashes or plans. A choice holds rows that are lent, and no
+//! row is copied before it is shown.
 #![tactic(auto)]
 
 mod answer;

@@ -4,13 +4,13 @@ ghost use Rattle.std.specs.List.{list_any};
 ghost use Rattle.std.specs.Option.{option_map};
 ghost use Rattle.sql_tree.specs.Tree.{cond_tree, expr_tree};
 ghost use Rattle.sql_tree.specs.Exprs.{cond_exprs, exprs_of_cond};
-ghost use Rattle.sql_semantics.specs.Values.{constant_overflows as constant_overflows_of, over_choices};
-ghost use Rattle.sql_semantics.specs.Rows.{overflows_for};
-ghost use Rattle.sql_semantics.specs.Exprs.{exprs_of};
+ghost use Rattle.sql_definitions.specs.Values.{constant_overflows as constant_overflows_of, over_choices};
+ghost use Rattle.sql_definitions.specs.Rows.{overflows_for};
+ghost use Rattle.sql_definitions.specs.Exprs.{exprs_of};
 
 use cell_core::{Memory, Sequence};
 use row_values::{LentRow, cond_overflows, constant_overflows, value_over};
-use sql_semantics::Called;
+use sql_definitions::Called;
 use sql_tree::{Cond, Expr, Item};
 
 /// Whether arithmetic over constants alone leaves the range in an item.
@@ -57,7 +57,7 @@ fn overflows(
     Ok(false)
 }
 
-/// The same of what an item or a side of a test takes over single choices.
+/// The same of what an item or a side of a test computes over single choices.
 fn part_overflows(
     sources: &[Called<'_>],
     choices: &[Sequence<LentRow<'_>>],
@@ -124,7 +124,7 @@ fn tree_overflows_over(
     }
 }
 
-/// The same of HAVING, which may not be there.
+/// The same of HAVING, where there is one.
 fn having_overflows_over(
     sources: &[Called<'_>],
     choices: &[Sequence<LentRow<'_>>],

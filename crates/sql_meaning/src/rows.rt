@@ -2,13 +2,13 @@
 ghost use Rattle.std.specs.Prelude.{◌≡◌, map, filter, IfOk};
 ghost use Rattle.std.specs.Option.{option_map};
 ghost use Rattle.sql_tree.specs.Tree.{cond_tree};
-ghost use Rattle.sql_semantics.specs.Rows.{choice_row as choice_row_of};
+ghost use Rattle.sql_definitions.specs.Rows.{choice_row as choice_row_of};
 ghost use Rattle.sql_meaning.specs.Shown.{row_of_group, is_group_shown, rows_of_shown};
-ghost use Rattle.sql_semantics.specs.Exprs.{exprs_of};
+ghost use Rattle.sql_definitions.specs.Exprs.{exprs_of};
 
 use cell_core::{Cell, Memory, Sequence};
 use row_values::{LentRow, Scope, cell_over, group_cell, holds};
-use sql_semantics::Called;
+use sql_definitions::Called;
 use sql_tree::{Cond, Item};
 use std::alloc::Global;
 

@@ -1,34 +1,34 @@
 //! The tables of FROM in a database.
 ghost use Rattle.std.specs.Prelude.{◌≡◌, map, IfOk};
-ghost use Rattle.sql_semantics.specs.Sources.{source_of, rows_of, from_tables as from_tables_of};
+ghost use Rattle.sql_definitions.specs.Sources.{source_of, rows_of, from_tables as from_tables_of};
 
 use cell_core::{Cell, Db, Memory, Sequence, Table, Word};
-use sql_semantics::{Called, from_name};
+use sql_definitions::{Called, from_name};
 use sql_tree::FromItem;
 use std::alloc::Global;
 use std::marker::Model;
 
 /// A table as a statement calls it, lent. Contracts see its name there and the table.
 #[derive(Drop)]
-pub(crate) struct Named<'a> {
+pub(crate) struct CalledTable<'a> {
     name: &'a Word,
     table: &'a Table,
 }
 
-impl<'a> Model for Named<'a> {
-    ghost use Rattle.sql_semantics.specs.Sources.{NamedTable};
+impl<'a> Model for CalledTable<'a> {
+    ghost use Rattle.sql_definitions.specs.Sources.{NamedTable};
 
     ghost Value = { NamedTable };
 
     ghost view = { λ named. record { name = named.name.now; table = named.table.now } };
 }
 
-impl<'a> Named<'a> {
-    pub(crate) fn new(name: &'a Word, table: &'a Table) -> Named<'a>
+impl<'a> CalledTable<'a> {
+    pub(crate) fn new(name: &'a Word, table: &'a Table) -> CalledTable<'a>
         ensures name { result.name ≡ name.now }
         ensures table { result.table ≡ table.now }
     {
-        Named { name, table }
+        CalledTable { name, table }
     }
 
     /// The table without its rows.
@@ -51,14 +51,14 @@ pub(crate) fn from_tables<'a>(
     alloc: Global,
     froms: &'a [FromItem],
     db: &'a Db,
-) -> Result<Vec<Named<'a>>, Memory>
+) -> Result<Vec<CalledTable<'a>>, Memory>
     ensures { IfOk result (λ tables. tables.items ≡ from_tables_of froms.now db.now) }
 {
     let mut tables = Vec::new(alloc);
     let mut rest = froms;
     'froms: while let [from, more @ ..] = rest {
         if let Some(table) = db.table(&from.table) {
-            tables.push(Named::new(from_name(from), table))?;
+            tables.push(CalledTable::new(from_name(from), table))?;
         }
         rest = more;
     }
@@ -66,7 +66,10 @@ pub(crate) fn from_tables<'a>(
 }
 
 /// The tables without their rows.
-pub(crate) fn called_all<'a>(alloc: Global, tables: &[Named<'a>]) -> Result<Vec<Called<'a>>, Memory>
+pub(crate) fn called_all<'a>(
+    alloc: Global,
+    tables: &[CalledTable<'a>],
+) -> Result<Vec<Called<'a>>, Memory>
     ensures { IfOk result (λ sources. sources.items ≡ map source_of tables.now) }
 {
     let mut sources = Vec::with_capacity(alloc, tables.len())?;

@@ -11,8 +11,8 @@ use Rattle.sql_parse.specs.declared.error.ParseError.{ParseError}
 use Rattle.sql_parse.specs.declared.error.ParseError.TheVariants.{Refused}
 use Rattle.sql_reader.specs.declared.reading.TreeError.{TreeError}
 use Rattle.sql_reader.specs.declared.reading.TreeError.TheVariants as reading
-use Rattle.sql_semantics.specs.declared.refusal.Refusal.{Refusal}
-use Rattle.sql_semantics.specs.declared.refusal.Refusal.TheVariants.{Syntax}
+use Rattle.sql_definitions.specs.declared.refusal.Refusal.{Refusal}
+use Rattle.sql_definitions.specs.declared.refusal.Refusal.TheVariants.{Syntax}
 use Rattle.read_laws.specs.TokenLaws.{HasNoTokens}
 use Rattle.sql_tokens.specs.declared.reading.TokensError.{TokensError}
 use Rattle.sql_tokens.specs.declared.reading.TokensError.TheVariants as tokens

@@ -16,9 +16,9 @@ use Rattle.sql_grammar.specs.Written.{IsLiteral, IsPlain, IsCondOver, IsPlainCon
 use Rattle.read_laws.proofs.WholeStmts.{not_later}
 use Rattle.read_laws.specs.Answered.{answered, Reads, EachIsFormed}
 use Rattle.sql_parse.specs.declared.error.ParseError.{ParseError}
-use Rattle.sql_printed.specs.Laws.{ReadIsPrintable}
-use Rattle.sql_printed.specs.Printable.{EachOfSome, IfThere, IsOfAllRows, IsPrintableExpr, IsPrintableValue, IsPrintableCond, IsPrintableItem, IsPrintableQuery, IsPrintableKind, IsPrintableColumn, IsPrintableSet, IsPrintable}
-use Rattle.sql_semantics.specs.declared.refusal.Refusal.{Refusal}
+use Rattle.sql_print_laws.specs.Laws.{ReadIsPrintable}
+use Rattle.sql_print_laws.specs.Printable.{EachOfSome, IfThere, IsOfAllRows, IsPrintableExpr, IsPrintableValue, IsPrintableCond, IsPrintableItem, IsPrintableQuery, IsPrintableKind, IsPrintableColumn, IsPrintableSet, IsPrintable}
+use Rattle.sql_definitions.specs.declared.refusal.Refusal.{Refusal}
 use Rattle.sql_tree.specs.Tree.{ExprTree, CondTree, ItemTree, QueryTree, StmtTree, stmt_tree}
 use Rattle.sql_tree.specs.Tree.ExprTree.{Literal, ColumnOf, Operator, AggregateAll, Aggregate}
 use Rattle.sql_tree.specs.Tree.CondTree.{Compare, Within, IsNull, Negation, Both, Either}
@@ -118,7 +118,7 @@ stmt_shaped (ExplainSelect query) is = query_shaped query is
 
 -- ## Texts
 
--- of what is read nothing is left out, and no limit is passed that the tree decides
+-- nothing is left out of what is read, and it passes no limit that depends on the tree alone
 record IsWithin (s : StmtTree) : Type 0 where
   kept : left_out s ≡ None
   within : first_passed (tree_limits s) ≡ None

@@ -1,8 +1,8 @@
 ghost use Rattle.std.specs.Prelude.{◌≡◌};
 
 use cell_core::Memory;
+use sql_definitions::Refusal;
 use sql_reader::TreeError;
-use sql_semantics::Refusal;
 use sql_tokens::TokensError;
 use thiserror::Error;
 

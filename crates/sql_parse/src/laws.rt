@@ -1,6 +1,6 @@
 ghost use Rattle.read_laws.specs.Answered.{EachIsFormed};
 
-use sql_printed::read_is_printable;
+use sql_print_laws::read_is_printable;
 
 /// Each statement that a text reads as is formed.
 pub fn each_is_formed()

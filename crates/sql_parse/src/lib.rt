@@ -1,12 +1,12 @@
 //! From SQL text to the statement that it is, or to the reason for which it is refused.
 //!
-//! It stands on the crates that do one step each: `sql_tokens` finds tokens, `sql_refusals` and
-//! `sql_grammar` tell what is refused before and after the statement is read, and `sql_statements` reads
-//! it. What a text reads as is defined in `sql_grammar`; `Answered` of `read_laws` says with which statement
-//! or refusal that is answered. It promises that `parse` answers so for every text, and that what a text
-//! reads as is formed (`each_is_formed`), by the law of `sql_printed`; no text reads as two things
-//! (`one_reading`, a law of `read_laws`). Memory running out is the only answer that may come
-//! instead. `split`, which cuts a script into pieces, is that of `sql_tokens`.
+//! It builds on the crates that do one step each. `sql_tokens` finds tokens, `sql_refusals` and
+//! `sql_grammar` find what is refused before and after the statement is read, and `sql_statements`
+//! reads it. What a text reads as is defined in `sql_grammar`; `Answered` of `read_laws` says with
+//! which statement or refusal that is answered. `parse` answers so for every text, unless memory
+//! runs out. What a text reads as is formed (`each_is_formed`), by the law of `sql_print_laws`; no
+//! text reads as two things (`one_reading`, a law of `read_laws`). `split`, which cuts a script
+//! into pieces, is that of `sql_tokens`.
 #![tactic(auto)]
 
 mod error;

@@ -7,15 +7,15 @@ ghost use Rattle.sql_grammar.specs.Refused as refused;
 ghost use Rattle.read_laws.specs.AnsweredTokens.{AreAnswered};
 ghost use Rattle.sql_parse.specs.declared.error.ParseError.TheVariants.{Refused};
 ghost use Rattle.read_laws.specs.Unread.{read_limits};
-ghost use Rattle.sql_semantics.specs.declared.refusal.Refusal.{Refusal as RefusalSeen};
-ghost use Rattle.sql_semantics.specs.declared.refusal.Refusal.TheVariants.{Limit, Unsupported};
+ghost use Rattle.sql_definitions.specs.declared.refusal.Refusal.{Refusal as RefusalSeen};
+ghost use Rattle.sql_definitions.specs.declared.refusal.Refusal.TheVariants.{Limit, Unsupported};
 ghost use Rattle.sql_tree.specs.Tree.{stmt_tree};
 
 use crate::error::ParseError;
 use cell_core::word_of;
+use sql_definitions::Refusal;
 use sql_grammar::is_too_deep;
 use sql_refusals::{first_limit, first_rule, left_out};
-use sql_semantics::Refusal;
 use sql_tree::{Placed, Stmt};
 use std::alloc::Global;
 
@@ -30,7 +30,8 @@ pub(crate) fn check_rules(alloc: Global, tokens: &[Placed]) -> Result<(), ParseE
     }
 }
 
-/// Refuses tokens, to none of which a rule applies, with more levels than the limit at some token.
+/// Refuses tokens with more levels than the limit at some token, where no rule applies to any of
+/// them.
 pub(crate) fn check_levels(alloc: Global, tokens: &[Placed]) -> Result<(), ParseError>
     requires { IsFirstRule (tokens_in tokens.now) None }
     ensures shallow { OnOk result (refused.is_too_deep [] 0 (tokens_in tokens.now) ≡ false) }
@@ -43,7 +44,7 @@ pub(crate) fn check_levels(alloc: Global, tokens: &[Placed]) -> Result<(), Parse
     Ok(())
 }
 
-/// Refuses a statement of which the profile leaves something out.
+/// Refuses a statement if the profile leaves out a part of it.
 pub(crate) fn check_left_out(alloc: Global, stmt: &Stmt) -> Result<(), ParseError>
     ensures none { OnOk result (refused.left_out (stmt_tree stmt.now) ≡ None) }
     ensures refused { (refusal : RefusalSeen) → result ≡ Err (Refused refusal)

@@ -1,7 +1,8 @@
 use crate::{ParseError, SplitError, each_is_formed, one_reading, parse, split};
-use cell_core::Memory;
+use cell_core::{Memory, word_of};
+use sql_definitions::Refusal;
 use sql_print::print_stmt;
-use sql_semantics::Refusal;
+use sql_tree::{Stmt, digits_of, printed_name, write_quoted};
 use std::alloc::{AllocError, Global};
 use std::fmt::Write;
 use std::test::Fail;
@@ -207,7 +208,7 @@ const TEXTS: [(&str, &str); 89] = [
     ("SELECT \u{e4} FROM t", "syntax"),
 ];
 
-/// Texts with a part that stands so many times, and how what they are answered with begins.
+/// Texts in which a part is repeated so many times, and how what they are answered with begins.
 const LONG: [(&str, &str, u32, &str, &str); 49] = [
     ("SELECT a", " ", 65_522, "FROM t", "SELECT "),
     ("SELECT a", " ", 65_523, "FROM t", "limit statement"),
@@ -386,7 +387,7 @@ const LONG: [(&str, &str, u32, &str, &str); 49] = [
     ),
 ];
 
-/// Scripts with their pieces, a `|` behind each.
+/// Scripts with their pieces, a `|` after each.
 const SCRIPTS: [(&str, &str); 10] = [
     ("", ""),
     (" -- a;b\n;/* ; */", ""),
@@ -407,17 +408,23 @@ fn words(alloc: Global, refusal: &Refusal) -> Result<Vec<u8>, Memory> {
     Ok(words)
 }
 
+/// The canonical text of a statement, which is printed of a copy.
+fn copied(alloc: Global, stmt: &Stmt) -> Result<Vec<u8>, Memory> {
+    let copy = stmt.copy(alloc)?;
+    print_stmt(alloc, &copy)
+}
+
 /// The words of a text's refusal, or its canonical text.
 fn answer(alloc: Global, text: &str) -> Result<Vec<u8>, Memory> {
     let read = parse(alloc, text);
     match &read {
-        Ok(stmt) => print_stmt(alloc, stmt),
+        Ok(stmt) => copied(alloc, stmt),
         Err(ParseError::Refused(refusal)) => words(alloc, refusal),
         Err(ParseError::Memory) => Err(Memory),
     }
 }
 
-/// A text in which a part stands so many times.
+/// A text in which a part is repeated so many times.
 fn repeated(
     alloc: Global,
     before: &str,
@@ -480,5 +487,47 @@ fn scripts_are_split(rt: HostRuntime) -> Result<(), Fail> {
     assert_eq!(rt; split(alloc, most.as_str())?.len(), 256);
     let more = format!(in alloc; "{}b", most.as_str())?;
     assert!(rt; matches!(split(alloc, more.as_str()), Err(SplitError::TooMany)));
+    Ok(())
+}
+
+/// Names, with what is printed of them.
+const NAMES: [(&str, &str); 5] = [
+    ("a", "a"),
+    ("a_1", "a_1"),
+    ("A", "\"A\""),
+    ("order", "\"order\""),
+    ("a\"b", "\"a\"\"b\""),
+];
+
+#[test]
+fn names_are_printed(rt: HostRuntime) -> Result<(), Fail> {
+    let alloc = rt.alloc();
+    for (name, want) in &NAMES {
+        let printed = printed_name(alloc, &word_of(alloc, name)?)?;
+        assert_eq!(rt; printed.text(), *want);
+    }
+    let mut quoted = Vec::new(alloc);
+    write_quoted(b'\'', "it's", &mut quoted)?;
+    assert!(rt; quoted.as_slice() == b"'it''s'".as_slice());
+    Ok(())
+}
+
+#[test]
+fn digits_are_kept(rt: HostRuntime) -> Result<(), Fail> {
+    let alloc = rt.alloc();
+    for (more, want) in [
+        (b"".as_slice(), b"1".as_slice()),
+        (b"20".as_slice(), b"120".as_slice()),
+        (
+            b"2345678901234567890".as_slice(),
+            b"12345678901234567890".as_slice(),
+        ),
+        (
+            b"23456789012345678901".as_slice(),
+            b"123456789012345678901".as_slice(),
+        ),
+    ] {
+        assert!(rt; digits_of(alloc, b'1', more)?.bytes() == want);
+    }
     Ok(())
 }

@@ -5,7 +5,7 @@ ghost use Rattle.read_laws.specs.DerivedStmts.{IsReadStmt};
 ghost use Rattle.read_laws.specs.Answered.{Reads};
 ghost use Rattle.read_laws.specs.AnsweredTokens.{AreAnswered};
 ghost use Rattle.sql_parse.specs.declared.error.ParseError.TheVariants.{Refused};
-ghost use Rattle.sql_semantics.specs.declared.refusal.Refusal.{Refusal as RefusalSeen};
+ghost use Rattle.sql_definitions.specs.declared.refusal.Refusal.{Refusal as RefusalSeen};
 ghost use Rattle.sql_tree.specs.Tree.{stmt_tree};
 
 use crate::error::ParseError;
@@ -17,11 +17,11 @@ use sql_tokens::tokens;
 use sql_tree::{Placed, Stmt};
 use std::alloc::Global;
 
-/// The statement that the text is, or why it is refused: by the first of these that applies. It has no
-/// tokens (syntax); a rule of the profile applies to a token (unsupported, by the first such token); more
-/// than 512 levels stand open at some token (limit nesting); the grammar derives no statement (syntax);
-/// the profile leaves something out of the statement (unsupported); the statement passes a limit (the
-/// first of them).
+/// The statement that the text is, or why it is refused: by the first of these that applies. It has
+/// no tokens (syntax); a rule of the profile applies to a token (unsupported, by the first such
+/// token); more than 512 levels are open at some token (limit nesting); the grammar derives no
+/// statement (syntax); the profile leaves something out of the statement (unsupported); the
+/// statement passes a limit (the first of them).
 pub fn parse(alloc: Global, text: &str) -> Result<Stmt, ParseError>
     ensures read { IfOk result (λ stmt. Reads text.now (Ok (stmt_tree stmt))) }
     ensures formed { IfOk result (λ stmt. IsFormed (stmt_tree stmt)) }
@@ -50,7 +50,7 @@ fn parse_tokens(alloc: Global, tokens: &[Placed]) -> Result<Stmt, ParseError>
     }
 }
 
-/// Refuses a statement of which the profile leaves something out, or that passes a limit.
+/// Refuses a statement that passes a limit, or of which the profile leaves out a part.
 fn check_stmt(alloc: Global, tokens: &[Placed], stmt: &Stmt) -> Result<(), ParseError>
     requires plain { ArePlain (tokens_in tokens.now) }
     requires read { IsReadStmt (tokens_in tokens.now) (stmt_tree stmt.now) }

@@ -1,4 +1,4 @@
--- A list is printed by its first thing, and then the others, each behind a comma and a space.
+-- A list is printed by its first thing, and then the others, each after a comma and a space.
 use Rattle.std.proofs.Common.{◌≡◌, ℕ, ◌-◌, ◌≤◌, List, [], ◌∷◌, ◌++◌, codes, length, map, take, drop, get_or, ap, sym, ◌∙◌, arith, append_assoc}
 use Rattle.std.specs.Prelude.{flat_map}
 use Rattle.std.proofs.lemmas.List.{take_all}

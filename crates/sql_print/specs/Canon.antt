@@ -32,7 +32,7 @@ abbrev pub listed : List (List ℕ) → List ℕ
 listed [] = []
 listed (text ∷ texts) = text ++ flat_map (λ more. codes ", " ++ more) texts
 
--- texts, where there are any, behind a word
+-- a word and texts after it, where there are any
 abbrev pub listed_behind : List ℕ → List (List ℕ) → List ℕ
 listed_behind word [] = []
 listed_behind word (text ∷ texts) = word ++ listed (text ∷ texts)
@@ -54,7 +54,7 @@ type_text kind.Oid width = codes "OID"
 abbrev pub quoted_text : ℕ → List ℕ → List ℕ
 quoted_text mark text = mark ∷ flat_map (doubled mark) text ++ mark ∷ []
 
--- a literal; a cell that no literal gives prints as its text
+-- a literal; a cell that no literal writes is printed as its text
 abbrev pub literal_text : Cell → List ℕ
 literal_text (cell.Text text) = quoted_text 39 text
 literal_text (cell.Day day) = if is_printed_day day then codes "DATE '" ++ day_text day ++ codes "'" else cell_text (cell.Day day)
@@ -148,7 +148,7 @@ abbrev mutual
   cond_text (Both left right) = part_text left ++ codes " AND " ++ part_text right
   cond_text (Either left right) = enclosed (cond_text left) ++ codes " OR " ++ enclosed (cond_text right)
 
-  -- a part of AND or of NOT, where only a test stands bare; a side of OR never does
+  -- an operand of AND or of NOT, where only a test is bare; an operand of OR never is
   pub part_text : CondTree → List ℕ
   part_text (Compare op left right) = compared_text op left right
   part_text (Within of low high) = within_text of low high
@@ -157,7 +157,7 @@ abbrev mutual
   part_text (Both left right) = enclosed (part_text left ++ codes " AND " ++ part_text right)
   part_text (Either left right) = enclosed (enclosed (cond_text left) ++ codes " OR " ++ enclosed (cond_text right))
 
--- a condition, where there is one, behind a word
+-- a word and a condition after it, where there is one
 abbrev pub cond_behind : List ℕ → Option CondTree → List ℕ
 cond_behind word None = []
 cond_behind word (Some cond) = word ++ cond_text cond
@@ -191,7 +191,7 @@ abbrev pub limit_text : Option ℕ → List ℕ
 limit_text None = []
 limit_text (Some limit) = codes " LIMIT " ++ decimal limit
 
--- what stands before FROM
+-- the part before FROM
 abbrev pub selected_text : QueryTree → List ℕ
 selected_text query = codes "SELECT " ++ (if query.distinct then codes "DISTINCT " else []) ++ items_text (map item_text query.items)
 

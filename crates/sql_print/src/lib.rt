@@ -1,7 +1,7 @@
 //! The canonical text of statements.
 //!
-//! It stands on `sql_tree` and, for cells, on `cell_text`. `specs/Canon` says what the canonical text of
-//! a tree is; `print_stmt` promises to give it for every tree.
+//! It builds on `sql_tree` and, for cells, on `cell_text`. `specs/Canon` says what the canonical
+//! text of a tree is; `print_stmt` returns it for every tree.
 #![tactic(auto)]
 
 mod print;

@@ -104,7 +104,7 @@ pub(crate) fn write_expr(expr: &Expr, out: &mut Vec<u8>) -> Result<(), Memory>
     }
 }
 
-/// Appends an operand: an operator stands in parentheses.
+/// Appends an operand: an operator is put in parentheses.
 #[cycle(expressions)]
 fn write_operand(expr: &Expr, out: &mut Vec<u8>) -> Result<(), Memory>
     ensures { OnOk result (out.new.items ≡ out.old.items ++ canon.operand_text (expr_tree expr.now)) }
@@ -125,7 +125,7 @@ fn write_expr_enclosed(expr: &Expr, out: &mut Vec<u8>) -> Result<(), Memory>
     write_bytes(b")", out)
 }
 
-/// Appends a column, behind its table where one is written.
+/// Appends a column, after its table where one is written.
 pub(crate) fn write_reference(column: &ColRef, out: &mut Vec<u8>) -> Result<(), Memory>
     ensures { OnOk result (out.new.items ≡ out.old.items ++ canon.reference_text column.now) }
 {
@@ -137,7 +137,7 @@ pub(crate) fn write_reference(column: &ColRef, out: &mut Vec<u8>) -> Result<(), 
     write_name(&column.column, out)
 }
 
-/// Appends a literal; a cell that no literal gives stands as its text.
+/// Appends a literal; a cell that no literal writes is appended as its text.
 pub(crate) fn write_literal(literal: &Cell, out: &mut Vec<u8>) -> Result<(), Memory>
     ensures { OnOk result (out.new.items ≡ out.old.items ++ canon.literal_text literal.now) }
 {

@@ -23,7 +23,7 @@ pub(crate) fn write_number(number: u64, out: &mut Vec<u8>) -> Result<(), Memory>
     write_bytes(buffer.format(number).as_bytes(), out)
 }
 
-/// What stands in lists, with a comma and a space between two of it.
+/// What can be listed, with a comma and a space between two.
 pub(crate) trait Listed {
     ghost printed: { Self → List ℕ };
 
@@ -56,7 +56,7 @@ pub(crate) fn write_enclosed<T: Listed>(things: &[T], out: &mut Vec<u8>) -> Resu
     write_bytes(b")", out)
 }
 
-/// Appends things behind a word, where there are any.
+/// Appends a word and things after it, where there are any.
 pub(crate) fn write_listed_behind<T: Listed>(
     word: &[u8],
     things: &[T],

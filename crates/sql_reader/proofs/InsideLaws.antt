@@ -8,9 +8,9 @@ use Rattle.read_laws.specs.CondReader.{aggregate_in, whole_expr, value, operand,
 use Rattle.sql_reader.specs.Inside.{IsInside}
 use Rattle.read_laws.specs.Parts.{is_key, is_symbol}
 use Rattle.read_laws.specs.ExprReader.{sign_in, closed, term_behind, term, expr_behind, expr, factor}
-use Rattle.sql_reader.specs.declared.conditions.Inside.{Inside}
+use Rattle.sql_reader.specs.declared.conditions.Parenthesised.{Parenthesised}
 use Rattle.sql_reader.specs.declared.reading.TreeError.{TreeError}
-use Rattle.sql_reader.specs.declared.conditions.Inside.TheVariants.{Operand, Condition}
+use Rattle.sql_reader.specs.declared.conditions.Parenthesised.TheVariants.{Operand, Condition}
 use Rattle.read_laws.proofs.ChainLemmas.{then_told, then_none, given_none, branch_false, branch_true, or_none, or_first}
 use Rattle.read_laws.proofs.CondLaws.{unit_inner, condition_goes_on, condition_none}
 use Rattle.read_laws.proofs.OperandComplete.{expr_operand, value_operand}
@@ -80,7 +80,7 @@ operand_is true ts found h = given_none _ _ _ _ (no_aggregate ts found h) h
 operand_is false ts found h = h
 
 module _ (aggregates : Bool) where
-  -- no test stands there before a `)`
+  -- before a `)` there is no rest of a test
   closed_none : (of : ExprTree) (rest : List Token) → test_behind bounded (operand bounded aggregates) of (sign symbol.Close ∷ rest) ≡ None
   unfolding test_behind word_test range is_key
   closed_none of rest = refl
@@ -89,7 +89,7 @@ module _ (aggregates : Bool) where
   unfolding any_test
   no_test ts of behind rest h e = then_told _ _ _ _ (operand_is aggregates ts (of, behind) h) (ap (test_behind bounded (operand bounded aggregates) of) (sym e) ∙ closed_none of rest)
 
-  -- nor a condition in parentheses, where no unit stands where an expression is enclosed
+  -- nor a condition in parentheses: no unit is read where an expression and its `)` are
   abbrev NoUnit : ℕ → Type 0
   NoUnit n = (ts : List Token) (e : ExprTree) (rest : List Token) → operand_inside bounded ts ≡ Some (e, rest) → unit bounded (operand bounded aggregates) n ts ≡ None
 
@@ -170,7 +170,7 @@ module _ (aggregates : Bool) where
   unfolding test_from
   from_none part levels first ts h = then_none _ _ (then_none _ _ h)
 
-  -- the condition behind an expression
+  -- the condition after an expression
   pub from_test : (part : Parser CondTree) (levels : ℕ) (first : ExprTree) (ts : List Token) (of : ExprTree) (rest : List Token) (o : Found CondTree) → expr_behind bounded (factor bounded levels) first ts ≡ Some (of, rest) → test_behind bounded (operand bounded aggregates) of rest ≡ o → condition_from bounded (operand bounded aggregates) part levels first ts ≡ then_read o (λ (found : CondTree × List Token). closed_condition bounded part found.0 found.1)
   unfolding test_from
   from_test part levels first ts of rest o h e = ap (λ o. then_read o (λ (found : CondTree × List Token). closed_condition bounded part found.0 found.1)) (then_told _ _ _ _ h e)
@@ -188,7 +188,7 @@ from_open levels first ts of rest h open_ = then_told _ _ closed _ h (at rest op
     at (token.Symbol symbol.Close ∷ rest) e = absurd (close_is rest e)
     at other e = refl
 
--- the expression behind `((`
+-- the expression after `((`
 pub operand_none : (ts after : List Token) → is_symbol symbol.Open (first_token ts) ≡ true → after ≡ after_first ts → operand_inside bounded after ≡ None → operand_inside bounded ts ≡ None
 operand_none ts after open_ e h =
     let same : sign symbol.Open ∷ after ≡ ts = ap (λ a. sign symbol.Open ∷ a) e ∙ symbol_found symbol.Open ts open_ in
@@ -201,17 +201,17 @@ operand_goes_on_from ts after of rest levels open_ e l h =
 
 -- ## What was found
 
-pub as_operand : (operand : Found ExprTree) (condition : Found CondTree) (found : Inside) (of : Expr) (rest : List Token) → found ≡ Operand of → IsInside operand condition found rest → operand ≡ Some (expr_tree of, rest)
-as_operand operand condition found of rest e h = subst (λ (found : Inside). IsInside operand condition found rest) e h
+pub as_operand : (operand : Found ExprTree) (condition : Found CondTree) (found : Parenthesised) (of : Expr) (rest : List Token) → found ≡ Operand of → IsInside operand condition found rest → operand ≡ Some (expr_tree of, rest)
+as_operand operand condition found of rest e h = subst (λ (found : Parenthesised). IsInside operand condition found rest) e h
 
-pub as_condition : (operand : Found ExprTree) (condition : Found CondTree) (found : Inside) (c : Cond) (rest : List Token) → found ≡ Condition c → IsInside operand condition found rest → (operand ≡ None) × (condition ≡ Some (cond_tree c, rest))
-as_condition operand condition found c rest e h = subst (λ (found : Inside). IsInside operand condition found rest) e h
+pub as_condition : (operand : Found ExprTree) (condition : Found CondTree) (found : Parenthesised) (c : Cond) (rest : List Token) → found ≡ Condition c → IsInside operand condition found rest → (operand ≡ None) × (condition ≡ Some (cond_tree c, rest))
+as_condition operand condition found c rest e h = subst (λ (found : Parenthesised). IsInside operand condition found rest) e h
 
--- what is found of readers is found of those that tell the same
-pub same_inside : (operand other : Found ExprTree) (condition another : Found CondTree) (found : Inside) (rest : List Token) → operand ≡ other → condition ≡ another → IsInside other another found rest → IsInside operand condition found rest
+-- readers with the same results find the same in parentheses
+pub same_inside : (operand other : Found ExprTree) (condition another : Found CondTree) (found : Parenthesised) (rest : List Token) → operand ≡ other → condition ≡ another → IsInside other another found rest → IsInside operand condition found rest
 same_inside operand other condition another (Operand of) rest e f h = e ∙ h
 same_inside operand other condition another (Condition c) rest e f h = (e ∙ h.0, f ∙ h.1)
 
-pub found_inside : (operand other : Found ExprTree) (condition another : Found CondTree) (r : Result Inside TreeError) (rest : List Token) → operand ≡ other → condition ≡ another → IfOk r (λ found. IsInside other another found rest) → IfOk r (λ found. IsInside operand condition found rest)
+pub found_inside : (operand other : Found ExprTree) (condition another : Found CondTree) (r : Result Parenthesised TreeError) (rest : List Token) → operand ≡ other → condition ≡ another → IfOk r (λ found. IsInside other another found rest) → IfOk r (λ found. IsInside operand condition found rest)
 found_inside operand other condition another (Ok found) rest e f h = same_inside operand other condition another found rest e f h
 found_inside operand other condition another (Err error) rest e f h = tt

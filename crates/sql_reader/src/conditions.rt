@@ -18,7 +18,8 @@ use sql_refusals::is_large_cond;
 use sql_tree::{Cond, Expr, Keyword, Symbol};
 use std::alloc::Global;
 
-/// A condition, with as many levels as there are tokens.
+/// A condition, with as many levels as there are tokens. On an error, `Memory` too, the cursor may have
+/// passed some of its tokens.
 #[tactic(auto, unfolding(read_laws::specs::CondReader::whole_cond))]
 pub fn whole_cond(
     alloc: Global,
@@ -56,7 +57,7 @@ pub(crate) fn cond(
     cond_behind(alloc, tokens, aggregates, depth, first)
 }
 
-/// The rest of a condition behind its first unit.
+/// The rest of a condition after its first unit.
 #[cycle(unit)]
 #[tactic(auto, unfolding(read_laws::specs::CondReader::condition_behind))]
 fn cond_behind(
@@ -106,7 +107,7 @@ fn conj(
     conj_behind(alloc, tokens, aggregates, depth, first)
 }
 
-/// The rest of a conjunction behind its first unit.
+/// The rest of a conjunction after its first unit.
 #[cycle(unit)]
 fn conj_behind(
     alloc: Global,
@@ -157,8 +158,8 @@ fn unit(
     inner_unit(alloc, tokens, aggregates, depth - 1)
 }
 
-/// A unit, in which so many levels are left: the denial of one, a test, or a condition in parentheses.
-/// What these enclose may be the first operand of a test too.
+/// A unit, in which so many levels are left: the negation of one, a test, or a condition in
+/// parentheses. What these enclose may also be the first operand of a test.
 #[cycle(unit)]
 #[tactic(auto, using(crate::proofs::InsideLaws::unit_test, crate::proofs::InsideLaws::unit_enclosed, crate::proofs::InsideLaws::unit_from))]
 fn inner_unit(
@@ -187,29 +188,29 @@ fn inner_unit(
     let levels = tokens.len();
     tokens.advance();
     match enclosed(alloc, tokens, aggregates, depth)? {
-        Inside::Operand(first) => test_from(alloc, tokens, aggregates, levels, first),
-        Inside::Condition(condition) => Ok(condition),
+        Parenthesised::Operand(first) => test_from(alloc, tokens, aggregates, levels, first),
+        Parenthesised::Condition(condition) => Ok(condition),
     }
 }
 
 /// What parentheses enclose.
 #[derive(Drop)]
-enum Inside {
+enum Parenthesised {
     /// An expression.
     Operand(Expr),
     /// A condition.
     Condition(Cond),
 }
 
-/// What stands behind a `(`, and its `)`: an expression, or else a condition. No token is read more than
-/// twice, however deep parentheses stand in parentheses: what the inner ones enclose is gone on with.
+/// What follows a `(`, and its `)`: an expression, or else a condition. No token is read more than
+/// twice, however deep parentheses are nested: reading goes on from what the inner ones enclose.
 #[cycle(unit)]
 fn enclosed(
     alloc: Global,
     tokens: &mut Cursor<'_>,
     aggregates: bool,
     depth: usize,
-) -> Result<Inside, TreeError>
+) -> Result<Parenthesised, TreeError>
     ensures found { IfOk result (λ inside. IsInside
         (reader.operand_inside bounded (tokens_in tokens.old.rest.now))
         (reader.condition_inside bounded (reader.unit bounded (reader.operand bounded aggregates) depth)
@@ -229,22 +230,24 @@ fn enclosed(
     let levels = tokens.len();
     tokens.advance();
     match enclosed(alloc, tokens, aggregates, depth - 1)? {
-        Inside::Operand(first) => inside_from(alloc, tokens, aggregates, depth, levels, first),
-        Inside::Condition(first) => {
+        Parenthesised::Operand(first) => inside_from(
+            alloc, tokens, aggregates, depth, levels, first,
+        ),
+        Parenthesised::Condition(first) => {
             let condition = closed_cond(alloc, tokens, aggregates, depth, first)?;
-            Ok(Inside::Condition(condition))
+            Ok(Parenthesised::Condition(condition))
         }
     }
 }
 
-/// What stands behind a `(`, read as an expression first.
+/// What follows a `(`, read as an expression first.
 #[cycle(unit)]
 fn first_inside(
     alloc: Global,
     tokens: &mut Cursor<'_>,
     aggregates: bool,
     depth: usize,
-) -> Result<Inside, TreeError>
+) -> Result<Parenthesised, TreeError>
     ensures found { IfOk result (λ inside. IsInside
         (reader.operand_inside bounded (tokens_in tokens.old.rest.now))
         (reader.condition_inside bounded (reader.unit bounded (reader.operand bounded aggregates) depth)
@@ -257,18 +260,18 @@ fn first_inside(
 {
     let start = tokens.rest;
     match closed_expr(alloc, tokens) {
-        Ok(operand) => Ok(Inside::Operand(operand)),
+        Ok(operand) => Ok(Parenthesised::Operand(operand)),
         Err(TreeError::Memory) => Err(TreeError::Memory),
         Err(TreeError::Syntax) => {
             tokens.rest = start;
             let condition = cond(alloc, tokens, aggregates, depth)?;
             let condition = tokens.closed(condition)?;
-            Ok(Inside::Condition(condition))
+            Ok(Parenthesised::Condition(condition))
         }
     }
 }
 
-/// What stands behind a `(` and its first factor, which has so many levels.
+/// What follows a `(` and its first factor, which has so many levels.
 #[cycle(unit)]
 fn inside_from(
     alloc: Global,
@@ -277,7 +280,7 @@ fn inside_from(
     depth: usize,
     levels: usize,
     first: Expr,
-) -> Result<Inside, TreeError>
+) -> Result<Parenthesised, TreeError>
     ensures found { IfOk result (λ inside. IsInside
         (reader.operand_from bounded levels (expr_tree first) (tokens_in tokens.old.rest.now))
         (reader.condition_from bounded (reader.operand bounded aggregates)
@@ -293,14 +296,14 @@ fn inside_from(
     let operand = expr_behind(alloc, tokens, levels, first)?;
     if is_symbol(tokens.peek(), Symbol::Close) {
         tokens.advance();
-        return Ok(Inside::Operand(operand));
+        return Ok(Parenthesised::Operand(operand));
     }
     let unit = test_behind(alloc, tokens, aggregates, operand)?;
     let condition = closed_cond(alloc, tokens, aggregates, depth, unit)?;
-    Ok(Inside::Condition(condition))
+    Ok(Parenthesised::Condition(condition))
 }
 
-/// The rest of a condition behind its first unit, and the `)` behind it.
+/// The rest of a condition after its first unit, and the `)` after it.
 #[cycle(unit)]
 fn closed_cond(
     alloc: Global,
@@ -321,7 +324,7 @@ fn closed_cond(
     tokens.closed(condition)
 }
 
-/// An expression, and the `)` behind it.
+/// An expression, and the `)` after it.
 fn closed_expr(alloc: Global, tokens: &mut Cursor<'_>) -> Result<Expr, TreeError>
     ensures found { IfOk result (λ e. reader.operand_inside bounded
         (tokens_in tokens.old.rest.now) ≡ Some (expr_tree e, tokens_in tokens.new.rest.now)) }
@@ -332,7 +335,7 @@ fn closed_expr(alloc: Global, tokens: &mut Cursor<'_>) -> Result<Expr, TreeError
     tokens.closed(operand)
 }
 
-/// A test whose first operand has so many levels, behind the first factor of that.
+/// A test whose first operand has so many levels, after the first factor of that operand.
 #[tactic(auto, unfolding(read_laws::specs::CondReader::test_from))]
 fn test_from(
     alloc: Global,
@@ -352,7 +355,7 @@ fn test_from(
     test_behind(alloc, tokens, aggregates, operand)
 }
 
-/// The denial of a condition.
+/// The negation of a condition.
 pub(crate) fn negation(alloc: Global, of: Cond) -> Result<Cond, Memory>
     ensures { IfOk result (λ c. cond_tree c ≡ Negation (cond_tree of)) }
 {
@@ -393,7 +396,7 @@ fn larger(alloc: Global, left: Cond, right: Cond) -> Result<Cond, Memory>
     }
 }
 
-/// One of the conditions.
+/// Two conditions joined by OR, of any size.
 fn disjunction(alloc: Global, left: Cond, right: Cond) -> Result<Cond, Memory>
     ensures { IfOk result (λ c. cond_tree c ≡ Either (cond_tree left) (cond_tree right)) }
 {

@@ -41,7 +41,7 @@ impl<'a> Cursor<'a> {
         }
     }
 
-    /// Leaves the next token behind.
+    /// Skips the next token.
     pub fn advance(&mut self)
         ensures { tokens_in self.new.rest.now ≡ after_first (tokens_in self.old.rest.now) }
     {
@@ -60,7 +60,7 @@ impl<'a> Cursor<'a> {
         token
     }
 
-    /// Takes a keyword that has to stand here.
+    /// Takes a keyword that has to come next.
     pub fn key(&mut self, word: Keyword) -> Result<(), TreeError>
         ensures rest { tokens_in self.new.rest.now ≡ after_first (tokens_in self.old.rest.now) }
         ensures found { OnOk result (parts.is_key word (first_token (tokens_in self.old.rest.now)) ≡ true) }
@@ -74,7 +74,7 @@ impl<'a> Cursor<'a> {
         }
     }
 
-    /// Takes a symbol that has to stand here.
+    /// Takes a symbol that has to come next.
     pub fn symbol(&mut self, symbol: Symbol) -> Result<(), TreeError>
         ensures rest { tokens_in self.new.rest.now ≡ after_first (tokens_in self.old.rest.now) }
         ensures found { OnOk result (parts.is_symbol symbol (first_token (tokens_in self.old.rest.now)) ≡ true) }
@@ -88,7 +88,7 @@ impl<'a> Cursor<'a> {
         }
     }
 
-    /// Passes only where no token is left.
+    /// Fails where a token is left.
     pub fn end(&self) -> Result<(), TreeError>
         ensures found { OnOk result (tokens_in self.now.rest.now ≡ []) }
         ensures none { IsErrOf result TreeError.Syntax → 0 < length (tokens_in self.now.rest.now) }
@@ -99,7 +99,7 @@ impl<'a> Cursor<'a> {
         }
     }
 
-    /// Takes a `)` that has to stand here.
+    /// Takes a `)` that has to come next.
     pub fn close(&mut self) -> Result<(), TreeError>
         ensures rest { tokens_in self.new.rest.now ≡ after_first (tokens_in self.old.rest.now) }
         ensures found { OnOk result (reader.is_close (first_token (tokens_in self.old.rest.now)) ≡ true) }
@@ -112,7 +112,7 @@ impl<'a> Cursor<'a> {
         }
     }
 
-    /// What was read, with a `)` that has to stand behind it.
+    /// What was read, where a `)` follows it, which is taken.
     pub(crate) fn closed<T: Drop>(&mut self, read: T) -> Result<T, TreeError>
         ensures rest { tokens_in self.new.rest.now ≡ after_first (tokens_in self.old.rest.now) }
         ensures found { OnOk result (reader.is_close (first_token (tokens_in self.old.rest.now)) ≡ true) }
@@ -124,7 +124,7 @@ impl<'a> Cursor<'a> {
         Ok(read)
     }
 
-    /// What was read, where no token is left behind it.
+    /// What was read, where no token is left after it.
     pub(crate) fn ended<T: Drop>(&self, read: T) -> Result<T, TreeError>
         ensures found { OnOk result (tokens_in self.now.rest.now ≡ []) }
         ensures same { IfOk result (λ back. back ≡ read) }
@@ -135,10 +135,10 @@ impl<'a> Cursor<'a> {
     }
 }
 
-/// What is kept, beside what was made; where that failed, what is kept is let go.
+/// What is kept, beside what was made; where that failed, what is kept is dropped.
 ///
-/// A proof goes through all the forms of a tree at each place where one may be let go. Here that is done for things of
-/// any kind, which have none.
+/// A proof goes through all forms of a tree wherever one may be dropped. This function takes things
+/// of any type, which have no forms to go through.
 pub(crate) fn beside<T: Drop, U: Drop, E: Drop>(kept: T, made: Result<U, E>) -> Result<(T, U), E>
     ensures both { IfOk result (λ both. (both.0 ≡ kept) × (made ≡ Ok both.1)) }
     ensures none { IfErr result (λ error. made ≡ Err error) }

@@ -29,7 +29,7 @@ pub(crate) fn expr(alloc: Global, tokens: &mut Cursor<'_>, depth: usize) -> Resu
     expr_behind(alloc, tokens, depth, first)
 }
 
-/// The rest of an expression behind its first factor.
+/// The rest of an expression after its first factor.
 #[cycle(expr)]
 #[tactic(auto, unfolding(read_laws::specs::ExprReader::expr_behind))]
 pub(crate) fn expr_behind(
@@ -70,7 +70,7 @@ fn term(alloc: Global, tokens: &mut Cursor<'_>, depth: usize) -> Result<Expr, Tr
     term_behind(alloc, tokens, depth, first)
 }
 
-/// The rest of a term behind its first factor.
+/// The rest of a term after its first factor.
 #[cycle(expr)]
 fn term_behind(
     alloc: Global,
@@ -141,7 +141,7 @@ fn inner_factor(alloc: Global, tokens: &mut Cursor<'_>, depth: usize) -> Result<
     }
 }
 
-/// What follows a `-`: digits, of which it is the sign, or what is taken from 0.
+/// What follows a `-`: digits, of which it is the sign, or an operand that is subtracted from 0.
 #[cycle(expr)]
 #[tactic(auto, unfolding(read_laws::specs::ExprReader::negative))]
 fn negative(alloc: Global, tokens: &mut Cursor<'_>, depth: usize) -> Result<Expr, TreeError>
@@ -202,7 +202,8 @@ pub fn day(text: &Word) -> Option<i32>
     named_day(text.text())
 }
 
-/// A column that begins with the name: `column` or `table.column`.
+/// A column that begins with the name: `column` or `table.column`. On an error, `Memory` too, the cursor
+/// may have passed some of its tokens.
 #[tactic(auto, unfolding(read_laws::specs::ExprReader::column))]
 pub fn column(first: &Word, tokens: &mut Cursor<'_>) -> Result<ColRef, TreeError>
     ensures found { IfOk result (λ column. reader.column first.now (tokens_in tokens.old.rest.now)

@@ -1,23 +1,24 @@
 //! The reader of SQL's expressions and conditions: which tree tokens derive.
 //!
-//! It stands on `sql_tree`, on the grammar of `sql_grammar`, on the tests of `sql_refusals` and on the readers
-//! on plain lists of `read_laws`. `DerivedExprs` there is what a reader has to believe: that tokens derive an
-//! expression or a condition is that the grammar's rules write them. It promises that `read_expr`,
-//! `read_cond` and `read_having` give the tree of the tokens exactly where they derive one, as far as it is
-//! kept; no tokens derive two (`one_expr`, `one_cond`, laws of `read_laws`).
+//! It builds on `sql_tree`, on the grammar of `sql_grammar`, on the tests of `sql_refusals` and on
+//! the readers on plain lists of `read_laws`. `DerivedExprs` there is what a reader has to believe:
+//! tokens derive an expression or a condition where the grammar's rules write them. `read_expr`,
+//! `read_cond` and `read_having` return the tree of the tokens exactly where they derive one, as
+//! far as it is kept. No tokens derive two (`one_expr`, `one_cond`, laws of `read_laws`).
 //!
-//! What is kept stands in `Bounded` there. A number of more than 64 bits stands as a Huge, which no literal
-//! gives. An expression of 64 nodes and a condition of 128 are kept as they are written. Past these limits
-//! the readers go on to recognise, but the tree grows no further than by a sign of each thing that is
-//! asked of a statement later, where what is left out has it and what is kept hasn't: a column, a Huge,
-//! arithmetic over columns. So a text of any length makes a small tree, which is still refused for the
-//! reasons that the whole would be.
+//! `Bounded` there says what is kept. A number of more than 64 bits becomes a Huge, which no
+//! literal writes. An expression of 64 nodes and a condition of 128 are kept as they are written.
+//! Past these limits the readers still recognise, but the tree grows only by signs of what later
+//! checks ask for: a column, a Huge, arithmetic over columns. A sign is added where what is left
+//! out has that and what is kept hasn't. So a text of any length makes a small tree, which is still
+//! refused for the reasons for which the whole would be.
 //!
-//! What parentheses enclose may be an expression or a condition. It is read as either once, and what stands
-//! in inner ones is gone on with, so that a text takes time by its length, however deep its parentheses are.
+//! What parentheses enclose may be an expression or a condition. It is read once as either, and
+//! reading goes on from what the inner ones enclose. So a text takes time by its length, however
+//! deep its parentheses are.
 //!
-//! `Cursor` and the readers at a cursor serve the crate of statements: their contracts speak of the
-//! readers on plain lists.
+//! `Cursor` and the readers at a cursor serve the crate of statements: their contracts are about
+//! the readers on plain lists.
 #![tactic(auto)]
 
 mod conditions;

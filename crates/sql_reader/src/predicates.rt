@@ -18,7 +18,8 @@ use sql_refusals::{has_unread, is_column_arithmetic, is_large_cond};
 use sql_tree::{AggOp, CmpOp, Cond, Expr, Keyword, Symbol, Token};
 use std::alloc::Global;
 
-/// An expression, with as many levels as there are tokens.
+/// An expression, with as many levels as there are tokens. On an error, `Memory` too, the cursor may
+/// have passed some of its tokens.
 #[tactic(auto, unfolding(read_laws::specs::CondReader::whole_expr))]
 pub fn whole_expr(alloc: Global, tokens: &mut Cursor<'_>) -> Result<Expr, TreeError>
     ensures found { IfOk result (λ e. reader.whole_expr bounded
@@ -30,7 +31,8 @@ pub fn whole_expr(alloc: Global, tokens: &mut Cursor<'_>) -> Result<Expr, TreeEr
     expr(alloc, tokens, levels)
 }
 
-/// An expression or an aggregate.
+/// An expression or an aggregate. On an error, `Memory` too, the cursor may have passed some of its
+/// tokens.
 #[tactic(auto, unfolding(read_laws::specs::CondReader::value))]
 pub fn value(alloc: Global, tokens: &mut Cursor<'_>) -> Result<Expr, TreeError>
     ensures found { IfOk result (λ e. reader.value bounded
@@ -97,7 +99,7 @@ pub(crate) fn test(
     test_behind(alloc, tokens, aggregates, of)
 }
 
-/// A test behind its first operand.
+/// The rest of a test after its first operand.
 #[tactic(auto, unfolding(read_laws::specs::CondReader::test_behind))]
 pub(crate) fn test_behind(
     alloc: Global,
@@ -124,7 +126,7 @@ pub(crate) fn test_behind(
     })
 }
 
-/// A test that begins with a word, behind the operand.
+/// A test that begins with a word, after the operand.
 #[tactic(auto, unfolding(read_laws::specs::CondReader::word_test))]
 fn word_test(
     alloc: Global,
@@ -146,7 +148,7 @@ fn word_test(
     range(alloc, tokens, aggregates, of)
 }
 
-/// [NOT] NULL, behind the operand and IS.
+/// [NOT] NULL, after the operand and IS.
 #[tactic(auto, unfolding(read_laws::specs::CondReader::null_test))]
 fn null_test(alloc: Global, tokens: &mut Cursor<'_>, of: Expr) -> Result<Cond, TreeError>
     ensures found { IfOk result (λ c. reader.null_test (expr_tree of)
@@ -163,7 +165,7 @@ fn null_test(alloc: Global, tokens: &mut Cursor<'_>, of: Expr) -> Result<Cond, T
     Ok(Cond::IsNull(of))
 }
 
-/// [NOT] BETWEEN or [NOT] IN, behind the operand.
+/// [NOT] BETWEEN or [NOT] IN, after the operand.
 #[tactic(auto, unfolding(read_laws::specs::CondReader::range))]
 fn range(
     alloc: Global,
@@ -186,7 +188,7 @@ fn range(
     plain_range(alloc, tokens, aggregates, of)
 }
 
-/// BETWEEN or IN, behind the operand.
+/// BETWEEN or IN, after the operand.
 fn plain_range(
     alloc: Global,
     tokens: &mut Cursor<'_>,
@@ -209,7 +211,7 @@ fn plain_range(
     }
 }
 
-/// The two bounds behind BETWEEN.
+/// The two bounds after BETWEEN.
 #[tactic(auto, unfolding(read_laws::specs::CondReader::within))]
 fn within(
     alloc: Global,
@@ -230,7 +232,7 @@ fn within(
     Ok(Cond::Between { of, low, high })
 }
 
-/// The list behind IN.
+/// The list after IN.
 fn listed(
     alloc: Global,
     tokens: &mut Cursor<'_>,
@@ -249,7 +251,7 @@ fn listed(
     read
 }
 
-/// The list behind IN, of an operand that is lent.
+/// The list after IN, of an operand that is lent.
 #[tactic(auto, unfolding(read_laws::specs::CondReader::listed))]
 fn list_behind(
     alloc: Global,
@@ -269,7 +271,7 @@ fn list_behind(
     tokens.closed(members)
 }
 
-/// The members of a list behind IN: the operand is one of them.
+/// The members of a list after IN, as the condition that the operand is one of them.
 #[tactic(auto, unfolding(read_laws::specs::CondReader::members))]
 fn members(
     alloc: Global,
@@ -297,8 +299,8 @@ fn members(
     Ok(left)
 }
 
-/// The operand is a member of those so far, or it is the next. Where those so far are past the limit of a
-/// condition, the operand isn't copied.
+/// The condition that the operand is one of the members so far, or equals the next. Where those so
+/// far are past the limit of a condition, the operand isn't copied.
 fn or_member(alloc: Global, of: &Expr, so_far: Cond, member: Expr) -> Result<Cond, Memory>
     ensures { IfOk result (λ c. cond_tree c ≡ bounded_join Either (cond_tree so_far)
         (Compare compare.Eq (expr_tree of.now) (expr_tree member))) }
@@ -314,21 +316,21 @@ fn or_member(alloc: Global, of: &Expr, so_far: Cond, member: Expr) -> Result<Con
     either(alloc, so_far, next)
 }
 
-/// Whether that the operand is the member would have arithmetic over columns.
+/// Whether the equality of operand and member would have arithmetic over columns.
 fn has_arithmetic(of: &Expr, member: &Expr) -> bool
     ensures { result ≡ has_column_arithmetic (Compare compare.Eq (expr_tree of.now) (expr_tree member.now)) }
 {
     is_column_arithmetic(of) || is_column_arithmetic(member)
 }
 
-/// Whether it would have a literal that could not be read.
+/// Whether that equality would have a literal that could not be read.
 fn are_unread(of: &Expr, member: &Expr) -> bool
     ensures { result ≡ cond_has_unread (Compare compare.Eq (expr_tree of.now) (expr_tree member.now)) }
 {
     has_unread(of) || has_unread(member)
 }
 
-/// The operand is the member.
+/// The condition that the operand equals the member.
 fn equality(alloc: Global, of: &Expr, member: Expr) -> Result<Cond, Memory>
     ensures { IfOk result (λ c. cond_tree c ≡ Compare compare.Eq (expr_tree of.now) (expr_tree member)) }
 {

@@ -12,7 +12,7 @@ use cell_core::Memory;
 use sql_tree::{Cond, Expr, Placed};
 use std::alloc::{AllocFailed, Global};
 
-/// Why tokens give no tree.
+/// Why tokens have no tree.
 #[derive(Clone, Copy, Debug, PartialEq, Eq, Drop)]
 pub enum TreeError {
     /// The grammar doesn't derive them.
@@ -43,10 +43,10 @@ impl<T: Drop> From<AllocFailed<T>> for TreeError {
 
 /// The expression that the tokens are, all of them.
 ///
-/// A number outside the signed 64-bit range stands as a Huge, which no literal gives. An expression of up to
-/// 64 nodes stands as it is written; a larger one stands cut off a little past that limit, with a column
-/// and a Huge where what is left out has one and the rest hasn't. The limits of literals and expressions
-/// are steps of their own.
+/// A number outside the signed 64-bit range becomes a Huge, which no literal writes. An expression
+/// of up to 64 nodes is kept as it is written. A larger one is cut off a little past that limit,
+/// with a column and a Huge where what is left out has one and the rest hasn't. The limits of
+/// literals and expressions are steps of their own.
 pub fn read_expr(alloc: Global, tokens: &[Placed]) -> Result<Expr, TreeError>
     ensures expr { IfOk result (λ e. IsReadExpr (tokens_in tokens.now) (expr_tree e)) }
     ensures none { IsErrOf result TreeError.Syntax →
@@ -61,9 +61,10 @@ pub fn read_expr(alloc: Global, tokens: &[Placed]) -> Result<Expr, TreeError>
 
 /// The condition of WHERE or ON that the tokens are, all of them.
 ///
-/// Its expressions stand as those of `read_expr` do. A condition of up to 128 nodes stands as it is
-/// written; a larger one stands cut off a little past that limit, with arithmetic over columns and a Huge
-/// where what is left out has them and the rest hasn't. The limit of conditions is a step of its own.
+/// Its expressions are kept as those of `read_expr` are. A condition of up to 128 nodes is kept as
+/// it is written. A larger one is cut off a little past that limit, with arithmetic over columns
+/// and a Huge where what is left out has them and the rest hasn't. The limit of conditions is a
+/// step of its own.
 pub fn read_cond(alloc: Global, tokens: &[Placed]) -> Result<Cond, TreeError>
     ensures cond { IfOk result (λ c. IsReadCond (IsCond (tokens_in tokens.now)) (cond_tree c)) }
     ensures none { IsErrOf result TreeError.Syntax →

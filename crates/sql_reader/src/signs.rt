@@ -1,4 +1,4 @@
-//! What a reader leaves out past its limits is told by signs: a column, a Huge, arithmetic over columns.
+//! Signs of what a reader leaves out past its limits: a column, a Huge, arithmetic over columns.
 ghost use Rattle.std.specs.Prelude.{◌≡◌, ◌&&◌, not, if◌then◌else◌, IfOk};
 ghost use Rattle.sql_grammar.specs.Refused as refused;
 ghost use Rattle.read_laws.specs.Unread.{unread_cell};
@@ -91,7 +91,7 @@ fn column_arithmetic(alloc: Global) -> Result<Cond, Memory>
     Ok(equal(sum, right))
 }
 
-/// A column without a name, which no text gives.
+/// A column without a name, which no text has.
 fn some_column(alloc: Global) -> Result<Expr, Memory>
     ensures { IfOk result (λ e. expr_tree e ≡ kept.some_column) }
 {
@@ -113,7 +113,7 @@ fn plus(alloc: Global, left: Expr, right: Expr) -> Result<Expr, Memory>
     })
 }
 
-/// Both conditions.
+/// Two conditions joined by AND, of any size.
 pub(crate) fn and(alloc: Global, left: Cond, right: Cond) -> Result<Cond, Memory>
     ensures { IfOk result (λ c. cond_tree c ≡ Both (cond_tree left) (cond_tree right)) }
 {

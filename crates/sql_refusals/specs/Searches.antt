@@ -1,4 +1,4 @@
--- Helpers of the proof, which private contracts alone cite: what is looked for in the expressions of a
+-- Helpers of proofs, which only private contracts cite: what is looked for in the expressions of a
 -- statement.
 use Rattle.std.specs.Prelude.{Bool, nat_lt}
 use Rattle.sql_grammar.specs.Refused.{expr_nodes}

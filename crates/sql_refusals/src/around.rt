@@ -1,4 +1,4 @@
-//! Tokens by their index, and what stands around one.
+//! Tokens by their index, and what is around one.
 ghost use Rattle.std.specs.Prelude.{◌≡◌, slice_get};
 ghost use Rattle.std.specs.Option.{option_copied};
 ghost use Rattle.sql_grammar.specs.Reads.{tokens_in};
@@ -67,7 +67,7 @@ pub(crate) fn has_expressions(token: Option<&Token>) -> bool
     )
 }
 
-/// Whether the first token stands at the index, or the one directly behind a first EXPLAIN.
+/// Whether the token at the index is the first, or the one directly after a first EXPLAIN.
 pub(crate) fn leads(tokens: &[Placed], i: usize) -> bool
     ensures { result ≡ refused.leads (tokens_in tokens.now) i }
 {

@@ -80,7 +80,8 @@ fn any_of_cond(sought: Sought, cond: Option<&Cond>) -> bool
     }
 }
 
-/// Whether a literal of the condition could not be read: a Huge, as `has_unread` tells of an expression.
+/// Whether a literal of the condition could not be read: a Huge, as for `has_unread` of an
+/// expression.
 pub fn cond_has_unread(cond: &Cond) -> bool
     ensures { result ≡ list_any (has_literal is_unread_cell) (cond_exprs (cond_tree cond.now)) }
 {

@@ -1,14 +1,14 @@
 //! Why SQL text is refused: the first token to which a rule applies, what is left out of a statement,
 //! and the first limit that a statement passes.
 //!
-//! It stands on `sql_tree` and on the definitions of `sql_grammar`, and decides each of them exactly:
-//! `first_rule`, `left_out`, `statement_bytes`, `first_limit`. A reader gives a Huge for a number of more
-//! than 64 bits, which no literal gives, so a Huge passes the limit of literals (`Unread` of `read_laws`);
-//! `limits_as_read` is the law there that the limits of a statement are then those of what was read. Memory
-//! running out is the only answer that may come instead.
+//! It builds on `sql_tree` and on the definitions of `sql_grammar`, and decides each of them
+//! exactly: `first_rule`, `left_out`, `statement_bytes`, `first_limit`. A reader makes a Huge of a
+//! number of more than 64 bits. No literal is one, and so a Huge passes the limit of literals
+//! (`Unread` of `read_laws`). By `limits_as_read`, a law there, the limits of a statement are then
+//! those of what was read. The only other answer is that memory ran out.
 //!
-//! The tests of one expression or condition (`is_large_expr`, `has_column` and those beside them) are
-//! public, since a reader asks them of what it builds.
+//! The tests of one expression or condition (`is_large_expr`, `has_column` and those beside them)
+//! are public, since a reader applies them to what it builds.
 #![tactic(auto)]
 
 mod around;

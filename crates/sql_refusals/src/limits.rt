@@ -58,7 +58,8 @@ fn end_of(first: &Placed, more: &[Placed]) -> usize
 
 /// The name of the first limit that a statement passes, given its tokens. None where it passes none.
 ///
-/// A Huge among its literals counts as a number past 64 bits, as a reader gives it; a position and a
+/// A Huge among its literals counts as a number past 64 bits, as a reader makes it; a position and
+/// a
 /// LIMIT are past the limit where they are past the signed numbers of 64 bits.
 pub fn first_limit(alloc: Global, tokens: &[Placed], stmt: &Stmt) -> Result<Option<Word>, Memory>
     ensures { IfOk result (λ limit. limit ≡ first_passed (read_limits (bytes_between tokens.now) (tokens_in tokens.now) (stmt_tree stmt.now))) }
@@ -145,7 +146,7 @@ fn is_unread(stmt: &Stmt) -> bool
     literal || has_wide(stmt)
 }
 
-/// Whether a column that the statement writes is wider than the limit.
+/// Whether a column that the statement defines is wider than the limit.
 fn has_wide_column(stmt: &Stmt) -> bool
     ensures { result ≡ columns_pass (list_any (λ column. nat_lt 65535 column.width)) (stmt_tree stmt.now) }
 {

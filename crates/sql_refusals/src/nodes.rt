@@ -1,4 +1,4 @@
-//! How many nodes expressions and conditions have, told up to a limit: a count stops where it passes it.
+//! How many nodes expressions and conditions have, counted up to a limit.
 ghost use Rattle.std.specs.Prelude.{◌≡◌, ◌+◌, ◌<◌, MatchOption, nat_lt};
 ghost use Rattle.std.specs.Option.{option_copied, option_map};
 ghost use Rattle.sql_grammar.specs.Refused.{cond_nodes, expr_nodes, nodes_of_cond};
@@ -42,7 +42,7 @@ pub fn is_large_cond(cond: &Cond) -> bool
     }
 }
 
-/// How many nodes there is room for behind those of an expression; none where it has more.
+/// The room that is left after the nodes of an expression; none where it has more nodes than room.
 fn room_after_expr(expr: &Expr, room: u32) -> Option<u32>
     ensures { MatchOption result (room < expr_nodes (expr_tree expr.now))
         (λ left. left + expr_nodes (expr_tree expr.now) ≡ room) }
@@ -59,7 +59,7 @@ fn room_after_expr(expr: &Expr, room: u32) -> Option<u32>
     }
 }
 
-/// How many nodes there is room for behind those of a condition; none where it has more.
+/// The room that is left after the nodes of a condition; none where it has more nodes than room.
 fn room_after_cond(cond: &Cond, room: u32) -> Option<u32>
     ensures { MatchOption result (room < cond_nodes (cond_tree cond.now))
         (λ left. left + cond_nodes (cond_tree cond.now) ≡ room) }

@@ -8,7 +8,7 @@ ghost use Rattle.sql_tree.specs.Tree.{expr_tree, query_tree, stmt_tree};
 use cell_core::{Cell, Column, Sequence};
 use sql_tree::{Expr, Place, Query, SortKey, Stmt};
 
-/// Whether it is a literal that could not be read: a number of 64 bits is in its range.
+/// Whether it is a literal that could not be read. Each number of 64 bits is in range.
 fn is_unread(cell: &Cell) -> bool
     ensures { result ≡ is_unread_cell cell.now }
 {

@@ -49,7 +49,7 @@ fn upper(alloc: Global, word: &Word) -> Result<Option<Word>, Memory>
     Ok(Some(word_of(alloc, upper.as_str())?))
 }
 
-/// SELECT inside a statement, and DISTINCT but behind its SELECT.
+/// SELECT inside a statement, and DISTINCT anywhere but after a leading SELECT.
 fn keyword_rule(
     alloc: Global,
     tokens: &[Placed],
@@ -65,7 +65,7 @@ fn keyword_rule(
     }
 }
 
-/// Whether a SELECT that leads stands before the index.
+/// Whether a leading SELECT comes directly before the index.
 fn leads_distinct(tokens: &[Placed], i: usize) -> bool
     ensures { result ≡ (refused.is_select (refused.before (tokens_in tokens.now) i) && refused.leads (tokens_in tokens.now) (i - 1)) }
 {

@@ -1,4 +1,4 @@
--- What each command answers, beside whether it is a `generate`.
+-- The answers to commands, which are a `generate` or not.
 use Rattle.std.proofs.Common.{◌≡◌, ℕ, ◌≤◌, List, length, Option, Some, None, ap, sym, subst, arith}
 use Rattle.std.proofs.lemmas.Option.{same_Some}
 use Rattle.run_log.specs.Events.{EventTree}
@@ -16,19 +16,19 @@ use Rattle.sql_shell.specs.Served.{IsRun}
 use Rattle.sql_shell.specs.declared.begun.ThreadedRun.{ThreadedRun}
 use Rattle.sql_shell.specs.declared.inputs.Course.{Course}
 use Rattle.sql_shell.specs.declared.inputs.Course.TheVariants.{InThreads}
-use Rattle.sql_shell.specs.declared.scripts.Script.{Script}
+use Rattle.sql_shell.specs.declared.scripts.CutScript.{CutScript}
 use Rattle.sql_shell.proofs.InputLemmas.{read_not_wrong}
 use Rattle.sql_shell.proofs.PrintLemmas.{run_of}
 use Rattle.sql_shell.proofs.ScriptLemmas.{all_short, as_many}
 
 module _ (bytes : List ℕ → Option (List ℕ)) (text : List ℕ) (log : List EventTree) (work before after : ℕ) where
-  -- a command that isn't one is answered by its run
+  -- a command that is no `generate` is answered by its run
   pub run_answers : (command : Command) → seed_of command ≡ None → IsRun bytes command text log work before after → IsAnswered bytes command text log work before after
   run_answers (Run workers options files) none run = run
   run_answers (Replay options schedule files) none run = run
   run_answers (Generate seed) none run = absurd (cc)
 
-  -- one that is one is answered by the run of the scripts of its number
+  -- a `generate` is answered by the run of the scripts of its number
   pub generated_answers : (command : Command) (seed : ℕ) → seed_of command ≡ Some seed → IsGenerated seed text log work before after → IsAnswered bytes command text log work before after
   generated_answers (Run workers options files) seed some run = absurd (cc)
   generated_answers (Replay options schedule files) seed some run = absurd (cc)
@@ -40,7 +40,7 @@ seed_fits (Run workers options files) seed some fit = absurd (cc)
 seed_fits (Replay options schedule files) seed some fit = absurd (cc)
 seed_fits (Generate number) seed some fit = subst (λ n. n ≤ 1000000) (same_Some number seed some) fit.given.1
 
--- and nothing is told to be wrong before it, as it reads nothing
+-- nothing is known to be wrong before it, as it reads nothing
 pub nothing_wrong : (bytes : List ℕ → Option (List ℕ)) (command : Command) (seed status at : ℕ) → seed_of command ≡ Some seed → IsToldWrong bytes command status at → ⊥
 nothing_wrong bytes (Run workers options files) seed status at some told = absurd (cc)
 nothing_wrong bytes (Replay options schedule files) seed status at some told = absurd (cc)
@@ -48,7 +48,7 @@ nothing_wrong bytes (Generate number) seed status at some told = told
 
 -- ## What is ready to run
 
-pub are_ready : (bytes : List ℕ → Option (List ℕ)) (command : Command) (options : RunOptions) (scripts : List Script) (course : Course)
+pub are_ready : (bytes : List ℕ → Option (List ℕ)) (command : Command) (options : RunOptions) (scripts : List CutScript) (course : Course)
     → IsFit command → options ≡ options_of command → AreCut bytes (files_of command) scripts → AreTurnsOf (length (files_of command)) course → AreReady options scripts course
 are_ready bytes command options scripts course fits same are turns =
     let many = as_many bytes (files_of command) scripts are in
@@ -60,9 +60,9 @@ are_ready bytes command options scripts course fits same are turns =
       turns = subst (λ n. AreTurnsOf n course) (sym many) turns;
     }
 
--- ## A run that is still to go in threads
+-- ## A run that is still to be done in threads
 
--- what goes in threads is a `run`
+-- the command of a run in threads is a `run`
 pub is_to_run : (bytes : List ℕ → Option (List ℕ)) (command : Command) (run : ThreadedRun)
     → IsCourse bytes command (InThreads run.workers) → run.options ≡ options_of command → AreCut bytes (files_of command) run.scripts.items → IsToRun bytes command run
 is_to_run bytes (Run workers options files) run course same are = let so : run.workers ≡ workers = cc in (so, same, are)
@@ -77,7 +77,7 @@ threads_answer bytes text log work before after (Run workers options files) run 
 threads_answer bytes text log work before after (Replay options schedule files) run is served = absurd is
 threads_answer bytes text log work before after (Generate seed) run is served = absurd is
 
--- and nothing is told to be wrong before it
+-- nothing is known to be wrong before it
 pub threads_not_wrong : (bytes : List ℕ → Option (List ℕ)) (command : Command) (run : ThreadedRun) (status at : ℕ) → IsToRun bytes command run → IsToldWrong bytes command status at → ⊥
 threads_not_wrong bytes (Run workers options files) run status at is told = read_not_wrong bytes (Run workers options files) run.scripts.items (InThreads run.workers) status at is.2 (ap InThreads is.0) told
 threads_not_wrong bytes (Replay options schedule files) run status at is told = absurd is

@@ -29,6 +29,6 @@ generated_of seed pool scripts turns text log totals before after is scripts_are
       counted = subst (λ (o : PoolOptions). Counts before after totals.work (run_lost o log)) is counted;
     }
 
--- two things that are pushed behind none
+-- two things that are pushed to an empty list
 pub two_pushed : {X : Type 0} (first second : X) (none one two : List X) → none ≡ [] → one ≡ none ++ first ∷ [] → two ≡ one ++ second ∷ [] → two ≡ first ∷ second ∷ []
 two_pushed {X} first second none one two empty pushed more = more ∙ ap (λ (things : List X). things ++ second ∷ []) (pushed ∙ ap (λ (things : List X). things ++ first ∷ []) empty)

@@ -1,4 +1,4 @@
--- A command's scripts and its schedule, beside what is told of their files.
+-- A command's scripts and its schedule, and the known bytes of their files.
 use Rattle.std.proofs.Common.{◌≡◌, ◌≢◌, ℕ, zero, suc, ◌-◌, ◌<◌, ◌≤◌, ◌⊎◌, inl, inr, List, ◌∷◌, [], Bool, true, false, length, take, Option, Some, None, refl, ap, sym, ◌∙◌, subst, arith}
 use Rattle.std.specs.Prelude.{IfSome, IsUtf8, slice_get, ◌==◌, ◌||◌}
 use Rattle.std.proofs.lemmas.Bool.{ne_eqb}
@@ -17,13 +17,13 @@ use Rattle.sql_shell.specs.declared.inputs.Course.{Course}
 use Rattle.sql_shell.specs.declared.scripts.Failure.{Failure}
 use Rattle.sql_shell.specs.declared.scripts.Failure.TheVariants.{Words, Fault, Memory}
 use Rattle.sql_shell.specs.declared.scripts.Failure.TheVariants as failure
-use Rattle.sql_shell.specs.declared.scripts.Script.{Script}
+use Rattle.sql_shell.specs.declared.scripts.CutScript.{CutScript}
 use Rattle.sql_shell.proofs.ScriptLemmas.{all_fit, are_of, can_be_run, long_text, none_unfit, runnable_not, same_first, told_text}
 use Rattle.sql_shell.proofs.TextLemmas.{no_utf8}
 
 -- ## Statuses
 
--- what content decides and is no bad line, bytes decide
+-- a status by content is one by bytes, unless it is that of a bad line
 pub by_bytes : (status : ℕ) → status ≢ 7 → is_by_content status ≡ true → is_by_bytes status ≡ true
 by_bytes status other by = go (is_by_bytes status) refl
   where
@@ -51,7 +51,7 @@ one_bad sessions text s a status at (BadLine short utf8 line is) (TooLong long' 
 one_bad sessions text s a status at (BadLine short utf8 line is) (NotText short' other' is' place') = absurd (other' utf8)
 one_bad sessions text s a status at (BadLine short utf8 line is) (BadLine short' utf8' line' is') = (is ∙ sym is', (let same : Bad a ≡ Bad at = sym line ∙ line' in cc))
 
--- a text of a file that is too long, or isn't UTF-8: what is told of it, or else any such text
+-- a text of a file that is too long, or isn't UTF-8: its known bytes, or else any such text
 pub long_schedule : (o : Option (List ℕ)) (sessions : ℕ) → IfSome o (λ told. most_bytes < length told) → (text : List ℕ) × IfSome o (λ told. text ≡ told) × IsBadSchedule sessions text 4 0
 long_schedule (Some text) sessions long = (text, refl, TooLong long refl refl)
 long_schedule None sessions long = let some = long_text most_bytes in (some.0, tt, TooLong some.1 refl refl)
@@ -66,7 +66,7 @@ module _ (bytes now : List ℕ → Option (List ℕ)) (same : (other : List ℕ)
   text_before : (name text : List ℕ) → IsText now name text → IsText bytes name text
   text_before name text is = subst (λ o. IfSome o (λ told. text ≡ told)) (same name) is
 
-  -- what is told of the schedule's file stays as the scripts are read
+  -- the known bytes of the schedule's file stay as the scripts are read
   pub course_before : (command : Command) (course : Course) → IsCourse now command course → IsCourse bytes command course
   course_before (Run workers options files) course is = is
   course_before (Replay options schedule files) course (text, turns, is, told, of) = (text, turns, is, text_before schedule text told, of)
@@ -85,8 +85,8 @@ module _ (bytes : List ℕ → Option (List ℕ)) where
   scripts_wrong (Generate seed) status at [] told first = first
   scripts_wrong (Generate seed) status at (text ∷ texts) told first = absurd told
 
-  -- behind scripts that were read it is the schedule
-  pub schedule_wrong : (command : Command) (scripts : List Script) (status at : ℕ) → AreCut bytes (files_of command) scripts → IsWrongSchedule bytes command status at → IsFirstWrong bytes command status at
+  -- after scripts that were read it is the schedule
+  pub schedule_wrong : (command : Command) (scripts : List CutScript) (status at : ℕ) → AreCut bytes (files_of command) scripts → IsWrongSchedule bytes command status at → IsFirstWrong bytes command status at
   schedule_wrong (Run workers options files) scripts status at are wrong = absurd wrong
   schedule_wrong (Replay options schedule files) scripts status at are wrong = let of = are_of bytes files scripts are in (of.texts, of.told, inr (of.runnable, wrong))
   schedule_wrong (Generate seed) scripts status at are wrong = absurd wrong
@@ -98,15 +98,15 @@ module _ (bytes : List ℕ → Option (List ℕ)) where
   scripts_reached (Replay options schedule files) (suc at) within reached = let back : suc at - 1 ≡ at = omega arith in subst (λ n. CanBeRun bytes (take n files)) back reached.1
   scripts_reached (Generate seed) at within reached = absurd (let low = reached.0 in omega (arith, low, within))
 
-  pub schedule_reached : (command : Command) (scripts : List Script) (at : ℕ) → AreCut bytes (files_of command) scripts → IsReplay command → at ≡ 0 → IsReached bytes command at
+  pub schedule_reached : (command : Command) (scripts : List CutScript) (at : ℕ) → AreCut bytes (files_of command) scripts → IsReplay command → at ≡ 0 → IsReached bytes command at
   schedule_reached (Run workers options files) scripts at are replay none = absurd replay
   schedule_reached (Replay options schedule files) scripts at are replay none = subst (IsReached bytes (Replay options schedule files)) (sym none) (can_be_run bytes files scripts are)
   schedule_reached (Generate seed) scripts at are replay none = absurd replay
 
-  -- ## What is told decides
+  -- ## Known bytes decide
 
-  -- what was read isn't told to be wrong
-  pub read_not_wrong : (command : Command) (scripts : List Script) (course : Course) (status at : ℕ) → AreCut bytes (files_of command) scripts → IsCourse bytes command course → IsToldWrong bytes command status at → ⊥
+  -- what was read isn't known to be wrong
+  pub read_not_wrong : (command : Command) (scripts : List CutScript) (course : Course) (status at : ℕ) → AreCut bytes (files_of command) scripts → IsCourse bytes command course → IsToldWrong bytes command status at → ⊥
   read_not_wrong (Run workers options files) scripts course status at are of told = none_unfit bytes 1 files told.0 scripts status at are told.1 told.2
   read_not_wrong (Replay options schedule files) scripts course status at are of (inl told) = none_unfit bytes 1 files told.0 scripts status at are told.1 told.2
   read_not_wrong (Replay options schedule files) scripts course status at are (text, turns, is, said, of) (inr told) =
@@ -114,7 +114,7 @@ module _ (bytes : List ℕ → Option (List ℕ)) where
       (subst (λ (t : List ℕ). IsSchedule (length files) t turns) (told_text (bytes schedule) text told.1.0 told.1.1 said) of) told.1.2
   read_not_wrong (Generate seed) scripts course status at are of told = told
 
-  -- what is wrong first is what is told to be
+  -- what is wrong first is what is known to be
   same_wrong : (command : Command) (s a status at : ℕ) → IsFirstWrong bytes command s a → IsToldWrong bytes command status at → (s ≡ status) × (a ≡ at)
   same_wrong (Run workers options files) s a status at first told = same_first bytes 1 files first.0 told.0 s a status at first.1 told.1 first.2 told.2
   same_wrong (Replay options schedule files) s a status at (texts, are, inl first) (inl told) = same_first bytes 1 files texts told.0 s a status at are told.1 first told.2
@@ -125,7 +125,7 @@ module _ (bytes : List ℕ → Option (List ℕ)) where
       (subst (λ text. IsBadSchedule (length files) text s a) (told_text (bytes schedule) last.1.0 told.1.0 told.1.1 last.1.1) last.1.2) told.1.2
   same_wrong (Generate seed) s a status at first told = absurd first
 
-  -- where all is told to be right, nothing is wrong
+  -- where all is known to be right, nothing is wrong
   right_not_wrong : (command : Command) (s a : ℕ) → IsToldRight bytes command → IsFirstWrong bytes command s a → ⊥
   right_not_wrong (Run workers options files) s a right first = all_fit bytes 1 files first.0 right.0 s a first.1 right.1 right.2 right.3 first.2
   right_not_wrong (Replay options schedule files) s a right (texts, are, inl first) = all_fit bytes 1 files texts right.0.0 s a are right.0.1 right.0.2 right.0.3 first
@@ -140,7 +140,7 @@ module _ (bytes : List ℕ → Option (List ℕ)) where
     abbrev pub Wrong : Failure → Type 0
     Wrong failure = is_by_content (status_of failure) ≡ true → IsFirstWrong bytes command (status_of failure) (at_of failure)
 
-    -- where all is told to be right, from a source without a fault, want of memory alone
+    -- where all is known to be right, from a source without a fault: want of memory alone
     pub complete_of : (failure : Failure) → Wrong failure → (status_of failure ≡ 2 → Rises) → (status_of failure ≢ 1) → IsToldRight bytes command → (Rises → ⊥) → (status_of failure ≡ 0) ⊎ (status_of failure ≡ 5)
     complete_of Words wrong fault words right calm = absurd (words refl)
     complete_of (Fault n) wrong fault words right calm = absurd (calm (fault refl))
@@ -149,7 +149,7 @@ module _ (bytes : List ℕ → Option (List ℕ)) where
     complete_of (failure.BadLine n) wrong fault words right calm = absurd (right_not_wrong command 7 n right (wrong refl))
     complete_of Memory wrong fault words right calm = inr refl
 
-    -- what is told to be wrong is answered, from a source without a fault, unless memory runs out
+    -- what is known to be wrong is answered, from a source without a fault, unless memory runs out
     pub found_of : (failure : Failure) (status at : ℕ) → Wrong failure → (status_of failure ≡ 2 → Rises) → (status_of failure ≢ 1) → IsToldWrong bytes command status at → (Rises → ⊥)
         → ((status_of failure ≡ status) × (at_of failure ≡ at)) ⊎ (status_of failure ≡ 5)
     found_of Words status at wrong fault words told calm = absurd (words refl)

@@ -1,11 +1,11 @@
--- Logs with short numbers, and what the numbers of a few acts are.
+-- Logs with short numbers, and the numbers of a few acts.
 use Rattle.std.proofs.Common.{◌≡◌, ℕ, List, [], ◌∷◌, None, codes, refl}
 use Rattle.std.specs.Fmt.{digits}
 use Rattle.std.specs.List.{AllByRecursion}
 use Rattle.pool_policy.specs.declared.options.Admitted.TheVariants.{NoRoom, Taken}
 use Rattle.lineage_key.specs.declared.key.Key.{Key}
 use Rattle.run_log.specs.declared.event.Event.{Event}
-use Rattle.run_log.specs.declared.event.Looked.TheVariants.{Miss, Within}
+use Rattle.run_log.specs.declared.event.FoundLog.TheVariants.{Miss, Within}
 use Rattle.run_log.specs.Events.{ActTree, Admits, EventTree, Looks, Writes, event_tree, log_tree}
 use Rattle.answer_text.specs.Layout.{act_text}
 use Rattle.sql_shell.specs.Numbers.{AreBelow, pool_numbers}

@@ -6,7 +6,7 @@ use Rattle.std.specs.declared.alloc.Global.{Global}
 use Rattle.std.proofs.Math.Seq.{drop-cons}
 use Rattle.std.specs.List.{AllByRecursion, enumerate_from, zip}
 use Rattle.std.proofs.lemmas.Option.{same_Some}
-use Rattle.sql_semantics.specs.declared.refusal.Refusal.{Refusal}
+use Rattle.sql_definitions.specs.declared.refusal.Refusal.{Refusal}
 use Rattle.sql_tree.specs.Tree.{StmtTree}
 use Rattle.run_log.specs.declared.event.Totals.{Totals}
 use Rattle.run_log.specs.Events.{EventTree}
@@ -27,7 +27,7 @@ use Rattle.sql_shell.specs.Scripts.{AreCut, names_of}
 use Rattle.read_laws.specs.Readings.{AreAllRead}
 use Rattle.sql_shell.specs.Served.{IsMade, IsRun, IsServed, pool_of, texts_under}
 use Rattle.sql_shell.specs.declared.inputs.Course.{Course}
-use Rattle.sql_shell.specs.declared.scripts.Script.{Script}
+use Rattle.sql_shell.specs.declared.scripts.CutScript.{CutScript}
 use Rattle.sql_shell.proofs.ScriptLemmas.{are_of}
 
 -- the sessions from a number on, of which each event is that of a statement, and what is printed of them
@@ -116,7 +116,7 @@ served_of options names scripts text texts log totals same sessions are is print
     }
 
 -- the run of scripts that were read is that of the command
-pub run_of : (bytes : List ℕ → Option (List ℕ)) (command : Command) (options : RunOptions) (scripts : List Script) (course : Course) (text : List ℕ) (log : List EventTree) (work before after : ℕ)
+pub run_of : (bytes : List ℕ → Option (List ℕ)) (command : Command) (options : RunOptions) (scripts : List CutScript) (course : Course) (text : List ℕ) (log : List EventTree) (work before after : ℕ)
     → AreCut bytes (files_of command) scripts → IsCourse bytes command course → options ≡ options_of command → IsServedBy options scripts course text log work before after
     → IsRun bytes command text log work before after
 run_of bytes command options scripts course text log work before after are is same (served, made) =
@@ -139,7 +139,7 @@ run_of bytes command options scripts course text log work before after are is sa
 abbrev pub all_items : List (Vec ℕ Global) → List (List ℕ)
 all_items texts = map (λ (t : Vec ℕ Global). t.items) texts
 
--- what is written so far, and what the rest gives
+-- the text so far, and that of the rest
 abbrev pub IsWritten : List (List ℕ) → List (Vec ℕ Global) → ℕ → List ℕ → Type 0
 IsWritten names texts i out = out ++ texts_under (i + 1) (drop i names) (all_items (drop i texts)) ≡ texts_under 1 names (all_items texts)
 

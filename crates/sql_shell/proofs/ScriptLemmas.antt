@@ -1,4 +1,4 @@
--- Scripts that were read, beside what is told of their files.
+-- Scripts that were read, and the known bytes of their files.
 use Rattle.std.proofs.Common.{◌≡◌, ℕ, zero, suc, ◌+◌, ◌<◌, ◌≤◌, ◌⊎◌, inl, inr, List, [], ◌∷◌, ◌++◌, true, length, map, take, drop, slice_index_or, Option, Some, None, refl, ap, sym, ◌∙◌, subst, arith}
 use Rattle.std.specs.Prelude.{IfSome, replicate, slice_get}
 use Rattle.std.specs.List.{AllByRecursion}
@@ -11,7 +11,7 @@ use Rattle.sql_shell.specs.Failures.{status_of, at_of, is_by_bytes}
 use Rattle.sql_shell.specs.declared.scripts.Failure.{Failure}
 use Rattle.sql_shell.specs.declared.scripts.Failure.TheVariants.{Words, Fault, BadLine, Memory}
 use Rattle.sql_shell.specs.declared.scripts.Failure.TheVariants as failure
-use Rattle.sql_shell.specs.declared.scripts.Script.{Script}
+use Rattle.sql_shell.specs.declared.scripts.CutScript.{CutScript}
 use Rattle.sql_shell.proofs.TextLemmas.{no_utf8}
 
 -- ## Options
@@ -28,27 +28,27 @@ name_at [] i name inside is = absurd (omega (arith, inside))
 name_at (n ∷ ns) zero name inside is = ap Some (sym is)
 name_at (n ∷ ns) (suc i) name inside is = name_at ns i name (omega (arith, inside)) is
 
--- ## What is told
+-- ## Known bytes
 
-pub cut_more : (bytes : List ℕ → Option (List ℕ)) (names : List (List ℕ)) (scripts : List Script) (name : List ℕ) (script : Script) → AreCut bytes names scripts → IsCut bytes name script → AreCut bytes (names ++ name ∷ []) (scripts ++ script ∷ [])
+pub cut_more : (bytes : List ℕ → Option (List ℕ)) (names : List (List ℕ)) (scripts : List CutScript) (name : List ℕ) (script : CutScript) → AreCut bytes names scripts → IsCut bytes name script → AreCut bytes (names ++ name ∷ []) (scripts ++ script ∷ [])
 cut_more bytes [] [] name script are is = (is, tt)
 cut_more bytes [] (s ∷ ss) name script are is = absurd are
 cut_more bytes (n ∷ ns) [] name script are is = absurd are
 cut_more bytes (n ∷ ns) (s ∷ ss) name script are is = (are.0, cut_more bytes ns ss name script are.1 is)
 
--- a script of a text that is what is told of its file
-pub is_cut : (bytes : List ℕ → Option (List ℕ)) (name : List ℕ) (script : Script) (text : List ℕ) → IfSome (bytes name) (λ told. text ≡ told) → (script.name ≡ name) × IsRunnable text × (script.pieces ≡ pieces_of text) → IsCut bytes name script
+-- a script of a text that has the known bytes of its file
+pub is_cut : (bytes : List ℕ → Option (List ℕ)) (name : List ℕ) (script : CutScript) (text : List ℕ) → IfSome (bytes name) (λ told. text ≡ told) → (script.name ≡ name) × IsRunnable text × (script.pieces ≡ pieces_of text) → IsCut bytes name script
 is_cut bytes name script text told is = record { text = text; told = told; runnable = is.1; named = is.0; cut = is.2 }
 
 -- the scripts are those of the files
-pub record AreOf (bytes : List ℕ → Option (List ℕ)) (names : List (List ℕ)) (scripts : List Script) : Type 0 where
+pub record AreOf (bytes : List ℕ → Option (List ℕ)) (names : List (List ℕ)) (scripts : List CutScript) : Type 0 where
   pub texts : List (List ℕ)
   pub told : AreTexts bytes names texts
   pub runnable : AreRunnable texts
   pub named : names_of scripts ≡ names
   pub cut : pieces_in scripts ≡ map pieces_of texts
 
-pub are_of : (bytes : List ℕ → Option (List ℕ)) (names : List (List ℕ)) (scripts : List Script) → AreCut bytes names scripts → AreOf bytes names scripts
+pub are_of : (bytes : List ℕ → Option (List ℕ)) (names : List (List ℕ)) (scripts : List CutScript) → AreCut bytes names scripts → AreOf bytes names scripts
 are_of bytes [] [] are = record { texts = []; told = tt; runnable = tt; named = refl; cut = refl }
 are_of bytes [] (s ∷ ss) are = absurd are
 are_of bytes (n ∷ ns) [] are = absurd are
@@ -62,8 +62,8 @@ are_of bytes (n ∷ ns) (s ∷ ss) are =
       cut = ap (λ x. x ∷ pieces_in ss) are.0.cut ∙ ap (λ xs. pieces_of are.0.text ∷ xs) rest.cut;
     }
 
--- a file that was read can be run, if bytes are told of it
-pub can_be_run : (bytes : List ℕ → Option (List ℕ)) (names : List (List ℕ)) (scripts : List Script) → AreCut bytes names scripts → CanBeRun bytes names
+-- a file that was read can be run, if its bytes are known
+pub can_be_run : (bytes : List ℕ → Option (List ℕ)) (names : List (List ℕ)) (scripts : List CutScript) → AreCut bytes names scripts → CanBeRun bytes names
 can_be_run bytes [] [] are = tt
 can_be_run bytes [] (s ∷ ss) are = absurd are
 can_be_run bytes (n ∷ ns) [] are = absurd are
@@ -87,7 +87,7 @@ texts_for bytes (name ∷ names) =
 
 -- ## The first script that isn't run
 
--- a text of a file that isn't run: what is told of it, or else any such text
+-- a text of a file that isn't run: its known bytes, or else any such text
 record UnfitText (o : Option (List ℕ)) (status : ℕ) : Type 0 where
   text : List ℕ
   told : IfSome o (λ told. text ≡ told)
@@ -131,8 +131,8 @@ pub record FirstUnfit (bytes : List ℕ → Option (List ℕ)) (names : List (Li
   pub told : AreTexts bytes names texts
   pub first : IsFirstUnfit number texts status at
 
--- behind scripts that were read, one that can't be run is the first
-unfit_at : (bytes : List ℕ → Option (List ℕ)) (names : List (List ℕ)) (scripts : List Script) (name : List ℕ) (more : List (List ℕ)) (number status at : ℕ)
+-- after scripts that were read, one that can't be run is the first
+unfit_at : (bytes : List ℕ → Option (List ℕ)) (names : List (List ℕ)) (scripts : List CutScript) (name : List ℕ) (more : List (List ℕ)) (number status at : ℕ)
     → AreCut bytes names scripts → UnfitText (bytes name) status → at ≡ number + length names
     → FirstUnfit bytes (names ++ name ∷ more) number status at
 unfit_at bytes [] [] name more number status at are unfit is =
@@ -145,10 +145,10 @@ unfit_at bytes (n ∷ ns) (s ∷ ss) name more number status at are unfit is =
     let rest = unfit_at bytes ns ss name more (number + 1) status at are.1 unfit (is ∙ on) in
     record { texts = are.0.text ∷ rest.texts; told = (are.0.told, rest.told); first = inr (are.0.runnable, rest.first) }
 
--- the same at a place among the names, where what is told stays
+-- the same at a place among the names, where the known bytes stay
 module _ (bytes now : List ℕ → Option (List ℕ)) (same : (other : List ℕ) → now other ≡ bytes other)
     (names : List (List ℕ)) (i : ℕ) (name : List ℕ) (inside : i < length names) (is : name ≡ slice_index_or names i name)
-    (scripts : List Script) (are : AreCut bytes (take i names) scripts) where
+    (scripts : List CutScript) (are : AreCut bytes (take i names) scripts) where
   split : take i names ++ name ∷ drop (suc i) names ≡ names
   split = ap (λ n. take i names ++ n ∷ drop (suc i) names) is ∙ ap (λ d. take i names ++ d) (sym (drop-cons names i name inside)) ∙ take-append-drop i names
 
@@ -161,7 +161,7 @@ module _ (bytes now : List ℕ → Option (List ℕ)) (same : (other : List ℕ)
       subst (λ ns. FirstUnfit bytes ns 1 (status_of failure) (at_of failure)) split
       (unfit_at bytes (take i names) scripts name (drop (suc i) names) 1 (status_of failure) (at_of failure) are own (at ∙ counted))
 
-  pub cut_next : (script : Script) → IsCut now name script → AreCut bytes (take (i + 1) names) (scripts ++ script ∷ [])
+  pub cut_next : (script : CutScript) → IsCut now name script → AreCut bytes (take (i + 1) names) (scripts ++ script ∷ [])
   cut_next script cut =
       let Q : Option (List ℕ) → Type 0 = λ b. IfSome b (λ told. cut.text ≡ told) in
       let P : List (List ℕ) → Type 0 = λ ns. AreCut bytes ns (scripts ++ script ∷ []) in
@@ -186,11 +186,11 @@ one_way text a b (TooMany short good many is) (TooLong long' is') = is ∙ sym i
 one_way text a b (TooMany short good many is) (NotText short' bad' is') = absurd (bad' good)
 one_way text a b (TooMany short good many is) (TooMany short' good' many' is') = is ∙ sym is'
 
--- the text of a file of which bytes are told
+-- the text of a file whose bytes are known
 pub told_text : (o : Option (List ℕ)) (text told : List ℕ) → o ≡ Some told → IfSome o (λ t. text ≡ t) → text ≡ told
 told_text o text told e h = some_of o (λ t. text ≡ t) told e h
 
--- told texts that can all be run have no first that can't
+-- known texts that can all be run have no first that can't
 pub all_fit : (bytes : List ℕ → Option (List ℕ)) (number : ℕ) (names texts told : List (List ℕ)) (status at : ℕ)
     → AreTexts bytes names texts → AreToldFirst bytes names told → length told ≡ length names → AreRunnable told → IsFirstUnfit number texts status at → ⊥
 all_fit bytes number [] [] told status at are first long fit unfit = unfit
@@ -202,7 +202,7 @@ all_fit bytes number (n ∷ ns) (t ∷ ts) (u ∷ us) status at are first long f
 all_fit bytes number (n ∷ ns) (t ∷ ts) (u ∷ us) status at are first long fit (inr unfit) =
     all_fit bytes (number + 1) ns ts us status at are.1 first.1 (omega (arith, long)) fit.1 unfit.1
 
--- the first told text that can't be run is the first of all
+-- the first known text that can't be run is the first of all
 pub same_first : (bytes : List ℕ → Option (List ℕ)) (number : ℕ) (names texts told : List (List ℕ)) (status at s a : ℕ)
     → AreTexts bytes names texts → AreToldFirst bytes names told → IsFirstUnfit number texts status at → IsFirstUnfit number told s a → (status ≡ s) × (at ≡ a)
 same_first bytes number [] [] told status at s a are first unfit found = absurd unfit
@@ -220,7 +220,7 @@ same_first bytes number (n ∷ ns) (t ∷ ts) (u ∷ us) status at s a are first
     same_first bytes (number + 1) ns ts us status at s a are.1 first.1 unfit.1 found.1
 
 -- files that were all read have no first that can't be run
-pub none_unfit : (bytes : List ℕ → Option (List ℕ)) (number : ℕ) (names told : List (List ℕ)) (scripts : List Script) (s a : ℕ)
+pub none_unfit : (bytes : List ℕ → Option (List ℕ)) (number : ℕ) (names told : List (List ℕ)) (scripts : List CutScript) (s a : ℕ)
     → AreCut bytes names scripts → AreToldFirst bytes names told → IsFirstUnfit number told s a → ⊥
 none_unfit bytes number names [] scripts s a are first found = found
 none_unfit bytes number [] (u ∷ us) scripts s a are first found = first
@@ -230,20 +230,20 @@ none_unfit bytes number (n ∷ ns) (u ∷ us) (p ∷ ps) s a are first (inl foun
 none_unfit bytes number (n ∷ ns) (u ∷ us) (p ∷ ps) s a are first (inr found) = none_unfit bytes (number + 1) ns us ps s a are.1 first.1 found.1
 
 -- no script has too many statements
-pub all_short : (bytes : List ℕ → Option (List ℕ)) (names : List (List ℕ)) (scripts : List Script) → AreCut bytes names scripts → AllByRecursion (λ (pieces : List (List ℕ)). length pieces ≤ 256) (pieces_in scripts)
+pub all_short : (bytes : List ℕ → Option (List ℕ)) (names : List (List ℕ)) (scripts : List CutScript) → AreCut bytes names scripts → AllByRecursion (λ (pieces : List (List ℕ)). length pieces ≤ 256) (pieces_in scripts)
 all_short bytes [] [] are = tt
 all_short bytes [] (s ∷ ss) are = absurd are
 all_short bytes (n ∷ ns) [] are = absurd are
 all_short bytes (n ∷ ns) (s ∷ ss) are = (omega (arith, ap length are.0.cut, are.0.runnable.few), all_short bytes ns ss are.1)
 
 -- as many scripts as files
-pub as_many : (bytes : List ℕ → Option (List ℕ)) (names : List (List ℕ)) (scripts : List Script) → AreCut bytes names scripts → length scripts ≡ length names
+pub as_many : (bytes : List ℕ → Option (List ℕ)) (names : List (List ℕ)) (scripts : List CutScript) → AreCut bytes names scripts → length scripts ≡ length names
 as_many bytes [] [] are = refl
 as_many bytes [] (s ∷ ss) are = absurd are
 as_many bytes (n ∷ ns) [] are = absurd are
 as_many bytes (n ∷ ns) (s ∷ ss) are = omega (arith, as_many bytes ns ss are.1)
 
--- texts that can be run, beside told ones of which one can't
+-- texts that can be run, and known ones of which one can't
 pub runnable_not : (bytes : List ℕ → Option (List ℕ)) (number : ℕ) (names texts told : List (List ℕ)) (s a : ℕ)
     → AreTexts bytes names texts → AreRunnable texts → AreToldFirst bytes names told → IsFirstUnfit number told s a → ⊥
 runnable_not bytes number names texts [] s a are fit first found = found

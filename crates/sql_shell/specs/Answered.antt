@@ -1,4 +1,4 @@
--- What each command answers.
+-- The answers to commands.
 use Rattle.std.specs.Prelude.{ℕ, List, Option, Some, None}
 use Rattle.run_log.specs.Events.{EventTree}
 use Rattle.command_line.specs.declared.command.Command.{Command}
@@ -6,13 +6,13 @@ use Rattle.command_line.specs.declared.command.Command.TheVariants.{Run, Replay,
 use Rattle.sql_shell.specs.Generated.{IsGenerated}
 use Rattle.sql_shell.specs.Served.{IsRun}
 
--- a command is answered by this text, with this log: a run or a replay by what is printed of its scripts, and `generate` by what is written of those of its number; while the counter goes from here to there
+-- a command is answered by this text, with this log and this counter before and after: a run or a replay by what is printed of its scripts, and `generate` by what is written of the scripts of its number
 abbrev pub IsAnswered : (List ℕ → Option (List ℕ)) → Command → List ℕ → List EventTree → ℕ → ℕ → ℕ → Type 0
 IsAnswered bytes (Run workers options files) text log work before after = IsRun bytes (Run workers options files) text log work before after
 IsAnswered bytes (Replay options schedule files) text log work before after = IsRun bytes (Replay options schedule files) text log work before after
 IsAnswered bytes (Generate seed) text log work before after = IsGenerated seed text log work before after
 
--- ## What the code asks, which no public clause names
+-- ## For the code alone: no public clause names these
 
 -- the number of a `generate`
 abbrev pub seed_of : Command → Option ℕ

@@ -20,10 +20,10 @@ at_of (NotText number) = number
 at_of (BadLine number) = number
 at_of Memory = 0
 
--- a status that a script's bytes decide
+-- a status by the bytes of a script
 abbrev pub is_by_bytes : ℕ → Bool
 is_by_bytes status = (status == 4) || (status == 6)
 
--- a status that the bytes of a script or of the schedule decide
+-- a status by the bytes of a script or of the schedule
 abbrev pub is_by_content : ℕ → Bool
 is_by_content status = is_by_bytes status || (status == 7)

@@ -1,4 +1,4 @@
--- What `generate` answers: from a number to a log and what is written.
+-- The answer of `generate`: from a number to a log and the text that is written.
 use Rattle.std.specs.Prelude.{◌≡◌, ℕ, List, [], ◌∷◌, ◌++◌, codes, decimal}
 use Rattle.pool_policy.specs.declared.options.PoolOptions.{PoolOptions}
 use Rattle.run_log.specs.declared.event.Totals.{Totals}
@@ -17,11 +17,11 @@ use Rattle.sql_shell.specs.Served.{pool_of}
 abbrev pub default_pool : PoolOptions
 default_pool = pool_of default_options
 
--- what is written: the number, and the pool's totals
+-- the text that is written: the number, and the pool's totals
 abbrev pub generated_text : ℕ → Totals → List ℕ
 generated_text seed totals = codes "generated " ++ decimal seed ++ codes "\n" ++ totals_text totals
 
--- the two sample scripts of a number, a session each, one behind the other and with the default options, have this log, and this is what is written of it: the totals are those of the log, after each event of which the pool is sound, and the numbers of looks, admissions and totals are short; while the counter goes from here to there
+-- the two sample scripts of a number, a session each, one after the other and with the default options, have this log and this text: the totals are those of the log, the pool is sound after each of its events, and the numbers of looks, admissions and totals are short; the counter has these values before and after
 pub record IsGenerated (seed : ℕ) (text : List ℕ) (log : List EventTree) (work before after : ℕ) : Type 0 where
   pub scheduled : IsScheduled default_pool (changes seed ∷ queries seed ∷ []) [] log
   pub written_is : text ≡ generated_text seed (run_totals default_pool log)

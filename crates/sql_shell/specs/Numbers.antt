@@ -3,19 +3,19 @@ use Rattle.std.specs.Prelude.{ℕ, ◌<◌, ◌^◌, List, [], ◌∷◌}
 use Rattle.std.specs.List.{AllByRecursion}
 use Rattle.pool_policy.specs.declared.options.Admitted.{Admitted}
 use Rattle.pool_policy.specs.declared.options.Admitted.TheVariants as admitted
-use Rattle.run_log.specs.declared.event.Looked.{Looked}
-use Rattle.run_log.specs.declared.event.Looked.TheVariants as looked
+use Rattle.run_log.specs.declared.event.FoundLog.{FoundLog}
+use Rattle.run_log.specs.declared.event.FoundLog.TheVariants as looked
 use Rattle.run_log.specs.declared.event.Totals.{Totals}
 use Rattle.run_log.specs.Events.{ActTree, Looks, Admits, EventTree}
 
--- what a look found, as numbers
-abbrev pub looked_numbers : Looked → List ℕ
+-- the numbers of a look's answer
+abbrev pub looked_numbers : FoundLog → List ℕ
 looked_numbers (looked.Exact id) = id ∷ []
 looked_numbers (looked.Within id) = id ∷ []
 looked_numbers (looked.Across pieces) = pieces ∷ []
 looked_numbers looked.Miss = []
 
--- what an admission was answered, as numbers
+-- the numbers of an admission's answer
 abbrev pub admitted_numbers : Admitted → List ℕ
 admitted_numbers (admitted.Taken id bytes gone) = id ∷ bytes ∷ gone ∷ []
 admitted_numbers (admitted.There id) = id ∷ []

@@ -1,6 +1,6 @@
--- What the program answers: from words, told files and a sink to a status, a log and what is written.
+-- The outcome of the program: from words, files and a sink to a status, a log and the text that is written.
 use Rattle.std.specs.Prelude.{◌≡◌, ℕ, ◌+◌, List, [], ◌∷◌, ◌++◌, map, Bool, nat_le, Option, Result}
-use Rattle.sql_semantics.specs.declared.refusal.Refusal.{Refusal}
+use Rattle.sql_definitions.specs.declared.refusal.Refusal.{Refusal}
 use Rattle.sql_tree.specs.Pieces.{pieces_of}
 use Rattle.sql_tree.specs.Tree.{StmtTree}
 use Rattle.pool_policy.specs.declared.options.PoolOptions.{PoolOptions}
@@ -33,7 +33,7 @@ most_entries = 1024
 abbrev pub pool_of : RunOptions → PoolOptions
 pool_of options = record { places = most_entries; budget = options.budget; evict = options.evict; weights = options.weights; admit = options.admit; credits = options.credits }
 
--- a run of scripts with these names and statements has this log, and this is what is printed of it: the log has each statement once and in its session's order, each reply is what its statement means over the tables as the commits before its place leave them, the history is the commits, and the pool, its totals and each event are those of this log; after each event the pool is sound, so that what is pooled is what its lineage evaluates to; and the numbers that are printed of the pool are short
+-- a run of scripts with these names and statements has this log and this printed text: the log has each statement once and in its session's order; each reply is the meaning of its statement over the tables as the commits before its place leave them; the history is the commits; the pool, its totals and each event are those of this log; after each event the pool is sound, so each pooled result is the value of its lineage; the numbers that are printed of the pool are short
 pub record IsServed (options : RunOptions) (names : List (List ℕ)) (scripts : List (List (List ℕ))) (text : List ℕ) (log : List EventTree) (work : ℕ) : Type 0 where
   pub readings : List (List (Result StmtTree Refusal))
   pub read : AreAllRead scripts readings
@@ -43,12 +43,12 @@ pub record IsServed (options : RunOptions) (names : List (List ℕ)) (scripts : 
   pub sound : IsSoundAlong (pool_of options) log
   pub short : AreShort log (run_totals (pool_of options) log)
 
--- how such a log comes about, event by event: in threads by some turns, until all sessions are done, each of which goes through its plans in their order, or, with more than one worker, as results are ready; else by given turns, while the counter goes from here to there
+-- how such a log is made, event by event. In threads: by some turns, until all sessions are done; each goes through its plans in their order, or, with more than one worker, as results are ready. Otherwise: by given turns, with this counter before and after
 abbrev pub IsMade : PoolOptions → List (List (List ℕ)) → Course → List EventTree → ℕ → ℕ → Type 0
 IsMade pool scripts (InThreads workers) log before after = IsRunOut (order_for workers) pool scripts log
 IsMade pool scripts (ByTurns turns) log before after = IsScheduled pool scripts turns log × Counts before after (run_work pool log) (run_lost pool log)
 
--- a command's run: each of its files has a text, which is what is told of it where it is told; these texts can be run, and what is printed, logged and counted is theirs
+-- a command's run: each of its files has a text, its bytes where they are known; these texts can be run, and what is printed, logged and counted is theirs
 pub record IsRun (bytes : List ℕ → Option (List ℕ)) (command : Command) (text : List ℕ) (log : List EventTree) (work before after : ℕ) : Type 0 where
   pub scripts : List (List ℕ)
   pub told : AreTexts bytes (files_of command) scripts
@@ -62,7 +62,7 @@ pub record IsRun (bytes : List ℕ → Option (List ℕ)) (command : Command) (t
 abbrev pub is_status : ℕ → Bool
 is_status s = nat_le s 7
 
--- ## What the code keeps, which no public clause names
+-- ## For the code alone: no public clause names this
 
 -- the texts of sessions under these names, from a number on
 abbrev pub texts_under : ℕ → List (List ℕ) → List (List ℕ) → List ℕ

@@ -1,4 +1,4 @@
-//! All of a command that needs no thread.
+//! The part of a command that needs no thread.
 ghost use Rattle.std.specs.Prelude.{◌≡◌, ◌≢◌, ◌≤◌, ◌⊎◌, ℕ, List, [], true, length, IfSome, None, Some};
 ghost use Rattle.std.specs.Io.KnownBytes.{Appends};
 ghost use Rattle.causes.specs.Faults.{AppendsPrefix, Rose};
@@ -15,7 +15,7 @@ ghost use Rattle.sql_shell.specs.Served.{is_status};
 use crate::generate::serve_generated;
 use crate::inputs::{Course, Inputs, options_of, read_inputs, seed_of};
 use crate::runner::TurnRunner;
-use crate::scripts::{Failure, Script};
+use crate::scripts::{CutScript, Failure};
 use crate::served::{Served, failed, serve};
 use bat_core::Operate;
 use causes::{Scripts, Sink};
@@ -24,12 +24,12 @@ use command_line::{RunOptions, command_of};
 use std::alloc::Global;
 use std::sync::ledger::Ledger;
 
-/// How far a command comes without a thread.
+/// The outcome of a command's part without a thread.
 #[derive(Drop)]
-pub enum Begun {
+pub enum ByTurns {
     /// It is answered.
     Answered(Served),
-    /// It is a `run`, whose scripts are read and whose sessions are still to go, in threads.
+    /// It is a `run`: its scripts are read, and its sessions are still to be run, in threads.
     ToRun(ThreadedRun),
 }
 
@@ -38,16 +38,16 @@ pub enum Begun {
 pub struct ThreadedRun {
     /// Its options.
     pub(crate) options: RunOptions,
-    /// How many workers each query has.
+    /// The number of workers of each query.
     pub(crate) workers: u32,
     /// The scripts of its files.
-    pub(crate) scripts: Vec<Script>,
+    pub(crate) scripts: Vec<CutScript>,
 }
 
-/// Does all that `top` does but a run in threads: it answers every `replay`, every `generate` and every
-/// command that ends before its first statement, by the clauses that `top` has, and gives a `run` back once
-/// its scripts are read. It returns, if the source, the sink and the kernel that it is handed do: it has no
-/// leave of its own to wait.
+/// Does all that `top` does but a run in threads. It answers every `replay`, every `generate` and
+/// every command that ends before its first statement, by the clauses of `top`. A `run` is handed
+/// back once its scripts are read. The call returns if its source, its sink and its kernel do: it
+/// never waits for others.
 pub fn top_by_turns<S: Scripts, K: Sink, E: Operate + Sync, L: Ledger>(
     alloc: Global,
     words: &[Word],
@@ -55,8 +55,8 @@ pub fn top_by_turns<S: Scripts, K: Sink, E: Operate + Sync, L: Ledger>(
     out: &mut K,
     kernel: &E,
     steps: &mut Steps<L>,
-) -> Begun
-    // What is answered is answered as `top` does it.
+) -> ByTurns
+    // An answer is that of `top`.
     ensures served { IfAnswered result (λ answer. answer.status ≡ 0 → IfSome (command_named words.now) (λ command.
         (text : List ℕ) × Appends (K.contents out.old) (K.contents out.new) text × IsAnswered (S.bytes_of scripts.old) command text (log_tree answer.log) answer.work steps.old steps.new)) }
     ensures prefix { IfAnswered result (λ answer. answer.status ≡ 3 → IfSome (command_named words.now) (λ command.
@@ -83,7 +83,7 @@ pub fn top_by_turns<S: Scripts, K: Sink, E: Operate + Sync, L: Ledger>(
     ensures silent { IfAnswered result (λ answer. (answer.status ≢ 0) → (answer.status ≢ 3) → (K.contents out.new ≡ K.contents out.old) × (answer.log ≡ []) × (answer.work ≡ 0)) }
     ensures idle { IfAnswered result (λ answer. (answer.status ≢ 0) → (answer.status ≢ 3) → (answer.status ≢ 5) → steps.new ≡ steps.old) }
 
-    // What is still to run is the `run` that the words name, and nothing of it is done but the reading.
+    // A returned `run` is the one that the words name, and of it only the reading is done.
     ensures to_run { IfToRun result (λ run. (command : CommandSeen) × (command_named words.now ≡ Some command) × IsToRun (S.bytes_of scripts.old) command run) }
     ensures ready { IfToRun result (λ run. AreReady run.options run.scripts.items (InThreads run.workers)) }
     ensures unfailed { IfToRun result (λ run. S.faults scripts.new ≡ S.faults scripts.old) }
@@ -92,11 +92,11 @@ pub fn top_by_turns<S: Scripts, K: Sink, E: Operate + Sync, L: Ledger>(
 {
     let command = match command_of(alloc, words) {
         Ok(Some(command)) => command,
-        Ok(None) => return Begun::Answered(failed(alloc, Failure::Words)),
-        Err(Memory) => return Begun::Answered(failed(alloc, Failure::Memory)),
+        Ok(None) => return ByTurns::Answered(failed(alloc, Failure::Words)),
+        Err(Memory) => return ByTurns::Answered(failed(alloc, Failure::Memory)),
     };
     match seed_of(&command) {
-        Some(seed) => Begun::Answered(serve_generated(alloc, seed, out, kernel, steps)),
+        Some(seed) => ByTurns::Answered(serve_generated(alloc, seed, out, kernel, steps)),
         None => match read_inputs(alloc, scripts, &command) {
             Ok(inputs) => {
                 let options = options_of(alloc, command);
@@ -107,16 +107,16 @@ pub fn top_by_turns<S: Scripts, K: Sink, E: Operate + Sync, L: Ledger>(
                 match course {
                     Course::ByTurns(turns) => {
                         let runner = TurnRunner { turns };
-                        Begun::Answered(serve(&runner, alloc, options, read, out, kernel, steps))
+                        ByTurns::Answered(serve(&runner, alloc, options, read, out, kernel, steps))
                     }
-                    Course::InThreads(workers) => Begun::ToRun(ThreadedRun {
+                    Course::InThreads(workers) => ByTurns::ToRun(ThreadedRun {
                         options,
                         workers,
                         scripts: read,
                     }),
                 }
             }
-            Err(failure) => Begun::Answered(failed(alloc, failure)),
+            Err(failure) => ByTurns::Answered(failed(alloc, failure)),
         },
     }
 }

@@ -1,4 +1,4 @@
-//! The run of the sample scripts of a number, and what is written of it.
+//! The run of the sample scripts of a number, and the text that is written of it.
 ghost use Rattle.std.specs.Prelude.{◌≡◌, ◌≤◌, ◌⊎◌, ℕ, List, [], IfOk};
 ghost use Rattle.std.specs.Io.KnownBytes.{Appends};
 ghost use Rattle.causes.specs.Faults.{AppendsPrefix, Rose};
@@ -50,7 +50,8 @@ pub(crate) fn serve_generated<K: Sink, E: Operate, L: Ledger>(
     }
 }
 
-/// Runs the sample scripts of a number: their log, what is written of it, and their work.
+/// Runs the sample scripts of a number. Returns their log, the text that is written of it, and
+/// their work.
 fn generate<E: Operate, L: Ledger>(
     alloc: Global,
     seed: u64,
@@ -71,7 +72,7 @@ fn generate<E: Operate, L: Ledger>(
     replay_samples(alloc, seed, &scorer, kernel, steps)
 }
 
-/// The same with a scorer that is lent.
+/// The same, with this scorer.
 fn replay_samples<E: Operate, L: Ledger>(
     alloc: Global,
     seed: u64,
@@ -107,7 +108,7 @@ fn default_pool(alloc: Global) -> PoolOptions
     pool_for(default_options(alloc))
 }
 
-/// What is written: the number, and the pool's totals.
+/// The text that is written: the number, and the pool's totals.
 fn generated_text(alloc: Global, seed: u64, totals: &Totals) -> Result<Vec<u8>, Memory>
     ensures { IfOk result (λ text. text.items ≡ told.generated_text seed totals.now) }
 {

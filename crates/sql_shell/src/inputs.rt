@@ -1,4 +1,4 @@
-//! What a command reads before its first statement.
+//! The scripts and the schedule, which a command reads before its first statement.
 ghost use Rattle.std.specs.Prelude.{◌≡◌, ◌≢◌, ◌≤◌, [], ℕ, List, true, length, IfOk, IfErr, IsUtf8, OnOk};
 ghost use Rattle.std.specs.List.{AllByRecursion};
 ghost use Rattle.causes.specs.Faults.{Rose};
@@ -8,17 +8,17 @@ ghost use Rattle.sql_shell.specs.Inputs.{AreTurnsOf, HasBadSchedule, IsBadSchedu
 ghost use Rattle.command_line.specs.Command.{files_of as files_in, options_of as options_in};
 ghost use Rattle.sql_shell.specs.Scripts.{AreCut};
 
-use crate::scripts::{Failure, Script, read_scripts};
+use crate::scripts::{CutScript, Failure, read_scripts};
 use causes::{ReadError, Scripts, read_all};
 use cell_core::{Sequence, Word};
 use command_line::{Command, RunOptions, default_options};
 use std::alloc::Global;
 use turn_lines::{ScheduleError, turns_of};
 
-/// How sessions go.
+/// How sessions are run.
 #[derive(Drop)]
 pub enum Course {
-    /// Each on a thread of its own, with so many workers for its queries.
+    /// Each on a thread of its own, with this number of workers for each of its queries.
     InThreads(u32),
     /// On one thread, by the turns of a schedule.
     ByTurns(Sequence<u32>),
@@ -28,8 +28,8 @@ pub enum Course {
 #[derive(Drop)]
 pub struct Inputs {
     /// The scripts of its files.
-    pub scripts: Vec<Script>,
-    /// How their sessions go.
+    pub scripts: Vec<CutScript>,
+    /// How their sessions are run.
     pub course: Course,
 }
 
@@ -66,8 +66,8 @@ pub fn seed_of(command: &Command) -> Option<u64>
     }
 }
 
-/// Reads the scripts of a command's files, in order, and then its schedule. The first that is wrong ends
-/// it.
+/// Reads the scripts of a command's files, in order, and then its schedule. Fails at the first that
+/// is wrong.
 pub fn read_inputs<S: Scripts>(
     alloc: Global,
     source: &mut S,
@@ -95,7 +95,7 @@ pub fn read_inputs<S: Scripts>(
     }
 }
 
-/// How a command's sessions go: by its schedule, which is read, or in threads.
+/// How a command's sessions are run: by its schedule, which is read, or in threads.
 fn read_course<S: Scripts>(
     alloc: Global,
     source: &mut S,

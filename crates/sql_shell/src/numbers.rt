@@ -1,11 +1,11 @@
-//! How long the printed numbers of a run are, as their types tell. The calls change nothing.
+//! Bounds of the printed numbers of a run, by their types. The calls change nothing.
 ghost use Rattle.std.specs.Prelude.{◌<◌, ◌^◌};
 ghost use Rattle.std.specs.List.{AllByRecursion};
 ghost use Rattle.run_log.specs.Events.{EventTree, act_tree, log_tree};
 ghost use Rattle.sql_shell.specs.Numbers.{AreBelow, AreShort, admitted_numbers, count_numbers, looked_numbers, pool_numbers};
 
 use pool_policy::Admitted;
-use run_log::{Act, Event, Looked, Totals};
+use run_log::{Act, Event, FoundLog, Totals};
 use run_sessions::Run;
 
 /// The numbers of the looks, the admissions and the totals of a run are below 2^64, and its work is below
@@ -17,7 +17,7 @@ pub(crate) fn numbers_are_short(run: &Run)
     totals_are_short(run.totals);
 }
 
-/// Each look and each admission of a log has short numbers.
+/// The numbers of each look and each admission of a log are below 2^64.
 fn log_is_short(log: &[Event])
     ensures { AllByRecursion (λ (event : EventTree). AreBelow (pool_numbers event.act)) (log_tree log.now) }
 {
@@ -26,7 +26,7 @@ fn log_is_short(log: &[Event])
     }
 }
 
-/// A look or an admission has short numbers.
+/// The numbers of a look or an admission are below 2^64.
 fn act_is_short(act: &Act)
     ensures { AreBelow (pool_numbers (act_tree act.now)) }
 {
@@ -51,19 +51,19 @@ fn act_is_short(act: &Act)
     }
 }
 
-/// What a look found has a short number.
-fn finding_is_short(found: &Looked)
+/// The number of a look's answer is below 2^64.
+fn finding_is_short(found: &FoundLog)
     ensures { AreBelow (looked_numbers found.now) }
 {
     match found {
-        Looked::Exact(n) | Looked::Within(n) | Looked::Across(n) => {
+        FoundLog::Exact(n) | FoundLog::Within(n) | FoundLog::Across(n) => {
             let _n = *n;
         }
-        Looked::Miss => {}
+        FoundLog::Miss => {}
     }
 }
 
-/// What an admission was answered has short numbers.
+/// The numbers of an admission's answer are below 2^64.
 fn answer_is_short(answer: &Admitted)
     ensures { AreBelow (admitted_numbers answer.now) }
 {
@@ -80,7 +80,7 @@ fn answer_is_short(answer: &Admitted)
     }
 }
 
-/// Totals are short.
+/// The counts of totals are below 2^64, and their work is below 2^128.
 fn totals_are_short(totals: Totals)
     ensures counts { AreBelow (count_numbers totals) }
     ensures work { totals.work < 2 ^ 128 }

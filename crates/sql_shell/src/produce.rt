@@ -12,7 +12,7 @@ ghost use Rattle.sql_shell.specs.Served.{pool_of, texts_under};
 
 use crate::numbers::numbers_are_short;
 use crate::runner::SessionRunner;
-use crate::scripts::Script;
+use crate::scripts::CutScript;
 use answer_text::{write_history, write_log, write_session_line, write_totals};
 use bat_core::Operate;
 use cell_core::{Memory, Sequence, Steps, Word};
@@ -27,25 +27,25 @@ use std::sync::ledger::Ledger;
 /// The most entries of a pool.
 const MOST_ENTRIES: u64 = 1_024;
 
-/// What a run gives.
+/// The outcome of a run.
 #[derive(Drop)]
 pub struct Produced {
     /// The log.
     pub log: Sequence<Event>,
-    /// All that is printed of it.
+    /// The text that is printed of it.
     pub text: Vec<u8>,
     /// The work that was done.
     pub work: u128,
 }
 
-/// Runs the scripts as sessions that share a pool of these options, in threads or by turns, as the runner
-/// does: their log, what is printed of it, and their work. By turns the counter rises by it, and by no more
-/// than that of the plans that overflow beside it.
+/// Runs the scripts as sessions that share a pool of these options, by this runner. Returns their
+/// log, what is printed of it, and their work. By turns the counter rises by the work, and beyond
+/// it by no more than the loads of the plans that overflow.
 pub fn produce<C: SessionRunner, E: Operate + Sync, L: Ledger>(
     runner: &C,
     alloc: Global,
     options: RunOptions,
-    scripts: Vec<Script>,
+    scripts: Vec<CutScript>,
     kernel: &E,
     steps: &mut Steps<L>,
 ) -> Result<Produced, Memory>
@@ -58,12 +58,12 @@ pub fn produce<C: SessionRunner, E: Operate + Sync, L: Ledger>(
     }
 }
 
-/// The same where entries are scored by a rule that knows no weights of operators.
+/// The same, for an eviction policy without weights of operators.
 fn produce_plain<C: SessionRunner, E: Operate + Sync, L: Ledger>(
     runner: &C,
     alloc: Global,
     options: RunOptions,
-    scripts: Vec<Script>,
+    scripts: Vec<CutScript>,
     kernel: &E,
     steps: &mut Steps<L>,
 ) -> Result<Produced, Memory>
@@ -84,12 +84,12 @@ fn produce_plain<C: SessionRunner, E: Operate + Sync, L: Ledger>(
     play(runner, alloc, options, scripts, &scorer, kernel, steps)
 }
 
-/// The same where they are scored by weights of operators, of which the closure has a list of its own.
+/// The same, for the policy with weights of operators. The closure has a list of its own of them.
 fn produce_weighted<C: SessionRunner, E: Operate + Sync, L: Ledger>(
     runner: &C,
     alloc: Global,
     options: RunOptions,
-    scripts: Vec<Script>,
+    scripts: Vec<CutScript>,
     kernel: &E,
     steps: &mut Steps<L>,
 ) -> Result<Produced, Memory>
@@ -111,12 +111,12 @@ fn produce_weighted<C: SessionRunner, E: Operate + Sync, L: Ledger>(
     play(runner, alloc, options, scripts, &scorer, kernel, steps)
 }
 
-/// The same with a scorer that is lent.
+/// The same, with this scorer.
 fn play<C: SessionRunner, E: Operate + Sync, L: Ledger>(
     runner: &C,
     alloc: Global,
     options: RunOptions,
-    scripts: Vec<Script>,
+    scripts: Vec<CutScript>,
     scorer: &Scorer,
     kernel: &E,
     steps: &mut Steps<L>,
@@ -154,22 +154,22 @@ pub(crate) fn pool_for(options: RunOptions) -> PoolOptions
     }
 }
 
-/// Scripts as their names and the texts of their statements.
+/// Scripts, split into their names and the texts of their statements.
 #[derive(Drop)]
 pub(crate) struct Parts {
     pub(crate) names: Vec<Word>,
     pub(crate) scripts: Vec<Sequence<Word>>,
 }
 
-/// The names of scripts and the texts of their statements.
-pub(crate) fn split(alloc: Global, scripts: Vec<Script>) -> Result<Parts, Memory>
+/// Splits scripts into their names and the texts of their statements.
+pub(crate) fn split(alloc: Global, scripts: Vec<CutScript>) -> Result<Parts, Memory>
     ensures names { IfOk result (λ parts. parts.names.items ≡ names_of scripts.items) }
     ensures scripts { IfOk result (λ parts. parts.scripts.items ≡ pieces_in scripts.items) }
 {
     let mut names = Vec::new(alloc);
     let mut texts = Vec::new(alloc);
     'scripts: for script in scripts {
-        let Script { name, pieces } = script;
+        let CutScript { name, pieces } = script;
         names.push(name)?;
         texts.push(pieces)?;
     }

@@ -1,4 +1,4 @@
-//! How the sessions of a run go by turns on one thread.
+//! Runners of sessions, and the one that runs them by turns on one thread.
 ghost use Rattle.std.specs.Prelude.{◌≡◌, ◌≤◌, ◌^◌, ℕ, List, length, map, IfOk};
 ghost use Rattle.std.specs.declared.vec.Vec.{Vec as VecSeen};
 ghost use Rattle.std.specs.declared.alloc.Global.{Global as GlobalSeen};
@@ -20,7 +20,7 @@ use score_hook::Scorer;
 use std::alloc::Global;
 use std::sync::ledger::Ledger;
 
-/// What runs sessions. One whose type has no handle to wait by returns, if the kernel does.
+/// A way to run sessions. A runner whose type has no handle for waiting returns if the kernel does.
 pub trait SessionRunner {
     // The course that they take.
     ghost course: { Self → CourseSeen };
@@ -49,7 +49,7 @@ pub trait SessionRunner {
         ensures totals { IfOk result (λ run. run.totals ≡ run_totals pool (log_tree run.log.items)) };
 }
 
-/// Runs them by these turns, on the thread that calls.
+/// Runs sessions by these turns, on the calling thread.
 #[derive(Drop)]
 pub struct TurnRunner {
     /// The turns, each the number of a session.

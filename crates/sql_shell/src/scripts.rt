@@ -20,7 +20,7 @@ pub const STATUS_UNREAD: u8 = 2;
 pub const STATUS_UNWRITTEN: u8 = 3;
 /// The status of a file with too many bytes or statements.
 pub const STATUS_TOO_LONG: u8 = 4;
-/// The status of a run that had too little memory.
+/// The status of a run that ran out of memory.
 pub const STATUS_MEMORY: u8 = 5;
 /// The status of a file that isn't UTF-8.
 pub const STATUS_NOT_TEXT: u8 = 6;
@@ -29,7 +29,7 @@ pub const STATUS_BAD_LINE: u8 = 7;
 
 /// A script that was read, cut into its statements.
 #[derive(Drop)]
-pub struct Script {
+pub struct CutScript {
     /// Its file's name.
     pub name: Word,
     /// The texts of its statements.
@@ -54,7 +54,7 @@ pub enum Failure {
 }
 
 impl Failure {
-    /// The status that tells it.
+    /// Its status.
     pub fn status(self) -> u8
         ensures { result ≡ status_of self }
     {
@@ -102,13 +102,13 @@ impl<T: Drop> From<AllocFailed<T>> for Failure {
     }
 }
 
-/// Reads the scripts of these files in order, and cuts each into its statements. The first that
-/// can't be run ends it.
+/// Reads the scripts of these files in order, and cuts each into its statements. Fails at the first
+/// that can't be run.
 pub fn read_scripts<S: Scripts>(
     alloc: Global,
     source: &mut S,
     names: &[Word],
-) -> Result<Vec<Script>, Failure>
+) -> Result<Vec<CutScript>, Failure>
     ensures cut { IfOk result (λ scripts. AreCut (S.bytes_of source.old) names.now scripts.items) }
     ensures unfit { IfErr result (λ e. is_by_bytes (status_of e) ≡ true →
         (texts : List (List ℕ)) × AreTexts (S.bytes_of source.old) names.now texts × IsFirstUnfit 1 texts (status_of e) (at_of e)) }
@@ -139,7 +139,7 @@ fn read_script<S: Scripts>(
     source: &mut S,
     name: &Word,
     number: u64,
-) -> Result<Script, Failure>
+) -> Result<CutScript, Failure>
     ensures cut { IfOk result (λ script. IsCut (S.bytes_of source.old) name.now script) }
     ensures unfit { IfErr result (λ e. is_by_bytes (status_of e) ≡ true → IfSome (S.bytes_of source.old name.now) (λ text. IsUnfit text (status_of e))) }
     ensures fault { IfErr result (λ e. status_of e ≡ 2 → Rose (S.faults source.old) (S.faults source.new)) }
@@ -161,7 +161,7 @@ fn read_script<S: Scripts>(
 }
 
 /// Cuts a script into its statements.
-fn cut(alloc: Global, name: &Word, text: &str, number: u64) -> Result<Script, Failure>
+fn cut(alloc: Global, name: &Word, text: &str, number: u64) -> Result<CutScript, Failure>
     requires { length text.now ≤ 1048576 }
     ensures cut { IfOk result (λ script. (script.name ≡ name.now) × IsRunnable text.now × (script.pieces ≡ pieces_of text.now)) }
     ensures unfit { IfErr result (λ e. is_by_bytes (status_of e) ≡ true → IsUnfit text.now (status_of e)) }
@@ -173,7 +173,7 @@ fn cut(alloc: Global, name: &Word, text: &str, number: u64) -> Result<Script, Fa
     match split(alloc, text) {
         Ok(pieces) => {
             let name = name.share()?;
-            Ok(Script {
+            Ok(CutScript {
                 name,
                 pieces: Sequence::from_vec(pieces),
             })

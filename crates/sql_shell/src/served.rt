@@ -1,4 +1,4 @@
-//! The program as one call, and what it answers.
+//! The program as one call, and its outcome.
 ghost use Rattle.std.specs.Prelude.{◌≡◌, ◌≢◌, ◌≤◌, ◌⊎◌, ℕ, List, [], true, length, IfSome, None};
 ghost use Rattle.std.specs.Io.KnownBytes.{Appends};
 ghost use Rattle.causes.specs.Faults.{AppendsPrefix, Rose};
@@ -10,10 +10,10 @@ ghost use Rattle.sql_shell.specs.Inputs.{HasFailed, HasFailedAt, IsFirstWrong, I
 ghost use Rattle.sql_shell.specs.Ready.{AreReady, IsServedBy};
 ghost use Rattle.sql_shell.specs.Served.{is_status};
 
-use crate::begun::{Begun, ThreadedRun, top_by_turns};
+use crate::begun::{ByTurns, ThreadedRun, top_by_turns};
 use crate::produce::{Produced, produce};
 use crate::runner::SessionRunner;
-use crate::scripts::{Failure, STATUS_SERVED, STATUS_UNWRITTEN, Script};
+use crate::scripts::{CutScript, Failure, STATUS_SERVED, STATUS_UNWRITTEN};
 use crate::threaded::serve_in_threads;
 use bat_core::Operate;
 use causes::{Scripts, Sink, write_all};
@@ -25,15 +25,15 @@ use std::sync::Wait;
 use std::sync::ledger::Ledger;
 use std::thread::Threads;
 
-/// What the program answers.
+/// The outcome of the program.
 #[derive(Drop)]
 pub struct Served {
     /// 0: served; 1: the words are outside the grammar; 2: a file can't be read; 3: the answer can't be
     /// written; 4: a file has too many bytes or statements; 5: memory ran out; 6: a file isn't UTF-8; 7: the
     /// schedule has a bad line.
     pub status: u8,
-    /// The file that the status is about, from 1 in the order of the words, where the schedule is 0; with
-    /// status 7 the line of the schedule, from 1; or 0.
+    /// The file that the status is about, from 1 in the order of the words; the schedule is 0. With
+    /// status 7 the line of the schedule, from 1. Otherwise 0.
     pub at: u64,
     /// The log of the run, with status 0 and 3; else empty.
     pub log: Sequence<Event>,
@@ -41,13 +41,14 @@ pub struct Served {
     pub work: u128,
 }
 
-/// Does all that the program does: reads the scripts that the words name, and the schedule of a replay, runs
-/// the scripts as sessions that share tables and a pool of results, and writes the replies, the history of
-/// accepted changes, the pool's totals, and the log where it is asked for. Under `run` each session has a
-/// thread, as far as threads can be made, and takes turns with the others at the log; nothing is said of the
-/// counter. Under `replay` the sessions do their events in the order of the schedule, and the counter rises
-/// by the work, and beyond it by no more than the loads of the plans that overflow. `generate` replays the
-/// sample scripts of a number without turns, and writes the totals alone.
+/// Does all that the program does. It reads the scripts that the words name, and the schedule of a
+/// replay. It runs the scripts as sessions that share tables and a pool of results. It writes the
+/// replies, the history of accepted changes, the pool's totals, and the log where it is asked for.
+/// Under `run` each session has a thread, as far as threads start, and takes turns with the others
+/// at the log; nothing is promised of the counter. Under `replay` the sessions do their events in
+/// the order of the schedule. The counter then rises by the work, and beyond it by no more than the
+/// loads of the plans that overflow. `generate` replays the sample scripts of a number without
+/// turns, and writes the totals alone.
 pub fn top<R: Threads + Wait + Sync, S: Scripts, K: Sink, E: Operate + Sync, L: Ledger>(
     rt: &R,
     alloc: Global,
@@ -64,7 +65,7 @@ pub fn top<R: Threads + Wait + Sync, S: Scripts, K: Sink, E: Operate + Sync, L: 
     ensures prefix { result.status ≡ 3 → IfSome (command_named words.now) (λ command.
         (text : List ℕ) × AppendsPrefix (K.contents out.old) (K.contents out.new) text × IsAnswered (S.bytes_of scripts.old) command text (log_tree result.log) result.work steps.old steps.new) }
 
-    // When each other status comes, and what it is about.
+    // When each other status is returned, and what it is about.
     ensures words { command_named words.now ≡ None → (result.status ≡ 1) × (result.at ≡ 0) ⊎ (result.status ≡ 5) }
     ensures other_words { result.status ≡ 1 → command_named words.now ≡ None }
     ensures wrong { (result.status ≡ 4) ⊎ (result.status ≡ 6) ⊎ (result.status ≡ 7) → IfSome (command_named words.now) (λ command.
@@ -84,15 +85,15 @@ pub fn top<R: Threads + Wait + Sync, S: Scripts, K: Sink, E: Operate + Sync, L: 
     ensures at { (result.status ≡ 0) ⊎ (result.status ≡ 1) ⊎ (result.status ≡ 3) ⊎ (result.status ≡ 5) → result.at ≡ 0 }
     ensures file { IfSome (command_named words.now) (λ command. result.status ≢ 7 → result.at ≤ length (files_of command)) }
 
-    // What each of them leaves.
+    // With another status nothing is written, and there is no log and no work.
     ensures silent { (result.status ≢ 0) → (result.status ≢ 3) → (K.contents out.new ≡ K.contents out.old) × (result.log ≡ []) × (result.work ≡ 0) }
 
-    // No statement is run then; what is counted otherwise stands in the run's record.
+    // No statement is run then. With status 0 and 3 the record of the run has the count.
     ensures idle { (result.status ≢ 0) → (result.status ≢ 3) → (result.status ≢ 5) → steps.new ≡ steps.old }
 {
     match top_by_turns(alloc, words, scripts, out, kernel, steps) {
-        Begun::Answered(served) => served,
-        Begun::ToRun(run) => {
+        ByTurns::Answered(served) => served,
+        ByTurns::ToRun(run) => {
             let ThreadedRun {
                 options,
                 workers,
@@ -123,7 +124,7 @@ pub(crate) fn serve<C: SessionRunner, K: Sink, E: Operate + Sync, L: Ledger>(
     runner: &C,
     alloc: Global,
     options: RunOptions,
-    scripts: Vec<Script>,
+    scripts: Vec<CutScript>,
     out: &mut K,
     kernel: &E,
     steps: &mut Steps<L>,
@@ -144,7 +145,7 @@ pub(crate) fn serve<C: SessionRunner, K: Sink, E: Operate + Sync, L: Ledger>(
     }
 }
 
-/// Writes what is printed of a run, and answers its log and work.
+/// Writes what is printed of a run, and returns its log and work.
 pub(crate) fn hand_out<K: Sink>(out: &mut K, produced: Produced) -> Served
     ensures served { result.status ≡ 0 → Appends (K.contents out.old) (K.contents out.new) produced.text.items }
     ensures prefix { result.status ≡ 3 → AppendsPrefix (K.contents out.old) (K.contents out.new) produced.text.items }

@@ -1,5 +1,5 @@
-//! A run in threads, and what is printed of it. No trait serves it together with a run by turns: what a trait's
-//! method sends to threads has no proof in this toolchain.
+//! A run in threads, and what is printed of it. It shares no trait with a run by turns: this
+//! toolchain can't prove what a trait's method sends to threads.
 ghost use Rattle.std.specs.Prelude.{◌≡◌, ◌≢◌, ◌⊎◌, ℕ, List, [], IfOk};
 ghost use Rattle.std.specs.Io.KnownBytes.{Appends};
 ghost use Rattle.causes.specs.Faults.{AppendsPrefix, Rose};
@@ -11,7 +11,7 @@ ghost use Rattle.sql_shell.specs.Ready.{AreReady, IsServedBy};
 
 use crate::numbers::numbers_are_short;
 use crate::produce::{Parts, Produced, pool_for, print_run, split};
-use crate::scripts::{Failure, Script};
+use crate::scripts::{CutScript, Failure};
 use crate::served::{Served, failed, hand_out};
 use bat_core::Operate;
 use causes::Sink;
@@ -24,14 +24,14 @@ use std::sync::Wait;
 use std::thread::Threads;
 use thread_sessions::serve_sessions;
 
-/// Runs scripts that were read, each as a session on a thread of its own as far as threads can be made, and
-/// writes what is printed of their run.
+/// Runs scripts that were read, each as a session on a thread of its own as far as threads start,
+/// and writes what is printed of their run.
 pub(crate) fn serve_in_threads<R: Threads + Wait + Sync, K: Sink, E: Operate + Sync>(
     rt: &R,
     alloc: Global,
     workers: u32,
     options: RunOptions,
-    scripts: Vec<Script>,
+    scripts: Vec<CutScript>,
     out: &mut K,
     kernel: &E,
 ) -> Served
@@ -51,14 +51,14 @@ pub(crate) fn serve_in_threads<R: Threads + Wait + Sync, K: Sink, E: Operate + S
     }
 }
 
-/// Runs the scripts as sessions in threads that share a pool of these options: their log, what is printed of
-/// it, and their work.
+/// Runs the scripts as sessions in threads that share a pool of these options. Returns their log,
+/// what is printed of it, and their work.
 fn produce_in_threads<R: Threads + Wait + Sync, E: Operate + Sync>(
     rt: &R,
     alloc: Global,
     workers: u32,
     options: RunOptions,
-    scripts: Vec<Script>,
+    scripts: Vec<CutScript>,
     kernel: &E,
 ) -> Result<Produced, Memory>
     requires { AreReady options scripts.items (InThreads workers) }
@@ -70,13 +70,13 @@ fn produce_in_threads<R: Threads + Wait + Sync, E: Operate + Sync>(
     }
 }
 
-/// The same where entries are scored by a rule that knows no weights of operators.
+/// The same, for an eviction policy without weights of operators.
 fn plain_in_threads<R: Threads + Wait + Sync, E: Operate + Sync>(
     rt: &R,
     alloc: Global,
     workers: u32,
     options: RunOptions,
-    scripts: Vec<Script>,
+    scripts: Vec<CutScript>,
     kernel: &E,
 ) -> Result<Produced, Memory>
     requires plain { options.evict ≢ Weighted }
@@ -96,13 +96,13 @@ fn plain_in_threads<R: Threads + Wait + Sync, E: Operate + Sync>(
     play_in_threads(rt, alloc, workers, options, scripts, &scorer, kernel)
 }
 
-/// The same where they are scored by weights of operators, of which the closure has a list of its own.
+/// The same, for the policy with weights of operators. The closure has a list of its own of them.
 fn weighted_in_threads<R: Threads + Wait + Sync, E: Operate + Sync>(
     rt: &R,
     alloc: Global,
     workers: u32,
     options: RunOptions,
-    scripts: Vec<Script>,
+    scripts: Vec<CutScript>,
     kernel: &E,
 ) -> Result<Produced, Memory>
     requires weighted { options.evict ≡ Weighted }
@@ -123,13 +123,13 @@ fn weighted_in_threads<R: Threads + Wait + Sync, E: Operate + Sync>(
     play_in_threads(rt, alloc, workers, options, scripts, &scorer, kernel)
 }
 
-/// The same with a scorer that is lent.
+/// The same, with this scorer.
 fn play_in_threads<R: Threads + Wait + Sync, E: Operate + Sync>(
     rt: &R,
     alloc: Global,
     workers: u32,
     options: RunOptions,
-    scripts: Vec<Script>,
+    scripts: Vec<CutScript>,
     scorer: &Scorer,
     kernel: &E,
 ) -> Result<Produced, Memory>

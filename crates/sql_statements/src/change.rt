@@ -77,7 +77,7 @@ fn set(alloc: Global, tokens: &mut Cursor<'_>) -> Result<(Word, Expr), TreeError
     Ok((column, value))
 }
 
-/// The condition behind WHERE, or none.
+/// The condition after WHERE, or none.
 #[tactic(auto, unfolding(read_laws::specs::StmtReader::where_cond))]
 pub(crate) fn where_cond(alloc: Global, tokens: &mut Cursor<'_>) -> Result<Option<Cond>, TreeError>
     ensures found { IfOk result (λ cond. reader.optional word.Where (reader.where_cond bounded)

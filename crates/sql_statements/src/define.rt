@@ -8,7 +8,7 @@ ghost use Rattle.read_laws.specs.Chain.{first_token, after_first};
 ghost use Rattle.read_laws.specs.DerivedStmts.{length_32};
 ghost use Rattle.read_laws.specs.StmtReader as reader;
 
-use crate::part::{Part, enclosed, name, takes};
+use crate::part::{ListItem, enclosed, name, takes};
 use crate::values::literal;
 use cell_core::{Cell, Column, Kind};
 use sql_reader::{Cursor, TreeError, digits, is_key};
@@ -82,7 +82,7 @@ fn coldef(tokens: &mut Cursor<'_>) -> Result<Column, TreeError>
     })
 }
 
-/// The kind that a type's words name, and the most characters or 0.
+/// The kind that the words of a type name, and the most characters or 0.
 fn column_type(tokens: &mut Cursor<'_>) -> Result<(Kind, u32), TreeError>
     ensures found { IfOk result (λ type. reader.type_at length_32
         (first_token (tokens_in tokens.old.rest.now)) (after_first (tokens_in tokens.old.rest.now))
@@ -102,7 +102,7 @@ fn column_type(tokens: &mut Cursor<'_>) -> Result<(Kind, u32), TreeError>
     }
 }
 
-/// The length behind VARCHAR, in parentheses.
+/// The length after VARCHAR, in parentheses.
 #[tactic(auto, unfolding(read_laws::specs::StmtReader::varchar))]
 fn varchar(tokens: &mut Cursor<'_>) -> Result<(Kind, u32), TreeError>
     ensures found { IfOk result (λ type. reader.varchar length_32 (tokens_in tokens.old.rest.now)
@@ -141,8 +141,8 @@ fn narrow(number: u64) -> u32
     }
 }
 
-/// Whether NOT NULL stands behind a type, and the default, which is Nil where none is written. NOT NULL
-/// may stand before DEFAULT and its literal or behind these.
+/// Whether NOT NULL follows a type, and the default, which is Nil where none is written. NOT NULL
+/// may come before DEFAULT and its literal or after these.
 #[tactic(auto, unfolding(read_laws::specs::StmtReader::column_end))]
 fn column_end(tokens: &mut Cursor<'_>) -> Result<(bool, Cell), TreeError>
     ensures found { IfOk result (λ ends. reader.column_end bounded (tokens_in tokens.old.rest.now)
@@ -163,7 +163,7 @@ fn column_end(tokens: &mut Cursor<'_>) -> Result<(bool, Cell), TreeError>
     Ok((required, default))
 }
 
-/// Whether NOT NULL stands here, which may be left out.
+/// Whether an optional NOT NULL comes next.
 #[tactic(auto, unfolding(read_laws::specs::StmtReader::not_null))]
 fn not_null(tokens: &mut Cursor<'_>) -> Result<bool, TreeError>
     ensures found { IfOk result (λ required. reader.not_null (tokens_in tokens.old.rest.now)
@@ -179,7 +179,7 @@ fn not_null(tokens: &mut Cursor<'_>) -> Result<bool, TreeError>
     Ok(true)
 }
 
-impl Part for Column {
+impl ListItem for Column {
     ghost reader = { reader.coldef length_32 bounded };
 
     fn read(alloc: Global, tokens: &mut Cursor<'_>) -> Result<Column, TreeError> {

@@ -52,7 +52,7 @@ fn joint_of(token: Option<&Token>) -> Option<Joint>
     }
 }
 
-/// A source behind what joins it, and the condition of its ON.
+/// A source after what joins it, and the condition of its ON.
 #[tactic(auto, unfolding(read_laws::specs::StmtReader::joined))]
 fn joined(
     alloc: Global,
@@ -106,7 +106,7 @@ fn source(tokens: &mut Cursor<'_>) -> Result<FromItem, TreeError>
     Ok(FromItem { table, alias })
 }
 
-/// The name behind a table or an item, with AS or without, or none.
+/// The name after a table or an item, with AS or without, or none.
 #[tactic(auto, unfolding(read_laws::specs::StmtReader::alias))]
 pub(crate) fn alias(tokens: &mut Cursor<'_>) -> Result<Option<Word>, TreeError>
     ensures found { IfOk result (λ alias. reader.alias (tokens_in tokens.old.rest.now)
@@ -125,7 +125,7 @@ pub(crate) fn alias(tokens: &mut Cursor<'_>) -> Result<Option<Word>, TreeError>
     Ok(Some(alias.share()?))
 }
 
-/// A condition or none behind those so far, joined by AND.
+/// The conditions so far and one more or none, joined by AND.
 pub(crate) fn also(
     alloc: Global,
     so_far: Option<Cond>,

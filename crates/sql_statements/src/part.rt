@@ -8,8 +8,8 @@ use sql_reader::{Cursor, TreeError, comma, is_key};
 use sql_tree::{ColRef, Keyword, Symbol};
 use std::alloc::Global;
 
-/// What stands in lists, with a comma between two of it.
-pub(crate) trait Part: Drop + Sized {
+/// What can be listed, with a comma between two.
+pub(crate) trait ListItem: Drop + Sized {
     ghost reader: { Parser Self };
 
     /// Reads one.
@@ -22,7 +22,7 @@ pub(crate) trait Part: Drop + Sized {
 
 /// One part or more, with commas between them.
 #[tactic(auto, unfolding(read_laws::specs::StmtReader::listed))]
-pub(crate) fn listed<P: Part>(
+pub(crate) fn listed<P: ListItem>(
     alloc: Global,
     tokens: &mut Cursor<'_>,
 ) -> Result<Sequence<P>, TreeError>
@@ -47,7 +47,7 @@ pub(crate) fn listed<P: Part>(
 
 /// One part or more in parentheses, with commas between them.
 #[tactic(auto, unfolding(read_laws::specs::StmtReader::enclosed))]
-pub(crate) fn enclosed<P: Part>(
+pub(crate) fn enclosed<P: ListItem>(
     alloc: Global,
     tokens: &mut Cursor<'_>,
 ) -> Result<Sequence<P>, TreeError>
@@ -62,9 +62,9 @@ pub(crate) fn enclosed<P: Part>(
     Ok(parts)
 }
 
-/// A list behind a word and BY; no parts where the word doesn't stand here.
+/// A list after a word and BY; no parts where the word doesn't come next.
 #[tactic(auto, unfolding(read_laws::specs::StmtReader::listed_by))]
-pub(crate) fn listed_by<P: Part>(
+pub(crate) fn listed_by<P: ListItem>(
     alloc: Global,
     tokens: &mut Cursor<'_>,
     word: Keyword,
@@ -82,7 +82,7 @@ pub(crate) fn listed_by<P: Part>(
     listed(alloc, tokens)
 }
 
-/// Takes the word where it stands next, and tells whether it did.
+/// Takes the word where it comes next, and returns whether it did.
 pub(crate) fn takes(tokens: &mut Cursor<'_>, word: Keyword) -> bool
     ensures { reader.flag word (tokens_in tokens.old.rest.now)
         ≡ Some (result, tokens_in tokens.new.rest.now) }
@@ -123,7 +123,7 @@ pub(crate) fn column(tokens: &mut Cursor<'_>) -> Result<ColRef, TreeError>
     sql_reader::column(name, tokens)
 }
 
-impl Part for Word {
+impl ListItem for Word {
     ghost reader = { reader.name };
 
     fn read(alloc: Global, tokens: &mut Cursor<'_>) -> Result<Word, TreeError> {
@@ -131,7 +131,7 @@ impl Part for Word {
     }
 }
 
-impl Part for ColRef {
+impl ListItem for ColRef {
     ghost reader = { reader.column };
 
     fn read(alloc: Global, tokens: &mut Cursor<'_>) -> Result<ColRef, TreeError> {

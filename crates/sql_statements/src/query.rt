@@ -10,7 +10,7 @@ ghost use Rattle.read_laws.specs.StmtReader as reader;
 
 use crate::change::where_cond;
 use crate::from::{alias, also, sources};
-use crate::part::{Part, column, listed_by, takes};
+use crate::part::{ListItem, column, listed_by, takes};
 use cell_core::Sequence;
 use sql_reader::{Cursor, TreeError, comma, digits, is_key, is_symbol, value, whole_cond};
 use sql_tree::{Cond, Digits, Item, Keyword, Place, Query, SortKey, Symbol};
@@ -145,7 +145,7 @@ fn item(alloc: Global, tokens: &mut Cursor<'_>) -> Result<Item, TreeError>
     Ok(Item { expr, alias })
 }
 
-/// The condition behind HAVING, or none.
+/// The condition after HAVING, or none.
 #[tactic(auto, unfolding(read_laws::specs::StmtReader::having_cond))]
 fn having(alloc: Global, tokens: &mut Cursor<'_>) -> Result<Option<Cond>, TreeError>
     ensures found { IfOk result (λ cond.
@@ -162,7 +162,7 @@ fn having(alloc: Global, tokens: &mut Cursor<'_>) -> Result<Option<Cond>, TreeEr
     Ok(Some(whole_cond(alloc, tokens, true)?))
 }
 
-/// The most rows behind LIMIT, or none.
+/// The most rows after LIMIT, or none.
 #[tactic(auto, unfolding(read_laws::specs::StmtReader::counted))]
 fn limit(tokens: &mut Cursor<'_>) -> Result<Option<u64>, TreeError>
     ensures found { IfOk result (λ limit. reader.optional word.Limit (reader.counted bounded count_64)
@@ -210,7 +210,7 @@ fn place(tokens: &mut Cursor<'_>) -> Result<Place, TreeError>
     Ok(Place::Named(column(tokens)?))
 }
 
-/// Whether low values come first, which ASC or DESC tells.
+/// Whether low values come first, as ASC or DESC says.
 #[tactic(auto, unfolding(read_laws::specs::StmtReader::ascending))]
 fn ascending(tokens: &mut Cursor<'_>) -> bool
     ensures { reader.ascending (tokens_in tokens.old.rest.now)
@@ -236,7 +236,7 @@ fn count(digits: &Digits) -> u64
     }
 }
 
-impl Part for SortKey {
+impl ListItem for SortKey {
     ghost reader = { reader.key bounded count_64 };
 
     fn read(alloc: Global, tokens: &mut Cursor<'_>) -> Result<SortKey, TreeError> {

@@ -16,11 +16,11 @@ use std::alloc::Global;
 
 /// The statement that the tokens are, all of them.
 ///
-/// A number outside the signed 64-bit range stands as a Huge, which no literal gives; a position of ORDER
-/// BY, a LIMIT or a length that doesn't fit stands as the most of its type. An expression of more than 64
-/// nodes and a condition of more than 128 stand cut off a little past these limits, with a sign of each of
-/// these in what is left out: a column, a Huge, arithmetic over columns. The limits of all these are a step
-/// of its own.
+/// A number outside the signed 64-bit range becomes a Huge, which no literal writes. A position of
+/// ORDER BY, a LIMIT or a length that doesn't fit becomes the most of its type. An expression of
+/// more than 64 nodes and a condition of more than 128 are cut off a little past these limits, with
+/// a sign of each of these in what is left out: a column, a Huge, arithmetic over columns. The
+/// limits of all these are a step of their own.
 pub fn read_stmt(alloc: Global, tokens: &[Placed]) -> Result<Stmt, TreeError>
     ensures statement { IfOk result (λ s. IsReadStmt (tokens_in tokens.now) (stmt_tree s)) }
     ensures none { IsErrOf result TreeError.Syntax →
@@ -31,7 +31,7 @@ pub fn read_stmt(alloc: Global, tokens: &[Placed]) -> Result<Stmt, TreeError>
     alone(&rest, read)
 }
 
-/// The statement, where no token is left behind it.
+/// The statement, where no token is left after it.
 fn alone(rest: &Cursor<'_>, read: Stmt) -> Result<Stmt, TreeError>
     ensures same { IfOk result (λ s. stmt_tree s ≡ stmt_tree read) }
     ensures found { OnOk result (tokens_in rest.now.rest.now ≡ []) }

@@ -4,7 +4,7 @@ ghost use Rattle.sql_tree.specs.Tree.{stmt_tree};
 ghost use Rattle.read_laws.specs.Bounded.{bounded};
 ghost use Rattle.read_laws.specs.StmtReader as reader;
 
-use crate::part::{Part, enclosed, listed, name};
+use crate::part::{ListItem, enclosed, listed, name};
 use cell_core::{Cell, Sequence, Word};
 use sql_reader::{Cursor, TreeError, day, digits, is_symbol, negative_number, plain_number, text};
 use sql_tree::{Keyword, Stmt, Symbol, Token};
@@ -55,7 +55,7 @@ fn row(alloc: Global, tokens: &mut Cursor<'_>) -> Result<Sequence<Cell>, TreeErr
     enclosed(alloc, tokens)
 }
 
-/// A literal: digits, digits behind a `-`, a string, NULL, or DATE and a string that names a day.
+/// A literal: digits, digits after a `-`, a string, NULL, or DATE and a string that names a day.
 #[tactic(auto, unfolding(read_laws::specs::StmtReader::literal))]
 pub(crate) fn literal(tokens: &mut Cursor<'_>) -> Result<Cell, TreeError>
     ensures found { IfOk result (λ literal. reader.literal bounded
@@ -73,7 +73,7 @@ pub(crate) fn literal(tokens: &mut Cursor<'_>) -> Result<Cell, TreeError>
     }
 }
 
-/// The digits behind a `-`.
+/// The digits after a `-`.
 #[tactic(auto, unfolding(read_laws::specs::StmtReader::negative_literal))]
 fn negative_literal(tokens: &mut Cursor<'_>) -> Result<Cell, TreeError>
     ensures found { IfOk result (λ literal. reader.negative_literal bounded
@@ -104,7 +104,7 @@ fn day_literal(tokens: &mut Cursor<'_>) -> Result<Cell, TreeError>
     }
 }
 
-impl Part for Cell {
+impl ListItem for Cell {
     ghost reader = { reader.literal bounded };
 
     fn read(alloc: Global, tokens: &mut Cursor<'_>) -> Result<Cell, TreeError> {
@@ -112,7 +112,7 @@ impl Part for Cell {
     }
 }
 
-impl Part for Sequence<Cell> {
+impl ListItem for Sequence<Cell> {
     ghost reader = { reader.row bounded };
 
     fn read(alloc: Global, tokens: &mut Cursor<'_>) -> Result<Sequence<Cell>, TreeError> {

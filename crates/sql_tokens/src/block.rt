@@ -3,7 +3,7 @@ ghost use Rattle.read_laws.specs.TokenReader as reader;
 
 use text_bytes::begins_with;
 
-/// How many bytes stand before the first `*/`.
+/// How many bytes come before the first `*/`.
 pub(crate) fn block_length(bytes: &[u8]) -> Option<usize>
     ensures value { result ≡ reader.block_length 0 bytes.now }
     ensures within { IfSome result (λ n. n + 2 ≤ length bytes.now) }

@@ -110,7 +110,7 @@ fn mark(first: u8, after: &[u8]) -> Result<(Option<Token>, usize), TokensError>
     symbol(first, after)
 }
 
-/// A comment up to `*/`, behind its `/`.
+/// A comment up to `*/`, after its `/`.
 fn block(after: &[u8]) -> Result<(Option<Token>, usize), TokensError>
     requires { classes.begins_with 42 after.now ≡ true }
     ensures part { IfOk result (λ part. reader.block_part (reader.block_length 0 (drop 1 after.now)) ≡ Some (part.0, part.1)) }

@@ -43,7 +43,7 @@ impl<T: Drop> From<AllocFailed<T>> for SplitError {
     }
 }
 
-/// The pieces of a script, in order: what stands between its `;`, but for what is only blanks and
+/// The pieces of a script, in order: the runs between its `;`, without those of only blanks and
 /// comments. Strings, quoted names and comments may hold a `;`.
 pub fn split(alloc: Global, script: &str) -> Result<Vec<Word>, SplitError>
     ensures pieces { IfOk result (λ found. found.items ≡ told.pieces_of script.now) }
@@ -61,7 +61,7 @@ pub fn split(alloc: Global, script: &str) -> Result<Vec<Word>, SplitError>
     Ok(pieces)
 }
 
-/// The text before the first `;` that ends a piece, and the text behind it.
+/// The text before the first `;` that ends a piece, and the text after it.
 fn first_run(script: &str) -> Option<(&str, &str)>
     ensures cut { IfSome result (λ cut.
         told.runs_of Outside script.now ≡ cut.0.now ∷ told.runs_of Outside cut.1.now) }
@@ -94,8 +94,8 @@ fn run_length(bytes: &[u8]) -> Option<usize>
     None
 }
 
-/// Whether a byte stands outside strings, quoted names and comments, and neither ends a piece nor opens any of these,
-/// whatever comes behind it. Most bytes do, so they are looked at first.
+/// Whether a byte is outside strings, quoted names and comments, and neither ends a piece nor opens
+/// any of these, whatever follows it. This holds for most bytes, which are looked at first.
 fn goes_on(place: Inside, byte: u8) -> bool
     ensures open { IsTrue result → told.ends_piece place byte ≡ false }
     ensures here { IsTrue result → (after : List ℕ) → told.next_inside place byte after ≡ place }
@@ -166,7 +166,7 @@ fn ends_piece(place: Inside, byte: u8) -> bool
     }
 }
 
-/// What a text goes on in behind a byte.
+/// Where a text is after a byte.
 fn next_inside(place: Inside, byte: u8, after: &[u8]) -> Inside
     ensures { result ≡ told.next_inside place byte after.now }
 {
@@ -185,7 +185,7 @@ fn next_inside(place: Inside, byte: u8, after: &[u8]) -> Inside
     }
 }
 
-/// What a text goes on in behind a byte outside strings, quoted names and comments.
+/// Where a text is after a byte outside strings, quoted names and comments.
 fn opened(byte: u8, after: &[u8]) -> Inside
     ensures { result ≡ told.opened byte after.now }
 {

@@ -5,8 +5,8 @@ use crate::reading::TokensError;
 use cell_core::{Memory, Word, word_of};
 use std::alloc::Global;
 
-/// What stands before the first mark that isn't doubled, each doubled mark as one, and how many bytes
-/// that takes, the mark too.
+/// The text before the first mark that isn't doubled, each doubled mark as one, and how many bytes
+/// it takes, that mark included.
 pub(crate) fn quoted(alloc: Global, mark: u8, after: &[u8]) -> Result<(Word, usize), TokensError>
     requires ascii { mark < 128 }
     requires text { IsUtf8 after.now }
@@ -45,7 +45,7 @@ fn quoted_bytes(alloc: Global, mark: u8, after: &[u8]) -> Result<(Vec<u8>, usize
     }
 }
 
-/// Adds what is kept of a byte, and tells whether a mark stands open behind it.
+/// Adds what is kept of a byte, and returns whether a mark without its pair comes last.
 fn keep_byte(bytes: &mut Vec<u8>, mark: u8, is_closing: bool, byte: u8) -> Result<bool, Memory>
     ensures bytes { OnOk result (bytes.new.items ≡ bytes.old.items ++ reader.kept_byte mark is_closing byte) }
     ensures closing { IfOk result (λ closing. closing ≡ reader.next_closing mark is_closing byte) }

@@ -3,7 +3,7 @@ ghost use Rattle.read_laws.specs.TokenReader as reader;
 
 use sql_tree::{PAIRS, SINGLES, Symbol};
 
-/// The symbol of a byte and the one behind it.
+/// The symbol of a byte and the one after it.
 pub(crate) fn pair(first: u8, after: &[u8]) -> Option<Symbol>
     ensures { result ≡ reader.pair_at first after.now }
 {

@@ -10,7 +10,7 @@ use Rattle.std.proofs.lemmas.Str.{IsUtf8-append, IsUtf8-nil, encode_ascii}
 use Rattle.sql_tree.specs.Bytes.{doubled}
 use lib.Utf8.{scalar, scalars, encode, encodes, next, low_scalar}
 
--- a byte that is no mark stands as it is
+-- a byte other than the mark is unchanged
 other_byte : (mark b : ℕ) → mark < 128 → 128 ≤ b → doubled mark b ≡ b ∷ []
 other_byte mark b h k = grind (arith, nat_tests)
 

@@ -38,11 +38,11 @@ begins p (b ∷ bs) = p b
 abbrev pub begins_with : ℕ → List ℕ → Bool
 begins_with byte bs = begins (λ b. b == byte) bs
 
--- a byte between two marks: a mark twice, another one as it is
+-- a byte between two marks: the mark is doubled, any other byte is unchanged
 abbrev pub doubled : ℕ → ℕ → List ℕ
 doubled mark b = if b == mark then mark ∷ mark ∷ [] else b ∷ []
 
--- a `*/` stands somewhere in the bytes
+-- a `*/` occurs in the bytes
 abbrev pub holds_close : List ℕ → Bool
 holds_close [] = false
 holds_close (b ∷ bs) = ((b == 42) && begins_with 47 bs) || holds_close bs

@@ -1,4 +1,4 @@
--- A statement whose cells, expressions, conditions and numbers are replaced, each by what a function gives of it.
+-- A statement whose cells, expressions, conditions and numbers are replaced, each by a function of it.
 use Rattle.std.specs.Prelude.{ℕ, List, map}
 use Rattle.std.specs.Option.{option_map}
 use Rattle.cell_core.specs.declared.cell.Cell.{Cell}

@@ -1,17 +1,17 @@
--- The pieces of a script: what stands between its `;`, outside strings, quoted names and comments.
+-- The pieces of a script, between those `;` that are outside strings, quoted names and comments.
 use Rattle.std.specs.Prelude.{ℕ, ◌==◌, List, [], ◌∷◌, filter, Bool, true, false, not, ◌&&◌, ◌||◌, if◌then◌else◌}
 use Rattle.sql_tree.specs.Bytes.{is_blank, begins_with}
 use Rattle.sql_tree.specs.declared.inside.Inside.{Inside}
 use Rattle.sql_tree.specs.declared.inside.Inside.TheVariants.{Outside, InText, InName, InLine, OpensBlock, InBlock, ClosesBlock}
 
--- where a text goes on behind a byte outside all of them: `'` (39) opens a string, `"` (34) a quoted
+-- where a text is after a byte outside all of them: `'` (39) opens a string, `"` (34) a quoted
 -- name, `--` (45 twice) a comment to the end of the line, and `/*` (47 and 42) one to the next `*/`
 abbrev pub opened : ℕ → List ℕ → Inside
 opened b bs =
     if b == 39 then InText else (if b == 34 then InName
     else (if (b == 45) && begins_with 45 bs then InLine else (if (b == 47) && begins_with 42 bs then OpensBlock else Outside)))
 
--- where a text goes on behind a byte; a doubled quote closes and opens again
+-- where a text is after a byte; a doubled quote closes and opens again
 abbrev pub next_inside : Inside → ℕ → List ℕ → Inside
 next_inside Outside b bs = opened b bs
 next_inside InText b bs = if b == 39 then Outside else InText
@@ -21,7 +21,7 @@ next_inside OpensBlock b bs = InBlock
 next_inside InBlock b bs = if (b == 42) && begins_with 47 bs then ClosesBlock else InBlock
 next_inside ClosesBlock b bs = Outside
 
--- a `;` (59) ends a piece where it stands outside
+-- a `;` (59) ends a piece where it is outside
 abbrev pub ends_piece : Inside → ℕ → Bool
 ends_piece Outside b = b == 59
 ends_piece other b = false

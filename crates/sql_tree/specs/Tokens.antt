@@ -1,5 +1,5 @@
--- The tokens of a text. A cut of the text into parts is told as plain data: how each part is written,
--- and what may follow it.
+-- The tokens of a text. A cut of the text into parts is plain data: how each part is written, and
+-- what may follow it.
 use Rattle.std.specs.Prelude.{◌≡◌, ℕ, ◌-◌, ◌==◌, List, [], ◌∷◌, ◌++◌, length, map, flat_map, Bool, true, not, ◌&&◌, ◌||◌, Option, Some, None, IsTrue}
 use Rattle.std.specs.List.{list_all}
 use Rattle.sql_tree.specs.Bytes.{is_blank, is_letter, is_digit, is_word_byte, is_in_line, low, begins, begins_with, doubled, holds_close}
@@ -67,7 +67,7 @@ abbrev pub ends_symbol : List ℕ → List ℕ → Bool
 ends_symbol (b ∷ []) rest = not (begins (is_pair b) rest)
 ends_symbol other rest = true
 
--- a part may stand before the rest: each is as long as it can be
+-- a part may come before the rest: each is as long as it can be
 abbrev pub Fits : Part → List ℕ → Type 0
 Fits (Blank b) rest = IsTrue (is_blank b)
 Fits (Line bs) rest = IsTrue (list_all is_in_line bs && not (begins is_in_line rest))
@@ -93,8 +93,8 @@ token_of (QuotedName bs) = Some (token.Quoted bs)
 token_of (QuotedText bs) = Some (token.Text bs)
 token_of (Mark s) = Some (token.Symbol s)
 
--- the tokens behind a token, if it is one, that stands before the last `long` of all bytes and goes on
--- to the last `left` of them
+-- the tokens, after one more where there is one: it begins where `long` of all bytes are left and
+-- ends where `left` of them are
 abbrev pub with_token : ℕ → ℕ → ℕ → Option Token → List Placed → List Placed
 with_token all long left None tokens = tokens
 with_token all long left (Some t) tokens = record { token = t; start = all - long; end = all - left } ∷ tokens

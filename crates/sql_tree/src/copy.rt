@@ -166,8 +166,8 @@ impl Expr {
 
 /// Both things, where both were made.
 ///
-/// A proof goes through all the forms of a tree at each place where one may be let go. Here and in
-/// what follows that is done for things of any kind, which have none.
+/// A proof goes through all forms of a tree wherever one may be dropped. This function and those
+/// below take things of any type, which have no forms to go through.
 fn both<T: Drop, U: Drop>(
     left: Result<T, Memory>,
     right: Result<U, Memory>,
@@ -253,13 +253,13 @@ fn share_alias(alias: Option<&Word>) -> Result<Option<Word>, Memory>
 }
 
 /// What has an equal value that shares its texts.
-trait Shared: Drop + Sized {
+trait Share: Drop + Sized {
     /// The equal value.
     fn share(&self) -> Result<Self, Memory>
         ensures { IfOk result (λ copy. copy ≡ self.now) };
 }
 
-fn share_all<T: Shared>(alloc: Global, things: &[T]) -> Result<Sequence<T>, Memory>
+fn share_all<T: Share>(alloc: Global, things: &[T]) -> Result<Sequence<T>, Memory>
     ensures { IfOk result (λ copy. copy ≡ things.now) }
 {
     let mut copy = Vec::with_capacity(alloc, things.len())?;
@@ -269,13 +269,13 @@ fn share_all<T: Shared>(alloc: Global, things: &[T]) -> Result<Sequence<T>, Memo
     Ok(Sequence::from_vec(copy))
 }
 
-impl Shared for Word {
+impl Share for Word {
     fn share(&self) -> Result<Word, Memory> {
         Word::share(self)
     }
 }
 
-impl Shared for ColRef {
+impl Share for ColRef {
     fn share(&self) -> Result<ColRef, Memory> {
         let table = share_alias(self.table.as_ref())?;
         let column = Word::share(&self.column)?;
@@ -283,7 +283,7 @@ impl Shared for ColRef {
     }
 }
 
-impl Shared for FromItem {
+impl Share for FromItem {
     fn share(&self) -> Result<FromItem, Memory> {
         let table = Word::share(&self.table)?;
         let alias = share_alias(self.alias.as_ref())?;
@@ -291,7 +291,7 @@ impl Shared for FromItem {
     }
 }
 
-impl Shared for SortKey {
+impl Share for SortKey {
     fn share(&self) -> Result<SortKey, Memory> {
         let at = match &self.at {
             Place::Position(at) => Place::Position(*at),

@@ -4,29 +4,29 @@ use cell_core::Memory;
 use std::alloc::Global;
 use std::marker::Model;
 
-/// How many bytes lie in the value itself: those of every 64-bit number do.
+/// The most bytes in the value itself: the digits of every 64-bit number fit.
 const SHORT: usize = 20;
 
-/// Decimal digits. Contracts see them as their bytes. As most numbers are short, and a script has many,
+/// Decimal digits. Contracts see them as their bytes. Most numbers are short, and a script has many:
 /// short ones take no memory.
 #[derive(Drop)]
 pub struct Digits {
-    kept: Kept,
+    kept: DigitBytes,
 }
 
 /// Where the bytes of digits lie.
-enum Kept {
-    /// At the front of these bytes, so many.
+enum DigitBytes {
+    /// In the first of these bytes, of which the number counts.
     Short([u8; SHORT], u8),
-    /// In memory of their own, behind a pointer: a vector here would make every token larger.
+    /// In memory of their own: a vector in the value would make every token larger.
     Long(Box<Vec<u8>>),
 }
 
-// By a call of its own, so that proofs needn't go through its forms where one is let go.
-impl Drop for Kept {
+// By a call of its own, so that proofs needn't go through its forms where one is dropped.
+impl Drop for DigitBytes {
     fn drop(self) {
         match self {
-            Kept::Short(_, _) | Kept::Long(_) => {}
+            DigitBytes::Short(_, _) | DigitBytes::Long(_) => {}
         }
     }
 }
@@ -49,13 +49,13 @@ impl Digits {
         ensures { result.now ≡ self.now }
     {
         match &self.kept {
-            Kept::Short(bytes, length) => &bytes[..usize::from(*length)],
-            Kept::Long(bytes) => bytes.as_slice(),
+            DigitBytes::Short(bytes, length) => &bytes[..usize::from(*length)],
+            DigitBytes::Long(bytes) => bytes.as_slice(),
         }
     }
 }
 
-/// The digits of a byte and those behind it.
+/// The digits of a byte and those after it.
 pub fn digits_of(alloc: Global, first: u8, more: &[u8]) -> Result<Digits, Memory>
     ensures { IfOk result (λ digits. digits ≡ first ∷ more.now) }
 {
@@ -66,7 +66,7 @@ pub fn digits_of(alloc: Global, first: u8, more: &[u8]) -> Result<Digits, Memory
     bytes.push(first)?;
     bytes.extend_from_slice(more)?;
     Ok(Digits {
-        kept: Kept::Long(Box::new(alloc, bytes)?),
+        kept: DigitBytes::Long(Box::new(alloc, bytes)?),
     })
 }
 
@@ -80,6 +80,6 @@ fn short(first: u8, more: &[u8]) -> Digits
     bytes[0] = first;
     bytes[1..length].copy_from_slice(more);
     Digits {
-        kept: Kept::Short(bytes, length as u8),
+        kept: DigitBytes::Short(bytes, length as u8),
     }
 }

@@ -1,4 +1,4 @@
-/// What a byte of a script stands in.
+/// What a byte of a script lies in.
 #[derive(Clone, Copy, PartialEq, Eq)]
 pub enum Inside {
     /// Neither a string nor a quoted name nor a comment.

@@ -1,12 +1,12 @@
 //! SQL as trees and as tokens: what a statement, a token and a piece of a script are, and how a name
 //! is printed.
 //!
-//! It stands on `cell_core`. The definitions in `specs/` are what a reader has to believe: where a
+//! It builds on `cell_core`. The definitions in `specs/` are what a reader has to believe: where a
 //! script is cut (`Pieces`), how a text is cut into tokens with their places (`Tokens`), which words
 //! are reserved (`Words`, over the two lists of `words.rt`), how the code's statements are seen as
-//! plain trees (`Tree`) and its digits as their bytes (`Kept`), and how a name is printed (`Names`). It
-//! promises that `copy` gives an equal tree. Pieces and tokens are found by `sql_tokens`; statements are
-//! printed by `sql_print`.
+//! plain trees (`Tree`) and its digits as their bytes (`Kept`), and how a name is printed (`Names`).
+//! `copy` returns an equal tree. `sql_tokens` finds pieces and tokens, and `sql_print` prints
+//! statements.
 #![tactic(auto)]
 
 mod copy;

@@ -7,8 +7,8 @@ use crate::words::{is_unsupported, keyword};
 use cell_core::{Memory, Word, word_of};
 use std::alloc::Global;
 
-/// A name as it is printed: a word in lower case that isn't reserved stands as it is and is
-/// shared, and any other name stands in quotes.
+/// A name as it is printed. A word in lower case that isn't reserved is unchanged and shared; any
+/// other name is put in quotes.
 pub fn printed_name(alloc: Global, name: &Word) -> Result<Word, Memory>
     ensures { IfOk result (λ text. text ≡ name_text name.now) }
 {
@@ -23,7 +23,8 @@ pub fn printed_name(alloc: Global, name: &Word) -> Result<Word, Memory>
     }
 }
 
-/// Appends a name as it is printed. Where memory runs out, a part of it may stand in `out`.
+/// Appends a name as it is printed. On `Memory`, `out` keeps what it had, and a part of the name may
+/// follow.
 pub fn write_name(name: &Word, out: &mut Vec<u8>) -> Result<(), Memory>
     ensures { OnOk result (out.new.items ≡ out.old.items ++ name_text name.now) }
 {
@@ -35,8 +36,8 @@ pub fn write_name(name: &Word, out: &mut Vec<u8>) -> Result<(), Memory>
     write_quoted(b'"', text, out)
 }
 
-/// Appends a text between two marks, with each mark in it doubled. Where memory runs out, a part of it may stand in
-/// `out`.
+/// Appends a text between two marks, with each mark in it doubled. On `Memory`, `out` keeps what it had,
+/// and a part of this may follow.
 pub fn write_quoted(mark: u8, text: &str, out: &mut Vec<u8>) -> Result<(), Memory>
     ensures { OnOk result (out.new.items ≡ out.old.items ++ (mark ∷ flat_map (doubled mark) text.now ++ mark ∷ [])) }
 {
@@ -83,7 +84,7 @@ fn is_low_word(bytes: &[u8]) -> bool
     }
 }
 
-/// Whether each byte may stand in a word in lower case.
+/// Whether each byte may be part of a word in lower case.
 fn are_low_bytes(bytes: &[u8]) -> bool
     ensures { result ≡ list_all (λ b. is_low_letter b || is_digit b) bytes.now }
 {

@@ -19,7 +19,7 @@ pub enum Token {
     Symbol(Symbol),
 }
 
-// By a call of its own, so that proofs needn't go through its forms where one is let go.
+// By a call of its own, so that proofs needn't go through its forms where one is dropped.
 impl Drop for Token {
     fn drop(self) {
         match self {
@@ -38,13 +38,13 @@ impl Drop for Token {
 pub struct Placed {
     /// The token.
     pub token: Token,
-    /// How many bytes stand before its first.
+    /// How many bytes come before its first.
     pub start: usize,
-    /// How many bytes stand before the first after it.
+    /// How many bytes come before the first after it.
     pub end: usize,
 }
 
-// By a call of its own, so that proofs needn't go through its forms where one is let go.
+// By a call of its own, so that proofs needn't go through its forms where one is dropped.
 impl Drop for Placed {
     fn drop(self) {
         let Placed {

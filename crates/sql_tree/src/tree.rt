@@ -52,7 +52,7 @@ pub enum Stmt {
     Explain(Query),
 }
 
-// By a call of its own, so that proofs needn't go through its forms where one is let go.
+// By a call of its own, so that proofs needn't go through its forms where one is dropped.
 impl Drop for Stmt {
     fn drop(self) {
         match self {
@@ -84,9 +84,9 @@ impl Drop for Stmt {
 
 /// A query.
 pub struct Query {
-    /// Whether equal rows stand once.
+    /// Whether equal rows appear once.
     pub distinct: bool,
-    /// What each answered row holds; none for `*`, which stands for all columns.
+    /// What each row of the answer holds; none for `*`, which stands for all columns.
     pub items: Sequence<Item>,
     /// The tables, in the order of FROM.
     pub froms: Sequence<FromItem>,
@@ -102,7 +102,7 @@ pub struct Query {
     pub limit: Option<u64>,
 }
 
-// By a call of its own, so that proofs needn't go through its forms where one is let go.
+// By a call of its own, so that proofs needn't go through its forms where one is dropped.
 impl Drop for Query {
     fn drop(self) {
         let Query {
@@ -126,7 +126,7 @@ pub struct Item {
     pub alias: Option<Word>,
 }
 
-// By a call of its own, so that proofs needn't go through its forms where one is let go.
+// By a call of its own, so that proofs needn't go through its forms where one is dropped.
 impl Drop for Item {
     fn drop(self) {
         let Item { expr: _, alias: _ } = self;
@@ -141,7 +141,7 @@ pub struct FromItem {
     pub alias: Option<Word>,
 }
 
-// By a call of its own, so that proofs needn't go through its forms where one is let go.
+// By a call of its own, so that proofs needn't go through its forms where one is dropped.
 impl Drop for FromItem {
     fn drop(self) {
         let FromItem { table: _, alias: _ } = self;
@@ -156,7 +156,7 @@ pub struct ColRef {
     pub column: Word,
 }
 
-// By a call of its own, so that proofs needn't go through its forms where one is let go.
+// By a call of its own, so that proofs needn't go through its forms where one is dropped.
 impl Drop for ColRef {
     fn drop(self) {
         let ColRef {
@@ -174,7 +174,7 @@ pub struct SortKey {
     pub ascending: bool,
 }
 
-// By a call of its own, so that proofs needn't go through its forms where one is let go.
+// By a call of its own, so that proofs needn't go through its forms where one is dropped.
 impl Drop for SortKey {
     fn drop(self) {
         let SortKey {
@@ -192,7 +192,7 @@ pub enum Place {
     Named(ColRef),
 }
 
-// By a call of its own, so that proofs needn't go through its forms where one is let go.
+// By a call of its own, so that proofs needn't go through its forms where one is dropped.
 impl Drop for Place {
     fn drop(self) {
         match self {
@@ -231,7 +231,7 @@ pub enum Cond {
     Or(Box<Cond>, Box<Cond>),
 }
 
-// By a call of its own, so that proofs needn't go through its forms where one is let go.
+// By a call of its own, so that proofs needn't go through its forms where one is dropped.
 impl Drop for Cond {
     fn drop(self) {
         match self {
@@ -294,7 +294,7 @@ pub enum Expr {
     },
 }
 
-// By a call of its own, so that proofs needn't go through its forms where one is let go.
+// By a call of its own, so that proofs needn't go through its forms where one is dropped.
 impl Drop for Expr {
     fn drop(self) {
         match self {

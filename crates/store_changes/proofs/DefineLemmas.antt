@@ -6,21 +6,20 @@ use Rattle.std.specs.Option.{option_map_or}
 use Rattle.cell_core.specs.declared.table.Column.{Column}
 use Rattle.cell_core.specs.declared.table.Table.{Table}
 use Rattle.cell_core.specs.declared.table.Db.{Db}
-use Rattle.cell_core.specs.Tables.{named_table}
+use Rattle.cell_core.specs.Tables.{all_columns, named_table, names_in, row_count}
 use Rattle.sql_tree.specs.Tree.{StmtTree}
 use Rattle.sql_tree.specs.Tree.StmtTree.{CreateTable, DropTable, AlterTable}
-use Rattle.sql_semantics.specs.declared.refusal.Refusal.{Refusal}
-use Rattle.sql_semantics.specs.declared.refusal.Refusal.TheVariants.{TextTooLong}
-use Rattle.sql_semantics.specs.declared.refusal.Reply.{Reply}
-use Rattle.sql_semantics.specs.declared.refusal.Reply.TheVariants.{Refused}
-use Rattle.sql_semantics.specs.Check.{check_refusal, refused_if}
-use Rattle.sql_semantics.specs.Effect.{accepted, altered, column_refused, done_by, effect, effect_unless, is_long_default, unless_refused}
-use Rattle.sql_semantics.specs.Sources.{schema_of}
+use Rattle.sql_definitions.specs.declared.refusal.Refusal.{Refusal}
+use Rattle.sql_definitions.specs.declared.refusal.Refusal.TheVariants.{TextTooLong}
+use Rattle.sql_definitions.specs.declared.refusal.Reply.{Reply}
+use Rattle.sql_definitions.specs.declared.refusal.Reply.TheVariants.{Refused}
+use Rattle.sql_definitions.specs.Check.{check_refusal, refused_if}
+use Rattle.sql_definitions.specs.Effect.{accepted, altered, column_refused, done_by, effect, effect_unless, is_long_default, unless_refused}
+use Rattle.sql_definitions.specs.Sources.{schema_of}
 use Rattle.pool_policy.specs.declared.touched.Touched.{Touched}
 use Rattle.run_log.specs.Touches.{touched_by}
 use Rattle.table_store.specs.Changes.{IsPrepared, with_last_column, with_table, without_table}
 use Rattle.table_store.specs.Content.{Content}
-use Rattle.table_store.specs.Touches.{all_columns, names_in, row_count}
 use Rattle.store_changes.specs.declared.outcome.Ready.{Ready}
 use Rattle.store_changes.specs.Outcomes.{reply_with}
 use Rattle.store_changes.specs.Rewrites.{ComesTo}

@@ -10,8 +10,8 @@ use Rattle.cell_core.specs.declared.cell.Cell.TheVariants.{Nil}
 use Rattle.cell_core.specs.declared.table.Column.{Column}
 use Rattle.cell_core.specs.Relations.{column_cells}
 use Rattle.cell_core.specs.declared.table.Db.{Db}
+use Rattle.cell_core.specs.Tables.{row_count}
 use Rattle.table_store.specs.Changes.{columns_of, rows_of}
-use Rattle.table_store.specs.Touches.{row_count}
 use Rattle.table_columns.specs.Changed.{NewCells, new_cell, set_of, set_row, set_rows, unflagged}
 use Rattle.change_plans.specs.Decisions.{rises, row_with, rows_with, rows_without}
 use Rattle.store_changes.specs.Rewrites.{are_placed, flags_from, is_first, left_behind, sets_from}
@@ -31,7 +31,7 @@ above from place e = grind arith
 beyond : (at place : ℕ) → not (nat_lt place at) ≡ true → (place == at) ≡ false → at < place
 beyond at place e f = grind arith
 
--- the first place, and the places behind it
+-- the first place, and the places after it
 pub record AreBehind (from count place : ℕ) (places : List ℕ) : Type 0 where
   pub from_it : not (nat_lt place from) ≡ true
   pub others : rises (place + 1) count places ≡ true
@@ -62,7 +62,7 @@ rises_on at place count places e up = ap (λ b. b && nat_lt place count && rises
     still : (at place : ℕ) → at < place → not (nat_lt place (at + 1)) ≡ true
     still at place up = grind arith
 
--- the flag of the next row, and those behind it
+-- the flag of the next row, and the later ones
 pub next_flag : (at count : ℕ) (places : List ℕ) → at < count → flags_from at places (count - at) ≡ is_first at places ∷ flags_from (at + 1) (left_behind at places) (count - (at + 1))
 next_flag at count places few = ap (flags_from at places) (one_less at count few)
   where

@@ -11,17 +11,17 @@ use Rattle.cell_core.specs.declared.table.Table.{Table}
 use Rattle.cell_core.specs.declared.table.Db.{Db}
 use Rattle.cell_core.specs.Pairs.{Pairs, numbered}
 use Rattle.cell_core.specs.Relations.{column_cells}
-use Rattle.cell_core.specs.Tables.{column_place, named_table}
+use Rattle.cell_core.specs.Tables.{all_columns, column_place, named_table, row_count}
 use Rattle.sql_tree.specs.Tree.{StmtTree}
 use Rattle.sql_tree.specs.Tree.StmtTree.{InsertInto}
 use Rattle.sql_grammar.specs.Formed.{IsFormed}
-use Rattle.sql_semantics.specs.declared.refusal.Refusal.{Refusal}
-use Rattle.sql_semantics.specs.declared.refusal.Reply.{Reply}
-use Rattle.sql_semantics.specs.declared.refusal.Reply.TheVariants.{Rows}
-use Rattle.sql_semantics.specs.Check.{check_refusal}
-use Rattle.sql_semantics.specs.Effect.{Change, changed, changed_by, effect, inserted}
-use Rattle.sql_semantics.specs.Sources.{schema_of}
-use Rattle.sql_semantics.specs.Valid.{IsValid, are_valid_columns, column_names, fits_columns, is_valid_table, names_differ}
+use Rattle.sql_definitions.specs.declared.refusal.Refusal.{Refusal}
+use Rattle.sql_definitions.specs.declared.refusal.Reply.{Reply}
+use Rattle.sql_definitions.specs.declared.refusal.Reply.TheVariants.{Rows}
+use Rattle.sql_definitions.specs.Check.{check_refusal}
+use Rattle.sql_definitions.specs.Effect.{Change, changed, changed_by, effect, inserted}
+use Rattle.sql_definitions.specs.Sources.{schema_of}
+use Rattle.sql_definitions.specs.Valid.{IsValid, are_valid_columns, column_names, fits_columns, is_valid_table, names_differ}
 use Rattle.sql_changes.specs.Added.{added_rows, added_to}
 use Rattle.sql_changes.specs.declared.insert.AddedRows.{AddedRows}
 use Rattle.sql_kinds.specs.Laws.{StatementsKeepValid}
@@ -34,7 +34,7 @@ use Rattle.run_log.proofs.ColumnLemmas.{pairs_of}
 use Rattle.table_columns.specs.Rows.{AreWide}
 use Rattle.table_store.specs.Changes.{IsPrepared, rows_of, with_rows}
 use Rattle.table_store.specs.Content.{Content}
-use Rattle.table_store.specs.Touches.{all_columns, columns_beside, row_count, whole_columns}
+use Rattle.table_store.specs.Touches.{columns_beside, whole_columns}
 use Rattle.store_changes.specs.declared.outcome.Ready.{Ready}
 use Rattle.store_changes.specs.Rewrites.{ComesTo}
 use Rattle.store_changes.proofs.DefineLemmas.{effect_accepted, ready_comes, refused_comes}

@@ -6,20 +6,19 @@ use Rattle.std.specs.Option.{option_map, option_map_or}
 use Rattle.cell_core.specs.declared.table.Column.{Column}
 use Rattle.cell_core.specs.declared.table.Table.{Table}
 use Rattle.cell_core.specs.declared.table.Db.{Db}
-use Rattle.cell_core.specs.Tables.{first_named, named_table}
-use Rattle.sql_semantics.specs.declared.refusal.Refusal.{Refusal}
-use Rattle.sql_semantics.specs.declared.refusal.Refusal.TheVariants.{KindsDiffer, TableExists}
-use Rattle.sql_semantics.specs.declared.source.Source.{Source}
-use Rattle.sql_semantics.specs.Check.{create_refusals, is_misfit_default, names_twice, over_table, refused_if}
-use Rattle.sql_semantics.specs.Sources.{schema_of, source_named}
-use Rattle.sql_semantics.specs.Valid.{IsValid}
-use Rattle.sql_semantics.specs.Valid as valid
+use Rattle.cell_core.specs.Tables.{first_named, named_table, row_count}
+use Rattle.sql_definitions.specs.declared.refusal.Refusal.{Refusal}
+use Rattle.sql_definitions.specs.declared.refusal.Refusal.TheVariants.{KindsDiffer, TableExists}
+use Rattle.sql_definitions.specs.declared.source.Source.{Source}
+use Rattle.sql_definitions.specs.Check.{create_refusals, is_misfit_default, names_twice, over_table, refused_if}
+use Rattle.sql_definitions.specs.Sources.{schema_of, source_named}
+use Rattle.sql_definitions.specs.Valid.{IsValid}
+use Rattle.sql_definitions.specs.Valid as valid
 use Rattle.sql_tree.specs.Names.{name_text}
 use Rattle.sql_kinds.proofs.TableLemmas.{as_source, source_is}
 use Rattle.table_store.specs.declared.heading.Heading.{Heading}
 use Rattle.table_store.specs.Changes.{NamesDiffer, columns_of, names_differ, rows_of}
 use Rattle.table_store.specs.Headings.{headings_of}
-use Rattle.table_store.specs.Touches.{row_count}
 
 abbrev pub as_heading : Table → Heading
 as_heading table = record { name = table.name; columns = table.columns }

@@ -5,7 +5,7 @@ use Rattle.cell_core.specs.declared.cell.Cell.{Cell}
 use Rattle.cell_core.specs.declared.table.Column.{Column}
 use Rattle.cell_core.specs.declared.table.Table.{Table}
 use Rattle.cell_core.specs.declared.table.Db.{Db}
-use Rattle.cell_core.specs.Tables.{named_table}
+use Rattle.cell_core.specs.Tables.{all_columns, named_table, row_count}
 use Rattle.mal_meaning.specs.declared.plan.Plan.{Plan}
 use Rattle.mal_meaning.specs.Meaning.{plan_load, plan_rows}
 use Rattle.mal_opt.specs.Optimisers.{optimise}
@@ -13,25 +13,22 @@ use Rattle.rows_to_mal.specs.Laws.{HoldsTables}
 use Rattle.rows_to_mal.specs.Writes.{is_write, write_plan}
 use Rattle.sql_tree.specs.Tree.{ExprTree, StmtTree}
 use Rattle.sql_tree.specs.Tree.StmtTree.{CreateTable, DropTable, AlterTable, InsertInto, DeleteFrom, UpdateTable, Select, ExplainSelect}
-use Rattle.sql_semantics.specs.declared.refusal.Refusal.{Refusal}
-use Rattle.sql_semantics.specs.declared.refusal.Refusal.TheVariants.{TextTooLong, NullStored}
-use Rattle.sql_semantics.specs.declared.source.Source.{Source}
-use Rattle.sql_semantics.specs.Check.{check_refusal, sources_named, tables_of}
-use Rattle.sql_semantics.specs.Effect.{changed, changed_by, effect, is_null_refused, is_too_long}
-use Rattle.sql_semantics.specs.Sources.{schema_of}
+use Rattle.sql_definitions.specs.declared.refusal.Refusal.{Refusal}
+use Rattle.sql_definitions.specs.declared.refusal.Refusal.TheVariants.{TextTooLong, NullStored}
+use Rattle.sql_definitions.specs.declared.source.Source.{Source}
+use Rattle.sql_definitions.specs.Check.{check_refusal}
+use Rattle.sql_definitions.specs.Effect.{changed, changed_by, effect, is_null_refused, is_too_long}
 use Rattle.change_plans.specs.declared.decided.Decided.{Decided}
 use Rattle.change_plans.specs.declared.decided.Decided.TheVariants.{Refused, Gone, Set}
 use Rattle.change_plans.specs.Decisions.{decided_by, is_any_refused, is_in_place, left_by, place_of, rows_with, rows_without}
 use Rattle.change_plans.specs.Hits.{changed_table}
 use Rattle.change_plans.specs.Laws.{OverflowsOver}
 use Rattle.change_plans.proofs.MeantLemmas.{There, there}
-use Rattle.run_log.specs.Fold.{change_load, load_unless}
+use Rattle.run_log.specs.Fold.{change_load, change_plan, load_unless}
 use Rattle.run_log.specs.Touches.{touched_by, touching}
-use Rattle.run_log.specs.Touches as log
 use Rattle.table_store.specs.declared.heading.Heading.{Heading}
 use Rattle.table_store.specs.Changes.{rows_of, with_rows}
 use Rattle.table_store.specs.Content.{Content}
-use Rattle.table_store.specs.Touches.{row_count}
 use Rattle.store_changes.specs.declared.outcome.Ready.{Ready}
 use Rattle.store_changes.specs.Rewrites.{ComesTo, Removes, Sets}
 use Rattle.store_changes.specs.Work.{change_lost, lost_unless}
@@ -65,7 +62,7 @@ module _ (columns : List Column) (rows : List (List Cell)) (db : Db) where
   is_null sets = is_any_refused is_null_refused columns (set_names sets) (map (drop 1) rows)
 
   -- rows go by a DELETE alone
-  gone_touches : (s : StmtTree) → is_write s ≡ true → (places : List ℕ) → Gone places ≡ decided_by s columns rows → touching (changed_table s) db (log.all_columns (changed_table s) db) None ≡ touched_by s db
+  gone_touches : (s : StmtTree) → is_write s ≡ true → (places : List ℕ) → Gone places ≡ decided_by s columns rows → touching (changed_table s) db (all_columns (changed_table s) db) None ≡ touched_by s db
   gone_touches (DeleteFrom name condition) w places e = refl
   gone_touches (UpdateTable name sets condition) w places e = absurd (never_gone columns (set_names sets) (map place_of rows) (map (drop 1) rows) (is_long sets) (is_null sets) places e)
   gone_touches (CreateTable name cols) w places e = cc
@@ -105,7 +102,7 @@ module _ (s : StmtTree) (sources : List Source) (content : Content) (w : is_writ
     pub decided_gone : (places : List ℕ) (ready : Ready) → decided ≡ Gone places → Removes (changed_table s) places content ready → ComesTo s content (Ok ready)
     decided_gone places ready same removes =
         ready_comes s content ready (with_rows (changed_table s) (rows_without places here.table.rows) content.db) (Some (length places))
-        (touching (changed_table s) content.db (log.all_columns (changed_table s) content.db) None)
+        (touching (changed_table s) content.db (all_columns (changed_table s) content.db) None)
         (effect_by (Gone places) same) removes.prepared
         (removes.db ∙ ap (λ (old : List (List Cell)). with_rows (changed_table s) (rows_without places old) content.db) (rows_found (changed_table s) content.db here.table here.found))
         removes.rows removes.touched (gone_touches columns rows content.db s w places (sym same ∙ by))
@@ -127,7 +124,7 @@ module _ (s : StmtTree) (sources : List Source) (content : Content) (w : is_writ
   pub count_here : row_count (changed_table s) content.db ≡ length here.table.rows
   count_here = count_found (changed_table s) content.db here.table here.found
 
-  -- a table that is made of what the store tells is the one that is there
+  -- a table that is made of what the store says is the one that is there
   pub overflows_here : (heading : Heading) (table : Table) → Some heading ≡ Some (as_heading here.table) → table ≡ record { name = heading.name; columns = heading.columns; rows = rows_of (changed_table s) content.db }
       → plan_rows (write_plan s sources) content.db ≡ None → (OverflowsOver s sources table) × (named_table (changed_table s) content.db ≡ Some table)
   overflows_here heading table told made none = (record { db = content.db; holds = holds; found = found; none = none }, found)
@@ -143,10 +140,7 @@ module _ (s : StmtTree) (sources : List Source) (content : Content) (w : is_writ
 
   -- ## Its work
 
-  abbrev plan_here : Plan
-  plan_here = optimise (write_plan s (sources_named (tables_of s) (schema_of content.db)))
-
-  plan_is : (plan : Plan) → plan ≡ optimise (write_plan s sources) → plan ≡ plan_here
+  plan_is : (plan : Plan) → plan ≡ optimise (write_plan s sources) → plan ≡ change_plan s content.db
   plan_is plan e = e ∙ ap (λ (all : List Source). optimise (write_plan s all)) holds.tables
 
   pub load_is : (plan : Plan) (rows : List (List Cell)) → plan ≡ optimise (write_plan s sources) → plan_rows plan content.db ≡ Some rows → plan_load plan content.db ≡ change_load s content.db

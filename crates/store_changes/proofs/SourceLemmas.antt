@@ -2,8 +2,8 @@
 use Rattle.std.proofs.Common.{◌≡◌, List, [], ◌∷◌, map, refl, ap}
 use Rattle.cell_core.specs.declared.table.Table.{Table}
 use Rattle.cell_core.specs.declared.table.Db.{Db}
-use Rattle.sql_semantics.specs.declared.source.Source.{Source}
-use Rattle.sql_semantics.specs.Sources.{schema_of}
+use Rattle.sql_definitions.specs.declared.source.Source.{Source}
+use Rattle.sql_definitions.specs.Sources.{schema_of}
 use Rattle.table_store.specs.declared.heading.Heading.{Heading}
 use Rattle.table_store.specs.Headings.{headings_of}
 use Rattle.store_changes.specs.Schemas.{source_in}

@@ -3,10 +3,10 @@ use Rattle.std.proofs.Common.{◌≡◌, ℕ, true, Option, Some, None, refl, ap
 use Rattle.std.specs.Prelude.{Result, Ok, Err, IfOk}
 use Rattle.rows_to_mal.specs.Writes.{is_write}
 use Rattle.sql_tree.specs.Tree.{StmtTree, stmt_tree}
-use Rattle.sql_semantics.specs.declared.refusal.Refusal.{Refusal}
-use Rattle.sql_semantics.specs.declared.typed.Typed.{Typed}
-use Rattle.sql_semantics.specs.Check.{check_refusal}
-use Rattle.sql_semantics.specs.Sources.{schema_of}
+use Rattle.sql_definitions.specs.declared.refusal.Refusal.{Refusal}
+use Rattle.sql_definitions.specs.declared.typed.Typed.{Typed}
+use Rattle.sql_definitions.specs.Check.{check_refusal}
+use Rattle.sql_definitions.specs.Sources.{schema_of}
 use Rattle.run_log.specs.Fold.{change_load, load_where, write_load}
 use Rattle.table_store.specs.Content.{Content}
 use Rattle.store_changes.specs.declared.outcome.Outcome.{Outcome}
@@ -15,7 +15,7 @@ use Rattle.store_changes.specs.Work.{Counts, change_lost, write_lost}
 use Rattle.store_changes.proofs.DefineLemmas.{check_comes}
 
 module _ (s : StmtTree) (content : Content) (w : is_write s ≡ true) (before after : ℕ) (outcome : Outcome) where
-  -- what the check gives, and what follows from it
+  -- the check's result, and what follows from it
   pub record IsChecked (found : Result Typed Refusal) : Type 0 where
     pub statement : IfOk found (λ (typed : Typed). stmt_tree typed.stmt ≡ s)
     pub accepted : IfOk found (λ (typed : Typed). check_refusal s (schema_of content.db) ≡ None)

@@ -1,17 +1,17 @@
--- Rows by their places, as flags and as columns, and what a change comes to; private contracts alone speak of them.
+-- Rows by their places, as flags and as columns, and the outcome of a change; private contracts alone cite them.
 use Rattle.std.specs.Prelude.{◌≡◌, ℕ, zero, suc, ◌+◌, ◌==◌, List, [], ◌∷◌, length, Bool, false, ◌&&◌, if◌then◌else◌, Some, None, IfOk, Result}
 use Rattle.std.specs.List.{list_all}
 use Rattle.cell_core.specs.declared.cell.Cell.{Cell}
 use Rattle.cell_core.specs.Relations.{column_cells}
+use Rattle.cell_core.specs.Tables.{all_columns, row_count}
 use Rattle.sql_tree.specs.Tree.{StmtTree}
-use Rattle.sql_semantics.specs.Effect.{effect}
-use Rattle.sql_semantics.specs.declared.refusal.Refusal.{Refusal}
+use Rattle.sql_definitions.specs.Effect.{effect}
+use Rattle.sql_definitions.specs.declared.refusal.Refusal.{Refusal}
 use Rattle.change_plans.specs.Decisions.{rises, rows_with, rows_without}
 use Rattle.run_log.specs.Touches.{touched_by}
 use Rattle.table_columns.specs.Changed.{NewCells}
 use Rattle.table_store.specs.Changes.{IsPrepared, columns_of, rows_of, with_rows}
 use Rattle.table_store.specs.Content.{Content}
-use Rattle.table_store.specs.Touches.{all_columns, row_count}
 use Rattle.store_changes.specs.declared.outcome.Ready.{Ready}
 use Rattle.store_changes.specs.Outcomes.{outcome_over}
 
@@ -21,7 +21,7 @@ abbrev pub is_first : ℕ → List ℕ → Bool
 is_first at [] = false
 is_first at (place ∷ places) = place == at
 
--- the places behind this one, should it be the first
+-- the places without this one, where it is the first
 abbrev pub left_behind : ℕ → List ℕ → List ℕ
 left_behind at [] = []
 left_behind at (place ∷ places) = if place == at then places else place ∷ places
@@ -42,7 +42,7 @@ sets_from place (name ∷ names) rows = (name, column_cells place rows) ∷ sets
 abbrev pub are_placed : ℕ → List (List ℕ) → List ℕ → List (List Cell) → Bool
 are_placed count names places cells = rises 0 count places && (length cells == length places) && list_all (λ (row : List Cell). length row == length names) cells
 
--- ## What a change comes to
+-- ## The outcome of a change
 
 -- the rows at these places go
 pub record Removes (table places : List ℕ) (content : Content) (ready : Ready) : Type 0 where

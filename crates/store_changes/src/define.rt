@@ -1,8 +1,8 @@
 //! CREATE, DROP and ALTER.
 ghost use Rattle.std.specs.Prelude.{◌≡◌, None, IfOk};
-ghost use Rattle.sql_semantics.specs.Check.{check_refusal};
-ghost use Rattle.sql_semantics.specs.Sources.{schema_of};
-ghost use Rattle.sql_semantics.specs.Valid.{IsValid};
+ghost use Rattle.sql_definitions.specs.Check.{check_refusal};
+ghost use Rattle.sql_definitions.specs.Sources.{schema_of};
+ghost use Rattle.sql_definitions.specs.Valid.{IsValid};
 ghost use Rattle.sql_tree.specs.Tree.StmtTree.{CreateTable, DropTable, AlterTable};
 ghost use Rattle.store_changes.specs.Rewrites.{ComesTo};
 
@@ -11,11 +11,11 @@ use crate::outcome::Ready;
 use cell_core::{Column, Memory, Word, copy_columns};
 use row_values::has_long_default;
 use sql_changes::why_not_added;
-use sql_semantics::Refusal;
+use sql_definitions::Refusal;
 use std::alloc::Global;
 use table_store::{Heading, Store};
 
-/// What a CREATE comes to that the check accepts.
+/// The outcome of a CREATE that the check accepts.
 pub(crate) fn create(
     alloc: Global,
     store: &Store,
@@ -36,7 +36,7 @@ pub(crate) fn create(
     Ok(Ok(Ready { change, rows: None }))
 }
 
-/// What a DROP comes to that the check accepts.
+/// The outcome of a DROP that the check accepts.
 pub(crate) fn drop_table(
     alloc: Global,
     store: &Store,
@@ -49,7 +49,7 @@ pub(crate) fn drop_table(
     Ok(Ok(Ready { change, rows: None }))
 }
 
-/// What an ALTER comes to that the check accepts.
+/// The outcome of an ALTER that the check accepts.
 pub(crate) fn alter(
     alloc: Global,
     store: &Store,

@@ -17,7 +17,7 @@ fn is_first(places: &[u64], at: u64) -> bool
     }
 }
 
-/// The places behind this one, should it be the first of them.
+/// The places without this one, where it is the first of them.
 fn behind(places: &[u64], at: u64) -> &[u64]
     ensures { result.now ≡ left_behind at places.now }
 {
@@ -27,7 +27,7 @@ fn behind(places: &[u64], at: u64) -> &[u64]
     }
 }
 
-/// A flag for each of so many rows: whether its place, counted from 0, is among these, which stand in
+/// A flag for each of so many rows: whether its place, counted from 0, is among these, which are in
 /// order.
 pub(crate) fn flags_of(alloc: Global, places: &[u64], count: u64) -> Result<Vec<bool>, Memory>
     ensures { IfOk result (λ flags. flags.items ≡ flags_from 0 places.now count) }

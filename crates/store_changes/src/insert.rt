@@ -1,9 +1,9 @@
 //! INSERT.
 ghost use Rattle.std.specs.Prelude.{◌≡◌, None, IfOk};
 ghost use Rattle.sql_grammar.specs.Formed.{IsFormed};
-ghost use Rattle.sql_semantics.specs.Check.{check_refusal};
-ghost use Rattle.sql_semantics.specs.Sources.{schema_of};
-ghost use Rattle.sql_semantics.specs.Valid.{IsValid};
+ghost use Rattle.sql_definitions.specs.Check.{check_refusal};
+ghost use Rattle.sql_definitions.specs.Sources.{schema_of};
+ghost use Rattle.sql_definitions.specs.Valid.{IsValid};
 ghost use Rattle.sql_tree.specs.Tree.StmtTree.{InsertInto};
 ghost use Rattle.store_changes.specs.Rewrites.{ComesTo};
 
@@ -11,12 +11,12 @@ use crate::headings::find_heading;
 use crate::outcome::Ready;
 use cell_core::{Cell, Memory, Sequence, Word};
 use sql_changes::rows_to_add;
+use sql_definitions::Refusal;
 use sql_kinds::statements_keep_valid;
-use sql_semantics::Refusal;
 use std::alloc::Global;
 use table_store::Store;
 
-/// What an INSERT comes to that the check accepts: the rows are placed, and then stand behind the others.
+/// The outcome of an INSERT that the check accepts: its rows are placed, and come after the others.
 pub(crate) fn insert(
     alloc: Global,
     store: &Store,

@@ -1,9 +1,9 @@
-//! Changes of a store: a statement that is no query is checked, done on shared columns, and prepared, so
-//! that the store can then be changed without failing.
+//! Changes of a store. A statement that is no query is checked, done on shared columns, and
+//! prepared, so that the store can then be changed without failing.
 //!
-//! It stands on `table_store`, which knows no SQL, on `sql_check` for the refusals by the tables, on
-//! `change_plans` and `sql_changes` for what a change does to the rows of its table, and on `mal_exec`:
-//! DELETE and UPDATE run their optimised plans over the store's columns.
+//! It builds on `table_store`, which knows no SQL, on `sql_check` for the refusals by the tables,
+//! and on `change_plans` and `sql_changes` for what a change does to the rows of its table. It also
+//! builds on `mal_exec`: DELETE and UPDATE run their optimised plans over the store's columns.
 #![tactic(auto)]
 
 mod define;

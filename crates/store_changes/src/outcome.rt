@@ -1,6 +1,6 @@
-//! What a change comes to.
+//! The outcome of a change.
 
-use sql_semantics::Refusal;
+use sql_definitions::Refusal;
 use table_store::Change;
 
 /// A change that is prepared.
@@ -12,7 +12,7 @@ pub struct Ready {
     pub rows: Option<u64>,
 }
 
-/// What a change comes to.
+/// The outcome of a change.
 #[derive(Drop)]
 pub struct Outcome {
     /// The prepared change, or why the statement is refused.

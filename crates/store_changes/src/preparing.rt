@@ -1,15 +1,15 @@
-//! Changes, checked and prepared.
+//! Checks and prepares changes.
 ghost use Rattle.std.specs.Prelude.{◌≡◌, true, false, Ok, Err, Some, None, IfOk};
 ghost use Rattle.rows_to_mal.specs.Laws.{HoldsTables};
-ghost use Rattle.rows_to_mal.specs.Writes.{is_write};
+ghost use Rattle.rows_to_mal.specs.Writes.{is_write as is_write_of};
 ghost use Rattle.run_log.specs.Fold.{change_load, write_load};
 ghost use Rattle.run_log.specs.Touches.{touched_by};
 ghost use Rattle.sql_grammar.specs.Formed.{IsFormed};
-ghost use Rattle.sql_semantics.specs.Check.{check_refusal, sources_named, tables_of};
-ghost use Rattle.sql_semantics.specs.Effect.{effect};
-ghost use Rattle.sql_semantics.specs.Sources.{schema_of as schema_seen};
-ghost use Rattle.sql_semantics.specs.declared.refusal.Refusal.{Refusal as RefusalSeen};
-ghost use Rattle.sql_semantics.specs.Valid.{IsValid};
+ghost use Rattle.sql_definitions.specs.Check.{check_refusal, sources_named, tables_of};
+ghost use Rattle.sql_definitions.specs.Effect.{effect};
+ghost use Rattle.sql_definitions.specs.Sources.{schema_of as schema_seen};
+ghost use Rattle.sql_definitions.specs.declared.refusal.Refusal.{Refusal as RefusalSeen};
+ghost use Rattle.sql_definitions.specs.Valid.{IsValid};
 ghost use Rattle.sql_tree.specs.Tree.{stmt_tree};
 ghost use Rattle.store_changes.specs.Outcomes.{is_change, outcome_over};
 ghost use Rattle.store_changes.specs.Rewrites.{ComesTo};
@@ -24,15 +24,15 @@ use crate::schema::schema_of;
 use bat_core::Operate;
 use cell_core::{Memory, Steps};
 use sql_check::{CheckError, check, refusal_of};
-use sql_semantics::{Refusal, Schema, Typed};
+use sql_definitions::{Refusal, Schema, Typed};
 use sql_tree::Stmt;
 use std::alloc::Global;
 use std::sync::ledger::Ledger;
 use table_store::Store;
 
 /// Whether a statement is a DELETE or an UPDATE.
-fn is_rewrite(stmt: &Stmt) -> bool
-    ensures { result ≡ is_write (stmt_tree stmt.now) }
+fn is_write(stmt: &Stmt) -> bool
+    ensures { result ≡ is_write_of (stmt_tree stmt.now) }
 {
     match stmt {
         Stmt::Delete { .. } | Stmt::Update { .. } => true,
@@ -45,10 +45,10 @@ fn is_rewrite(stmt: &Stmt) -> bool
     }
 }
 
-/// What a CREATE, DROP, ALTER or INSERT comes to that the check accepts.
+/// The outcome of a CREATE, DROP, ALTER or INSERT that the check accepts.
 fn accept(alloc: Global, store: &Store, stmt: &Stmt) -> Result<Result<Ready, Refusal>, Memory>
     requires change { is_change (stmt_tree stmt.now) ≡ true }
-    requires whole { is_write (stmt_tree stmt.now) ≡ false }
+    requires whole { is_write_of (stmt_tree stmt.now) ≡ false }
     requires formed { IsFormed (stmt_tree stmt.now) }
     requires valid { IsValid store.now.db }
     requires accepted { check_refusal (stmt_tree stmt.now) (schema_seen store.now.db) ≡ None }
@@ -69,7 +69,7 @@ fn accept(alloc: Global, store: &Store, stmt: &Stmt) -> Result<Result<Ready, Ref
     }
 }
 
-/// What a CREATE, DROP, ALTER or INSERT comes to.
+/// The outcome of a CREATE, DROP, ALTER or INSERT.
 fn prepare_whole(
     alloc: Global,
     store: &Store,
@@ -77,7 +77,7 @@ fn prepare_whole(
     schema: &Schema,
 ) -> Result<Result<Ready, Refusal>, Memory>
     requires change { is_change (stmt_tree stmt.now) ≡ true }
-    requires whole { is_write (stmt_tree stmt.now) ≡ false }
+    requires whole { is_write_of (stmt_tree stmt.now) ≡ false }
     requires formed { IsFormed (stmt_tree stmt.now) }
     requires valid { IsValid store.now.db }
     requires schema { schema.now ≡ schema_seen store.now.db }
@@ -104,7 +104,7 @@ fn checked(alloc: Global, stmt: &Stmt, schema: &Schema) -> Result<Result<Typed, 
     }
 }
 
-/// What a checked DELETE or UPDATE comes to, or that it is refused.
+/// The outcome of a checked DELETE or UPDATE, or of one that the check refuses.
 fn rewrite_unless<E: Operate, L: Ledger>(
     alloc: Global,
     store: &Store,
@@ -112,7 +112,7 @@ fn rewrite_unless<E: Operate, L: Ledger>(
     kernel: &E,
     steps: &mut Steps<L>,
 ) -> Result<Outcome, Memory>
-    requires write { IfOk found (λ typed. is_write (stmt_tree typed.stmt) ≡ true) }
+    requires write { IfOk found (λ typed. is_write_of (stmt_tree typed.stmt) ≡ true) }
     requires held { IfOk found (λ typed. HoldsTables (stmt_tree typed.stmt) typed.sources store.now.db) }
     ensures comes { IfOk result (λ outcome. IfOk found (λ typed. ComesTo (stmt_tree typed.stmt) store.now outcome.ready)) }
     ensures work { IfOk result (λ outcome. IfOk found (λ typed. outcome.work ≡ change_load (stmt_tree typed.stmt) store.now.db)) }
@@ -131,7 +131,7 @@ fn rewrite_unless<E: Operate, L: Ledger>(
     }
 }
 
-/// What a DELETE or an UPDATE comes to.
+/// The outcome of a DELETE or an UPDATE.
 fn prepare_rewrite<E: Operate, L: Ledger>(
     alloc: Global,
     store: &Store,
@@ -140,7 +140,7 @@ fn prepare_rewrite<E: Operate, L: Ledger>(
     kernel: &E,
     steps: &mut Steps<L>,
 ) -> Result<Outcome, Memory>
-    requires write { is_write (stmt_tree stmt.now) ≡ true }
+    requires write { is_write_of (stmt_tree stmt.now) ≡ true }
     requires formed { IsFormed (stmt_tree stmt.now) }
     requires valid { IsValid store.now.db }
     requires schema { schema.now ≡ schema_seen store.now.db }
@@ -153,9 +153,9 @@ fn prepare_rewrite<E: Operate, L: Ledger>(
     Ok(outcome)
 }
 
-/// Checks a statement that is neither a query nor an EXPLAIN over the tables of a store, and prepares what
-/// it does to them, or tells why it is refused. Nothing changes yet: `Store::apply` does it then, and can't
-/// fail. DELETE and UPDATE run their optimised plan on the kernel.
+/// Checks a statement that is neither a query nor an EXPLAIN over the tables of a store. Prepares
+/// what it does to them, or returns why it is refused. Nothing changes yet: `Store::apply` makes
+/// the change then, and can't fail. DELETE and UPDATE run their optimised plan on the kernel.
 pub fn prepare<E: Operate, L: Ledger>(
     alloc: Global,
     store: &Store,
@@ -173,7 +173,7 @@ pub fn prepare<E: Operate, L: Ledger>(
     ensures counted { IfOk result (λ outcome. Counts steps.old steps.new outcome.work (write_lost (stmt_tree stmt.now) store.now.db)) }
 {
     let schema = schema_of(alloc, store)?;
-    if is_rewrite(stmt) {
+    if is_write(stmt) {
         return prepare_rewrite(alloc, store, stmt, &schema, kernel, steps);
     }
     let ready = prepare_whole(alloc, store, stmt, &schema)?;

@@ -1,19 +1,19 @@
 //! DELETE and UPDATE, by their plans.
 ghost use Rattle.std.specs.Prelude.{◌≡◌, true, Some, None, IfOk};
 ghost use Rattle.cell_core.specs.declared.table.Db.{Db as DbSeen};
+ghost use Rattle.cell_core.specs.Tables.{row_count};
 ghost use Rattle.mal_meaning.specs.Meaning.{plan_rows};
 ghost use Rattle.mal_meaning.specs.Runs.{Runs};
 ghost use Rattle.mal_opt.specs.Optimisers.{optimise as optimised};
 ghost use Rattle.rows_to_mal.specs.Laws.{HoldsTables};
 ghost use Rattle.rows_to_mal.specs.Writes.{is_write, write_plan};
 ghost use Rattle.run_log.specs.Fold.{change_load};
-ghost use Rattle.sql_semantics.specs.Effect.{effect};
-ghost use Rattle.sql_semantics.specs.declared.refusal.Reply.TheVariants.{Refused};
+ghost use Rattle.sql_definitions.specs.Effect.{effect};
+ghost use Rattle.sql_definitions.specs.declared.refusal.Reply.TheVariants.{Refused};
 ghost use Rattle.sql_tree.specs.Tree.{stmt_tree};
 ghost use Rattle.change_plans.specs.Decisions.{rises};
 ghost use Rattle.change_plans.specs.Hits.{changed_table};
 ghost use Rattle.table_store.specs.Changes.{NamesDiffer};
-ghost use Rattle.table_store.specs.Touches.{row_count};
 ghost use Rattle.store_changes.specs.Rewrites.{ComesTo, Removes, Sets, are_placed};
 ghost use Rattle.store_changes.specs.Work.{Counts, change_lost};
 
@@ -28,7 +28,7 @@ use mal_exec::run_plan;
 use mal_meaning::Plan;
 use mal_opt::optimise;
 use rows_to_mal::compile_write;
-use sql_semantics::{Refusal, Typed};
+use sql_definitions::{Refusal, Typed};
 use sql_tree::Stmt;
 use std::alloc::Global;
 use std::sync::ledger::Ledger;
@@ -59,21 +59,21 @@ fn plan_write(alloc: Global, typed: &Typed) -> Result<Plan, Memory>
     Ok(better)
 }
 
-/// Prepares that rows at these places go.
+/// Prepares the removal of the rows at these places.
 fn remove(alloc: Global, store: &Store, table: &Word, places: &[u64]) -> Result<Ready, Memory>
     requires differ { NamesDiffer store.now.db }
     requires rise { rises 0 (row_count table.now store.now.db) places.now ≡ true }
     ensures { IfOk result (Removes table.now places.now store.now) }
 {
     let flags = flags_of(alloc, places, store.row_count(table))?;
-    let change = store.keep_rows(alloc, table, &flags)?;
+    let change = store.drop_flagged_rows(alloc, table, &flags)?;
     Ok(Ready {
         change,
         rows: Some(places.len() as u64),
     })
 }
 
-/// Prepares that rows at these places get new cells in these columns.
+/// Prepares new cells in these columns for the rows at these places.
 fn set(
     alloc: Global,
     store: &Store,
@@ -95,7 +95,7 @@ fn set(
     })
 }
 
-/// What the rows of its plan make of a DELETE or an UPDATE.
+/// Prepares a DELETE or an UPDATE by the rows of its plan.
 fn carry_out(
     alloc: Global,
     store: &Store,
@@ -146,8 +146,8 @@ fn refusal_behind(alloc: Global, store: &Store, typed: &Typed) -> Result<Refusal
     Ok(refusal)
 }
 
-/// What a checked DELETE or UPDATE comes to: its plan runs over the columns of the store, and its rows say
-/// which rows go or get which cells.
+/// The outcome of a checked DELETE or UPDATE: its plan runs over the columns of the store, and its
+/// rows say which rows go or get which cells.
 pub(crate) fn rewrite<E: Operate, L: Ledger>(
     alloc: Global,
     store: &Store,

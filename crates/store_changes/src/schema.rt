@@ -1,10 +1,10 @@
 //! The tables of a store without their rows.
 ghost use Rattle.std.specs.Prelude.{◌≡◌, map, IfOk};
-ghost use Rattle.sql_semantics.specs.Sources.{schema_of as schema_seen};
+ghost use Rattle.sql_definitions.specs.Sources.{schema_of as schema_seen};
 ghost use Rattle.store_changes.specs.Schemas.{source_in};
 
 use cell_core::{Memory, Sequence, copy_columns};
-use sql_semantics::{Schema, Source};
+use sql_definitions::{Schema, Source};
 use std::alloc::Global;
 use table_store::{Heading, Store};
 
@@ -32,7 +32,7 @@ fn sources_of(alloc: Global, headings: &[Heading]) -> Result<Sequence<Source>, M
     Ok(sources)
 }
 
-/// What the tables of a store say without their rows, as the check has them.
+/// The tables of a store without their rows, as the check has them.
 #[tactic(auto, using(crate::proofs::SourceLemmas::sources_are))]
 pub fn schema_of(alloc: Global, store: &Store) -> Result<Schema, Memory>
     ensures { IfOk result (λ schema. schema ≡ schema_seen store.now.db) }

@@ -64,7 +64,7 @@ pub unnot : (b : Bool) → not b ≡ true → b ≡ false
 unnot true e = sym e
 unnot false e = refl
 
--- a cut lies in a span where the span doesn't begin behind it, and ends behind it
+-- a cut lies in a span where the span doesn't begin after it, and ends after it
 pub holds : (span : Span) (cut : Cut) → is_cut_below cut span.low ≡ false → is_cut_below cut span.high ≡ true → lies_in span cut ≡ true
 holds span cut low high = and_from (is_cut_up_to span.low cut) (is_cut_below cut span.high) (up_to_is span.low cut ∙ ap not low) high
 

@@ -106,7 +106,7 @@ module _ (target : Span) (entries : List Entry) where
   IsBehind None e = ⊥
   IsBehind (Some best) e = is_better e best ≡ false
 
-  -- the best entry doesn't begin behind the cut
+  -- the best entry doesn't begin after the cut
   abbrev pub IsOneOf : Cut → Option Entry → Type 0
   IsOneOf cut None = Unit {0}
   IsOneOf cut (Some best) = In best entries × (is_cut_below cut best.1.low ≡ false)
@@ -124,7 +124,7 @@ module _ (target : Span) (entries : List Entry) where
     pub behind : (e : Entry) → In e entries → In e es ⊎ IsBehind best e
     pub ascends : Ascends es
 
-  -- entries that begin behind the cut, or are no better than the best
+  -- entries that begin after the cut, or are no better than the best
   abbrev pub AreBehind : Cut → Option Entry → Type 0
   AreBehind cut best = (e : Entry) → In e entries → (is_cut_below cut e.1.low ≡ true) ⊎ IsBehind best e
 
@@ -149,7 +149,7 @@ module _ (target : Span) (entries : List Entry) where
         | inr worse ↦ worse
       ]
 
-  -- where the next entry begins behind the cut, so do all that are left
+  -- where the next entry begins after the cut, so do all that are left
   all_behind : (cut : Cut) (best : Option Entry) (e : Entry) (es : List Entry) → IsSwept cut best (e ∷ es) → (c : Cut) → is_cut_below c e.1.low ≡ true → AreBehind c best
   all_behind cut best e es known c low x h = elim (known.behind x h) [
     | inl left ↦ inl (elim left [
@@ -177,7 +177,7 @@ module _ (target : Span) (entries : List Entry) where
     | false ↦ λ lost. elim h [ inl is ↦ ap (λ y. is_better y best) is ∙ lost | inr worse ↦ worse ]
   ] refl
 
-  -- one more entry is behind
+  -- one more entry is passed
   consumed : (cut : Cut) (best : Option Entry) (e : Entry) (es : List Entry) → In e entries → is_cut_below cut e.1.low ≡ false → IsSwept cut best (e ∷ es) → IsSwept cut (Some (better_of best e)) es
   consumed cut best e es here low known = record {
     begun = known.begun;

@@ -45,7 +45,7 @@ best_found entries cut e apart best =
 -- ## A cutting is the function's
 
 module _ (target : Span) (entries : List Entry) where
-  -- behind the target no piece follows
+  -- after the target no piece follows
   none_behind : (cut : Cut) (pieces : List Entry) → is_cut_below cut target.high ≡ false → IsCutting target entries cut pieces → length pieces ≤ 0
   none_behind cut [] e known = omega arith
   none_behind cut (piece ∷ pieces) e known = let wrong : true ≡ false = sym known.0 ∙ e in cc
@@ -73,7 +73,7 @@ module _ (target : Span) (entries : List Entry) where
   pieces_few cut (piece ∷ pieces) known =
       one_piece cut piece known.1.0 pieces (in_from_contains entries known.1.0 known.1.1.0) known.1.1.1 known.1.2 known.2 (pieces_few piece.1.high pieces known.2)
 
-  -- what a step of the function gives
+  -- what a step of the function returns
   abbrev step : ℕ → Cut → Bool → Option Entry → Option (List Entry)
   step n cut below best = if below then option_and_then (λ (e : Entry). option_map (λ pieces. piece_of target cut e ∷ pieces) (cut_from n target entries (piece_of target cut e).1.high)) best else Some []
 

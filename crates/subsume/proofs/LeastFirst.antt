@@ -14,7 +14,7 @@ module _ {X : Type 0} where
   abbrev Rest : (X → X → Bool) → X → List X → Type 0
   Rest before x ys = (b : X) → ((Some b ≡ Some x) ⊎ In x ys) → ((z : X) → Some b ≡ Some z → IsLeastBeside before x z) → fold (λ best x. Some (option_map_or (λ b. if before x b then x else b) best x)) (Some b) ys ≡ Some x
 
-  -- the one that comes before all others is found, in whatever order they stand
+  -- the one that comes before all others is found, in whatever order they are
   pub least_first : (before : X → X → Bool) (x : X) (xs : List X) (best : Option X) → ((best ≡ Some x) ⊎ In x xs)
       → ((y : X) → best ≡ Some y → (y ≡ x) ⊎ ((before x y ≡ true) × (before y x ≡ false)))
       → ((y : X) → In y xs → (y ≡ x) ⊎ ((before x y ≡ true) × (before y x ≡ false)))

@@ -16,7 +16,7 @@ reached cut best = option_and_then (λ b. if is_cut_below cut b.1.high then Some
 abbrev pub better_of : Option Entry → Entry → Entry
 better_of best entry = option_map_or (λ b. if is_better entry b then entry else b) best entry
 
--- the pieces from a cut on, where the best of the entries behind is known, or None where a cut is reached that no entry holds
+-- the pieces from a cut on, where the best of the entries passed is known, or None where a cut is reached that no entry holds
 abbrev pub swept : Span → Cut → Option Entry → List Entry → Option (List Entry)
 swept target cut best [] =
     option_and_then (λ b. if is_cut_below (least_cut b.1.high target.high) target.high then None else Some (piece_of target cut b ∷ [])) (reached cut best)
@@ -140,6 +140,6 @@ drop_at f xs i x low is =
     let whole : drop i xs ≡ slice_index_or xs i x ∷ drop (suc i) xs = drop-cons xs i x low in
     ap (map f) whole ∙ ap (λ y. f y ∷ map f (drop (suc i) xs)) (sym is) ∙ ap (λ n. f x ∷ map f (drop n xs)) (sym (add-one i))
 
--- no element stands behind the end
+-- no element is after the end
 pub nothing_left : {X Y : Type 0} (f : X → Y) (xs : List X) (i : ℕ) → length xs ≤ i → map f (drop i xs) ≡ []
 nothing_left f xs i low = ap (map f) (drop_of_length-le xs low)

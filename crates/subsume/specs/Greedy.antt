@@ -28,7 +28,7 @@ cutting_of target entries = if is_cut_below target.low target.high then cut_from
 abbrev pub AreApart : List Entry → Type 0
 AreApart entries = (a b : Entry) → Contains entries a → Contains entries b → a.0 ≡ b.0 → a ≡ b
 
--- of entries with different ids, a cutting of a target that isn't empty is what the function gives, and nothing else is; it gives none where they don't cover the target
+-- of entries with different ids, a cutting of a target that isn't empty is what the function returns, and nothing else is; it returns none where they don't cover the target
 abbrev pub CuttingsAreFunctions : Type 0
 CuttingsAreFunctions = (target : Span) (entries : List Entry) → AreApart entries → is_cut_below target.low target.high ≡ true
     → ((pieces : List Entry) → IsCutting target entries target.low pieces ↔ (cutting_of target entries ≡ Some pieces))

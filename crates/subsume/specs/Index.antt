@@ -13,11 +13,11 @@ use Rattle.subsume.specs.declared.item.CutItem.{CutItem}
 abbrev pub item_cmp : CutItem → CutItem → Ordering
 item_cmp a b = ordering_then (ordering_then (nat_cmp a.parent b.parent) (cut_cmp a.span.low b.span.low)) (nat_cmp a.id b.id)
 
--- an item stands before another
+-- an item is before another
 abbrev pub is_item_below : CutItem → CutItem → Bool
 is_item_below a b = is_lt (item_cmp a b)
 
--- no later item stands before an earlier one
+-- no later item is before an earlier one
 abbrev pub Ascends : List CutItem → Type 0
 Ascends [] = Unit {0}
 Ascends (x ∷ xs) = AllByRecursion (λ y. is_item_below y x ≡ false) xs × Ascends xs

@@ -27,7 +27,7 @@ impl Model for CutIndex {
 }
 
 impl CutIndex {
-    /// An index without items, in which so many fit. No other call takes memory.
+    /// An index without items, with room for so many. No other call takes memory.
     pub fn new(alloc: Global, room: u64) -> Result<CutIndex, Memory>
         ensures items { IfOk result (λ index. index.items ≡ []) }
         ensures room { IfOk result (λ index. room ≤ index.room) }
@@ -55,7 +55,7 @@ impl CutIndex {
         }
     }
 
-    /// The items, of which none stands before an earlier one.
+    /// The items, of which none is before an earlier one in their order.
     pub fn as_slice(&self) -> &[CutItem]
         ensures items { result.now ≡ self.now.items }
         ensures ordered { Ascends result.now }
@@ -63,7 +63,7 @@ impl CutIndex {
         self.items.as_slice()
     }
 
-    /// Takes out the item of this parent that has this id, and gives its span back.
+    /// Removes the item of this parent that has this id, and returns its span.
     pub fn remove(&mut self, parent: u64, id: u64) -> Span
         requires { IsSome (position (is_at parent id) self.old.items) }
         ensures items { IfSome (position (is_at parent id) self.old.items)
@@ -86,7 +86,7 @@ impl CutIndex {
     }
 
     /// How many items have a parent below the given one, or, with `after`, at most the given one.
-    /// Each comparison counts a step: for n items s of them, where 2^s is at most 2n + 1.
+    /// Each comparison counts as a step: for n items s steps, where 2^s is at most 2n + 1.
     pub fn bound<L: Ledger>(&self, parent: u64, after: bool, steps: &mut Steps<L>) -> u64
         ensures count { result ≡ count_by (is_counted parent after) self.now.items }
         ensures steps { (s : ℕ) × (steps.new ≡ steps.old + s) × (2 ^ s ≤ 2 * length self.now.items + 1) }
@@ -151,7 +151,7 @@ fn counts(item: &CutItem, parent: u64, after: bool) -> bool
     }
 }
 
-/// Whether an item stands before another.
+/// Whether an item is before another.
 fn is_below(a: &CutItem, b: &CutItem) -> bool
     ensures { result ≡ is_item_below a.now b.now }
 {

@@ -1,9 +1,9 @@
 //! Which pooled selections contain a selection, and which cover it together.
 //!
-//! It stands on `cell_core` for cuts and spans. `within` says when one span lies in another, and
+//! It builds on `cell_core` for cuts and spans. `within` says when one span lies in another.
 //! `cover` cuts a target into pieces, each from the span that reaches farthest, exactly where the
-//! spans cover it. `CutIndex` keeps spans in order by what they select from, and finds where those of
-//! one parent stand by halves, in steps that are counted.
+//! spans cover it. `CutIndex` keeps spans in order by what they select from. It finds those of one
+//! parent by halves, in steps that are counted.
 #![tactic(auto)]
 
 mod index;

@@ -18,26 +18,26 @@ pub fn within(a: &Span, b: &Span) -> bool
     is_up_to(&b.low, &a.low) && is_up_to(&a.high, &b.high)
 }
 
-/// Whether a cut stands before another or at the same place.
+/// Whether a cut is before another or at the same place.
 fn is_up_to(a: &Cut, b: &Cut) -> bool
     ensures { result ≡ is_cut_up_to a.now b.now }
 {
     compare_cuts(a, b).is_le()
 }
 
-/// Whether a cut stands strictly before another.
+/// Whether a cut is strictly before another.
 fn is_below(a: &Cut, b: &Cut) -> bool
     ensures { result ≡ is_cut_below a.now b.now }
 {
     compare_cuts(a, b).is_lt()
 }
 
-/// Cuts a target into pieces of the given spans, which have ids: at the place that is reached so far
-/// the next piece is that of the span which holds it and reaches farthest, of those the one with the
-/// least id, and it goes up to that span's high or the target's.
+/// Cuts a target into pieces of the given spans, which have ids. The next piece begins at the place
+/// that is reached so far. It is that of the span which holds this place and reaches farthest, of
+/// those the one with the least id, and it goes up to that span's high or the target's.
 ///
-/// True exactly where the spans cover the target; then the pieces, each with its span's id, stand in
-/// `out` in order. `out` is empty on false and where memory runs out.
+/// True exactly where the spans cover the target; then `out` has the pieces in order, each with its
+/// span's id. `out` is empty on false and where memory runs out.
 pub fn cover(
     spans: &[(u64, Span)],
     target: &Span,
@@ -67,22 +67,22 @@ pub fn cover(
     }
 }
 
-/// The pieces of a cutting follow each other without gap from the target's low to its high, and none
-/// of them is empty: they are disjoint, in order, and lie in the target.
+/// The pieces of a cutting follow each other without gap from the target's low to its high, and
+/// none of them is empty: they are disjoint, in order, and lie in the target.
 pub fn cuttings_are_partitions()
     ensures { (target : Span) (entries pieces : List Entry)
         → IsCutting target entries target.low pieces → IsPartition target.low target.high pieces }
 {}
 
-/// The same holds of all pieces that cut up a target, however each span was chosen, and each of them
-/// lies in its span. The greedy cutting cuts up its target.
+/// The same holds of all pieces that cut up a target, however each span was chosen, and each of
+/// them lies in its span. The greedy cutting cuts up its target.
 pub fn pieces_follow()
     ensures greedy { CuttingsCutUp }
     ensures follow { PiecesFollow }
 {}
 
-/// Of spans with different ids, the cutting of a target that isn't empty is a function of them: `cover`
-/// gives exactly that, and there is none where they don't cover the target.
+/// Of spans with different ids, the cutting of a target that isn't empty is a function of them:
+/// `cover` returns exactly that, and there is none where they don't cover the target.
 pub fn cuttings_are_functions()
     ensures { CuttingsAreFunctions }
 {}
@@ -100,8 +100,8 @@ fn by_low<'a>(alloc: Global, spans: &'a [(u64, Span)]) -> Result<Vec<&'a (u64, S
     Ok(order)
 }
 
-/// Cuts the target by spans that stand in the order of their lows. False where a place is reached
-/// that none of them holds.
+/// Cuts the target by spans in the order of their lows. False where a place is reached that none of
+/// them holds.
 fn sweep(order: &[&(u64, Span)], target: &Span, out: &mut Vec<(u64, Span)>) -> Result<bool, Memory>
     requires empty { out.old.items ≡ [] }
     requires some { is_cut_below target.now.low target.now.high ≡ true }
@@ -169,7 +169,7 @@ fn beats(a: &(u64, Span), b: &(u64, Span)) -> bool
         .is_lt()
 }
 
-/// Adds the piece of a span that begins at a cut, and says where it ends.
+/// Adds the piece of a span that begins at a cut, and returns where it ends.
 fn push_piece(
     out: &mut Vec<(u64, Span)>,
     target: &Span,

@@ -60,7 +60,7 @@ before_append [] more (r ∷ rows) others even = absurd (omega arith)
 before_append (c ∷ cells) more [] others even = absurd (omega arith)
 before_append (c ∷ cells) more (r ∷ rows) others even = ap (λ x. (c ∷ r) ∷ x) (before_append cells more rows others (omega arith))
 
--- a row from a place on is its cell there, and what is behind
+-- a row from a place on is its cell there, and the cells after it
 parted : (place width : ℕ) (rows : List (List Cell)) → AreWide (place + suc width) rows
     → before_rows (column_cells place rows) (map (drop (place + 1)) rows) ≡ map (drop place) rows
 parted place width [] wide = refl

@@ -59,7 +59,7 @@ pub column_kept : (n : ℕ) (columns : List Pairs) (place : ℕ) → AllByRecurs
     → slice_index_or columns place [] ≡ numbered (column_cells place (rows_beside n columns))
 column_kept n columns place all within = each_numbered n columns place all within ∙ ap numbered (sym (cells_kept n columns place all within))
 
--- whatever stands for a column that isn't there
+-- a column that exists is the same, whichever default is used
 pub any_default : (columns : List Pairs) (place : ℕ) (a b : Pairs) → place < length columns → slice_index_or columns place a ≡ slice_index_or columns place b
 any_default [] place a b within = absurd (omega arith)
 any_default (c ∷ columns) zero a b within = refl

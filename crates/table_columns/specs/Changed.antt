@@ -1,4 +1,4 @@
--- Rows after a change: some are gone, or have other cells.
+-- Rows after a change: some are removed, or have other cells.
 use Rattle.std.specs.Prelude.{ℕ, ◌+◌, List, [], ◌∷◌, ◌++◌, map, zip, find, Bool, if◌then◌else◌, bytes_eq, slice_index_or, Option, Some, None}
 use Rattle.std.specs.List.{enumerate_from}
 use Rattle.cell_core.specs.declared.cell.Cell.{Cell}
@@ -41,7 +41,7 @@ set_rows sets columns at (hit ∷ hits) (row ∷ rows) = if hit then set_row set
 
 -- ## Inside: the same of columns
 
--- columns and behind each the cells of rows, from a place on
+-- columns, each followed by the cells of rows, from a place on
 abbrev pub grown_columns : ℕ → List Pairs → List (List Cell) → List Pairs
 grown_columns place columns rows = map (λ (at : ℕ × Pairs). numbered (tails_of at.1 ++ column_cells at.0 rows)) (enumerate_from place columns)
 

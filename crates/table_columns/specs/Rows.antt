@@ -12,7 +12,7 @@ pub record KeptTable : Type 0 where
   pub rows : List (List Cell)
   pub versions : List ℕ
 
--- each row has so many cells
+-- each row has this many cells
 abbrev pub AreWide : ℕ → List (List Cell) → Type 0
 AreWide width rows = AllByRecursion (λ (row : List Cell). length row ≡ width) rows
 
@@ -30,7 +30,7 @@ before_rows [] rows = []
 before_rows (cell ∷ cells) [] = []
 before_rows (cell ∷ cells) (row ∷ rows) = (cell ∷ row) ∷ before_rows cells rows
 
--- so many rows, of these columns
+-- this many rows of these columns
 abbrev pub rows_beside : ℕ → List Pairs → List (List Cell)
 rows_beside count [] = replicate count []
 rows_beside count (column ∷ columns) = before_rows (tails_of column) (rows_beside count columns)
@@ -39,7 +39,7 @@ rows_beside count (column ∷ columns) = before_rows (tails_of column) (rows_bes
 abbrev pub row_cells : ℕ → List Pairs → List Cell
 row_cells at columns = map (λ (column : Pairs). slice_index_or (tails_of column) at Nil) columns
 
--- the cells of a column are so many, each beside its number
+-- a column has this many cells, each beside its number
 pub record IsColumn (count : ℕ) (column : Pairs) : Type 0 where
   pub cells : length column ≡ count
   pub heads : column ≡ numbered (tails_of column)

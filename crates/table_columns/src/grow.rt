@@ -10,7 +10,7 @@ use bat_core::{Cells, CellsBuilder, Shared};
 use cell_core::{Cell, Memory, Sequence};
 use std::alloc::Global;
 
-/// The columns, and behind the cells of each those of more rows.
+/// The columns, each with the cells of more rows after its own.
 pub(crate) fn followed_columns(
     alloc: Global,
     columns: &[Shared],
@@ -29,7 +29,7 @@ pub(crate) fn followed_columns(
     Ok(out)
 }
 
-/// The cells of a column, and behind them those of rows at a place. The full chunks are shared.
+/// The cells of a column, followed by those of rows at a place. The full chunks are shared.
 fn followed_column(
     alloc: Global,
     column: &Shared,

@@ -19,18 +19,18 @@ use cell_core::{Cell, Column, Memory, Sequence, Word};
 use std::alloc::Global;
 use std::marker::Model;
 
-/// The rows of a table as columns, each a BAT whose heads are the oids from 0, and beside each column its
-/// version. Contracts see the rows.
-pub struct Kept {
+/// The rows of a table as columns, each a BAT whose heads are the oids from 0, and beside each
+/// column its version. Contracts see the rows.
+pub struct TableColumns {
     columns: Vec<Shared>,
     versions: Vec<u64>,
     count: u64,
 }
 
-// By a call of its own, so that proofs needn't go through its forms where one is let go.
-impl Drop for Kept {
+// By a call of its own, so that proofs needn't go through its forms where one is dropped.
+impl Drop for TableColumns {
     fn drop(self) {
-        let Kept {
+        let TableColumns {
             columns: _,
             versions: _,
             count: _,
@@ -38,7 +38,7 @@ impl Drop for Kept {
     }
 }
 
-impl Model for Kept {
+impl Model for TableColumns {
     ghost use Rattle.table_columns.specs.Rows.{KeptTable, AreColumns, kept_from};
 
     ghost Value = { KeptTable };
@@ -48,14 +48,14 @@ impl Model for Kept {
     ghost invariant = { λ k. AreColumns k.count k.columns.items k.versions.items };
 }
 
-impl Kept {
+impl TableColumns {
     /// That many columns, and no rows. Each column has the version 0.
-    pub fn new(alloc: Global, width: usize) -> Result<Kept, Memory>
+    pub fn new(alloc: Global, width: usize) -> Result<TableColumns, Memory>
         ensures { IfOk result (λ kept. kept ≡ record { width = width; rows = []; versions = replicate width 0 }) }
     {
         let columns = empty_columns(alloc, width)?;
         let versions = zeros(alloc, width)?;
-        Ok(Kept {
+        Ok(TableColumns {
             columns,
             versions,
             count: 0,
@@ -86,7 +86,7 @@ impl Kept {
         share_at(&self.columns, place)
     }
 
-    /// The rows, made anew.
+    /// The rows, as a new list.
     pub fn rows(&self, alloc: Global) -> Result<Sequence<Sequence<Cell>>, Memory>
         ensures { IfOk result (λ rows. rows ≡ self.now.rows) }
     {
@@ -94,76 +94,80 @@ impl Kept {
     }
 
     /// The same rows, in columns that both share.
-    pub fn share(&self, alloc: Global) -> Result<Kept, Memory>
+    pub fn share(&self, alloc: Global) -> Result<TableColumns, Memory>
         ensures { IfOk result (λ kept. kept ≡ self.now) }
     {
-        Ok(Kept {
+        Ok(TableColumns {
             columns: share_columns(alloc, &self.columns)?,
             versions: copy_versions(alloc, &self.versions)?,
             count: self.count,
         })
     }
 
-    /// The same rows, in columns that both share, and at the end of each row one more cell. Its column has
-    /// the version 0.
-    pub fn with_column(&self, alloc: Global, cell: &Cell) -> Result<Kept, Memory>
+    /// The same rows, in columns that both share, and at the end of each row one more cell. Its
+    /// column has the version 0.
+    pub fn with_column(&self, alloc: Global, cell: &Cell) -> Result<TableColumns, Memory>
         ensures { IfOk result (λ kept. kept ≡ record { width = self.now.width + 1; rows = map (λ (row : List CellSeen). row ++ cell.now ∷ []) self.now.rows; versions = self.now.versions ++ 0 ∷ [] }) }
     {
-        Ok(Kept {
+        Ok(TableColumns {
             columns: columns_and(alloc, &self.columns, cell, self.count)?,
             versions: versions_and_zero(alloc, &self.versions)?,
             count: self.count,
         })
     }
 
-    /// The same rows, and more behind them. The full chunks of the columns are shared.
-    pub fn followed_by(&self, alloc: Global, rows: &[Sequence<Cell>]) -> Result<Kept, Memory>
+    /// The same rows, followed by more. The full chunks of the columns are shared.
+    pub fn followed_by(
+        &self,
+        alloc: Global,
+        rows: &[Sequence<Cell>],
+    ) -> Result<TableColumns, Memory>
         requires { AreWide self.now.width rows.now }
         ensures { IfOk result (λ kept. kept ≡ record self.now { rows = self.now.rows ++ rows.now }) }
     {
         let Some(count) = self.count.checked_add(rows.len() as u64) else {
             return Err(Memory);
         };
-        Ok(Kept {
+        Ok(TableColumns {
             columns: followed_columns(alloc, &self.columns, rows)?,
             versions: copy_versions(alloc, &self.versions)?,
             count,
         })
     }
 
-    /// The rows beside which there is no flag.
-    pub fn without(&self, alloc: Global, gone: &[bool]) -> Result<Kept, Memory>
+    /// The rows without a flag.
+    pub fn without(&self, alloc: Global, gone: &[bool]) -> Result<TableColumns, Memory>
         requires { length gone.now ≡ length self.now.rows }
         ensures { IfOk result (λ kept. kept ≡ record self.now { rows = unflagged gone.now self.now.rows }) }
     {
-        Ok(Kept {
+        Ok(TableColumns {
             columns: left_columns(alloc, &self.columns, gone)?,
             versions: copy_versions(alloc, &self.versions)?,
             count: count_left(gone) as u64,
         })
     }
 
-    /// The same rows, but those with a flag have other cells in the columns that are set: the first with a
-    /// flag has the first cell of each set, and so on. Columns that aren't set are shared.
+    /// The same rows, but those with a flag have other cells in the columns that are set: the first
+    /// with a flag has the first cell of each set, and so on. Columns that aren't set are shared.
     pub fn with_cells(
         &self,
         alloc: Global,
         columns: &[Column],
         hits: &[bool],
         sets: &[(Word, Cells)],
-    ) -> Result<Kept, Memory>
+    ) -> Result<TableColumns, Memory>
         requires columns { length columns.now ≡ self.now.width }
         requires hits { length hits.now ≡ length self.now.rows }
         ensures { IfOk result (λ kept. kept ≡ record self.now { rows = set_rows sets.now columns.now 0 hits.now self.now.rows }) }
     {
-        Ok(Kept {
+        Ok(TableColumns {
             columns: changed_columns(alloc, &self.columns, columns, hits, sets)?,
             versions: copy_versions(alloc, &self.versions)?,
             count: self.count,
         })
     }
 
-    /// Gives the columns with one of these names a version. It takes no memory.
+    /// Sets the version of the columns with one of these names. It takes no memory.
     pub fn stamp(&mut self, columns: &[Column], names: &[Word], version: u64)
         requires { length columns.now ≡ self.old.width }
         ensures { self.new ≡ record self.old { versions = stamped names.now version columns.now self.old.versions } }

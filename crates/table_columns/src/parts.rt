@@ -17,7 +17,7 @@ pub(crate) fn empty_columns(alloc: Global, count: usize) -> Result<Vec<Shared>, 
     Ok(columns)
 }
 
-/// That many versions 0.
+/// This many versions, each 0.
 pub(crate) fn zeros(alloc: Global, count: usize) -> Result<Vec<u64>, Memory>
     ensures { IfOk result (λ versions. versions.items ≡ replicate count 0) }
 {
@@ -47,7 +47,6 @@ pub(crate) fn share_at(columns: &[Shared], place: usize) -> Result<Shared, Memor
     columns[place].share()
 }
 
-/// The same versions.
 pub(crate) fn copy_versions(alloc: Global, versions: &[u64]) -> Result<Vec<u64>, Memory>
     ensures { IfOk result (λ copy. copy.items ≡ versions.now) }
 {
@@ -64,7 +63,7 @@ pub(crate) fn numbered_column(alloc: Global, cells: Cells) -> Result<Shared, Mem
     Shared::new(alloc, Bat::from_columns(heads, cells))
 }
 
-/// The same columns, which both share, and behind them one that has the same cell in each row.
+/// The same columns, which both share, followed by one that has the same cell in each row.
 pub(crate) fn columns_and(
     alloc: Global,
     columns: &[Shared],
@@ -79,7 +78,7 @@ pub(crate) fn columns_and(
     Ok(out)
 }
 
-/// The same versions, and behind them 0.
+/// The same versions, followed by 0.
 pub(crate) fn versions_and_zero(alloc: Global, versions: &[u64]) -> Result<Vec<u64>, Memory>
     ensures { IfOk result (λ out. out.items ≡ versions.now ++ 0 ∷ []) }
 {

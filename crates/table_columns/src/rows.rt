@@ -1,4 +1,4 @@
-//! Rows, made anew from their columns.
+//! Rows, made from their columns.
 ghost use Rattle.std.specs.Prelude.{◌≡◌, ◌<◌, length, slice_index_or, IfOk};
 ghost use Rattle.std.specs.List.{AllByRecursion};
 ghost use Rattle.cell_core.specs.declared.cell.Cell.TheVariants.{Nil};
@@ -9,7 +9,7 @@ use bat_core::Shared;
 use cell_core::{Cell, Memory, Sequence};
 use std::alloc::Global;
 
-/// So many rows, of these columns.
+/// The rows of these columns, which have `count` cells each.
 pub(crate) fn rows_of(
     alloc: Global,
     columns: &[Shared],

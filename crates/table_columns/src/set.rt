@@ -11,7 +11,8 @@ use bat_core::{Cells, CellsBuilder, Shared};
 use cell_core::{Cell, Column, Memory, Word};
 use std::alloc::Global;
 
-/// The columns, of which those that are set have other cells where there is a flag. The others are shared.
+/// The columns, of which those that are set have other cells where there is a flag. The others are
+/// shared.
 pub(crate) fn changed_columns(
     alloc: Global,
     stored: &[Shared],
@@ -105,7 +106,7 @@ fn changed_cells(
     out.finish(alloc)
 }
 
-/// The cell at a place, or where there is a flag the one at a place of others, if it is there.
+/// The cell at a place, or, where there is a flag, the one at a place of others, if it exists.
 fn cell_after(cells: &Cells, place: u64, others: &Cells, at: u64, hit: bool) -> Result<Cell, Memory>
     requires { place < length cells.now }
     ensures { IfOk result (λ cell. cell ≡ (if hit then slice_index_or others.now at (slice_index_or cells.now place Nil) else slice_index_or cells.now place Nil)) }
@@ -117,7 +118,7 @@ fn cell_after(cells: &Cells, place: u64, others: &Cells, at: u64, hit: bool) -> 
     }
 }
 
-/// One place further where there is a flag.
+/// The place, one further where there is a flag.
 fn behind(at: u64, hit: bool) -> u64
     requires { at < 2 ^ 60 }
     ensures { result ≡ (if hit then at + 1 else at) }

@@ -5,7 +5,7 @@ ghost use Rattle.table_columns.specs.Rows.{stamped};
 
 use cell_core::{Column, Word};
 
-/// Gives the columns with one of these names a version.
+/// Sets the version of the columns with one of these names.
 pub(crate) fn stamp_versions(columns: &[Column], versions: &mut [u64], names: &[Word], version: u64)
     requires { length versions.old ≡ length columns.now }
     ensures { versions.new ≡ stamped names.now version columns.now versions.old }

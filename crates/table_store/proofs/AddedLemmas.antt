@@ -8,13 +8,12 @@ use Rattle.std.proofs.lemmas.Slice.Eq.{bytes_eq-Decides}
 use Rattle.cell_core.specs.declared.table.Column.{Column}
 use Rattle.cell_core.specs.declared.table.Table.{Table}
 use Rattle.cell_core.specs.declared.table.Db.{Db}
-use Rattle.cell_core.specs.Tables.{first_named}
+use Rattle.cell_core.specs.Tables.{all_columns, first_named, has_column, names_in}
 use Rattle.table_store.specs.declared.heading.Heading.{Heading}
 use Rattle.table_columns.specs.Rows.{KeptTable}
-use Rattle.table_store.specs.Content.{column_version, has_column, version_in}
+use Rattle.table_store.specs.Content.{column_version, version_in}
 use Rattle.table_store.specs.Kept.{AreKept, IsKept, heading_place, headings_without, kept_without, table_from, tables_from}
 use Rattle.table_store.specs.Changes.{with_table, without_table}
-use Rattle.table_store.specs.Touches.{all_columns, names_in}
 use Rattle.table_store.proofs.VersionLemmas.{versions_from}
 use Rattle.table_store.proofs.TableLemmas.{kept_more, tables_more, versions_long, versions_more}
 

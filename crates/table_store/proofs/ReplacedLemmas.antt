@@ -6,13 +6,13 @@ use Rattle.cell_core.specs.declared.cell.Cell.{Cell}
 use Rattle.cell_core.specs.declared.table.Column.{Column}
 use Rattle.cell_core.specs.declared.table.Table.{Table}
 use Rattle.cell_core.specs.declared.table.Db.{Db}
-use Rattle.cell_core.specs.Tables.{named_table}
+use Rattle.cell_core.specs.Tables.{named_table, row_count}
 use Rattle.table_columns.specs.Rows.{KeptTable}
 use Rattle.table_store.specs.declared.heading.Heading.{Heading}
 use Rattle.table_store.specs.Changes.{NamesDiffer, columns_of, rows_of, with_last_column, with_rows}
 use Rattle.table_store.specs.Content.{Content, version_in, version_of}
 use Rattle.table_store.specs.Kept.{IsKept, heading_at, kept_at, rows_at, table_at, table_from, table_place}
-use Rattle.table_store.specs.Touches.{columns_beside, row_count, whole_columns}
+use Rattle.table_store.specs.Touches.{columns_beside, whole_columns}
 use Rattle.table_store.proofs.PlaceLemmas.{longer_version, named_there, none_changes, not_named, one_changes, rows_version}
 
 -- ## The table is there

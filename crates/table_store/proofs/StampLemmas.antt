@@ -5,10 +5,11 @@ use Rattle.std.specs.List.{list_any}
 use Rattle.std.proofs.lemmas.Bool.{and_parts}
 use Rattle.std.proofs.lemmas.Slice.Eq.{bytes_eq-Decides}
 use Rattle.cell_core.specs.declared.table.Db.{Db}
+use Rattle.cell_core.specs.Tables.{has_column}
 use Rattle.table_columns.specs.Rows.{KeptTable}
 use Rattle.table_store.specs.declared.heading.Heading.{Heading}
 use Rattle.pool_policy.specs.declared.touched.Touched.{Touched}
-use Rattle.table_store.specs.Content.{has_column, version_in}
+use Rattle.table_store.specs.Content.{version_in}
 use Rattle.table_store.specs.Kept.{AreKept, heading_place, stamped_at, tables_from}
 use Rattle.pool_policy.specs.Versions.{is_of}
 use Rattle.table_store.proofs.AddedLemmas.{not_found}
@@ -66,7 +67,7 @@ module _ (touched : Touched) (version : ℕ) (headings : List Heading) (kept : L
   others_is place ks is at table column none =
       ap (λ (x : List KeptTable). version_in table column (tables_from headings x) (versions_from x)) is ∙ others_stamped place at table column none
 
--- a list behind which others are cut off
+-- a list after which others are cut off
 pub all_taken : (n : ℕ) (xs ys : List KeptTable) → n ≡ length xs → take n (xs ++ ys) ≡ xs
 all_taken zero [] ys e = refl
 all_taken zero (x ∷ xs) ys e = absurd (omega arith)

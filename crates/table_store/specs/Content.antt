@@ -1,18 +1,15 @@
 -- A database with one version for each column.
-use Rattle.std.specs.Prelude.{ℕ, List, [], ◌∷◌, Bool, false, if◌then◌else◌, bytes_eq}
-use Rattle.std.specs.List.{list_any}
-use Rattle.std.specs.Option.{option_map_or}
+use Rattle.std.specs.Prelude.{ℕ, List, [], ◌∷◌, if◌then◌else◌, bytes_eq}
 use Rattle.cell_core.specs.declared.table.Column.{Column}
 use Rattle.cell_core.specs.declared.table.Table.{Table}
 use Rattle.cell_core.specs.declared.table.Db.{Db}
-use Rattle.cell_core.specs.Tables.{named_table}
 
--- the versions stand for each table in the order of its columns
+-- the versions of each table are in the order of its columns
 pub record Content : Type 0 where
   pub db : Db
   pub versions : List (List ℕ)
 
--- the version that stands beside the first column with this name, or 0
+-- the version beside the first column with this name, or 0
 abbrev pub column_version : List ℕ → List Column → List ℕ → ℕ
 column_version name [] versions = 0
 column_version name (column ∷ columns) [] = 0
@@ -27,7 +24,3 @@ version_in table column (t ∷ tables) (v ∷ versions) = if bytes_eq t.name tab
 -- the version of a column, which is 0 where there is no such column
 abbrev pub version_of : List ℕ → List ℕ → Content → ℕ
 version_of table column content = version_in table column content.db.tables content.versions
-
--- the database has a table with this column
-abbrev pub has_column : List ℕ → List ℕ → Db → Bool
-has_column table column db = option_map_or (λ (t : Table). list_any (λ (c : Column). bytes_eq c.name column) t.columns) (named_table table db) false

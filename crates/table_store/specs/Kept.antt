@@ -1,4 +1,4 @@
--- Tables that are kept as columns; private contracts alone speak of them.
+-- Tables that are kept as columns; only private contracts use them.
 use Rattle.std.specs.Prelude.{◌≡◌, ℕ, suc, List, [], ◌∷◌, length, map, if◌then◌else◌, bytes_eq, slice_index_or, slice_set, Option, Some, None}
 use Rattle.std.specs.Option.{option_map}
 use Rattle.cell_core.specs.declared.cell.Cell.{Cell}
@@ -69,7 +69,7 @@ abbrev pub stamped_at : List (List ℕ) → ℕ → List Heading → ℕ → Lis
 stamped_at names version headings place kept =
     slice_set kept place (stamped_table names version (slice_index_or headings place (record { name = []; columns = [] })).columns (slice_index_or kept place (record { width = 0; rows = []; versions = [] })))
 
--- ## A table that goes
+-- ## A table that is removed
 
 -- the tables that don't have this name
 abbrev pub headings_without : List ℕ → List Heading → List Heading

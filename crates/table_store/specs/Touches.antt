@@ -1,5 +1,5 @@
--- What there is to be touched of a table.
-use Rattle.std.specs.Prelude.{ℕ, List, [], length, map}
+-- What a change can touch of a table.
+use Rattle.std.specs.Prelude.{ℕ, List, [], map}
 use Rattle.std.specs.List.{enumerate_from}
 use Rattle.std.specs.Option.{option_map_or}
 use Rattle.cell_core.specs.declared.cell.Cell.{Cell}
@@ -10,21 +10,10 @@ use Rattle.cell_core.specs.Pairs.{Pairs, numbered}
 use Rattle.cell_core.specs.Relations.{column_cells}
 use Rattle.cell_core.specs.Tables.{named_table}
 
-abbrev pub names_in : List Column → List (List ℕ)
-names_in columns = map (λ (c : Column). c.name) columns
-
--- the names of all columns of a table
-abbrev pub all_columns : List ℕ → Db → List (List ℕ)
-all_columns table db = option_map_or (λ (t : Table). names_in t.columns) (named_table table db) []
-
--- how many rows a table has, 0 where it isn't there
-abbrev pub row_count : List ℕ → Db → ℕ
-row_count table db = option_map_or (λ (t : Table). length t.rows) (named_table table db) 0
-
 -- the names of columns from a place on, each beside the cells of the rows there
 abbrev pub columns_beside : ℕ → List Column → List (List Cell) → List (List ℕ × Pairs)
 columns_beside place columns rows = map (λ (at : ℕ × Column). (at.1.name, numbered (column_cells at.0 rows))) (enumerate_from place columns)
 
--- the columns of a table, each under its name, and none where the table isn't there
+-- the columns of a table, each under its name, and none where the table doesn't exist
 abbrev pub whole_columns : List ℕ → Db → List (List ℕ × Pairs)
 whole_columns table db = option_map_or (λ (t : Table). columns_beside 0 t.columns t.rows) (named_table table db) []

@@ -1,15 +1,15 @@
-//! Changes that are prepared.
+//! Prepared changes.
 ghost use Rattle.std.specs.Prelude.{◌≡◌};
 
-use crate::tables::Tables;
+use crate::tables::StoredTables;
 use pool_policy::Touched;
 use std::marker::Model;
 
-/// A change that is prepared: it has all its memory, and what it leaves is computed. Contracts see the
-/// content once it is there, and what it touches.
+/// A prepared change: it has all its memory, and the content after it is computed. Contracts see
+/// that content, and what the change touches.
 #[derive(Drop)]
 pub struct Change {
-    pub(crate) tables: Tables,
+    pub(crate) tables: StoredTables,
     pub(crate) touched: Touched,
 }
 

@@ -1,23 +1,28 @@
 //! Tables of which one changes. The columns that stay are shared.
 ghost use Rattle.std.specs.Prelude.{◌≡◌, ℕ, ◌<◌, ◌++◌, List, length, IfOk, IfSome};
 ghost use Rattle.cell_core.specs.declared.table.Table.{Table};
-ghost use Rattle.cell_core.specs.Tables.{named_table};
+ghost use Rattle.cell_core.specs.Tables.{named_table, row_count};
 ghost use Rattle.table_columns.specs.Rows.{AreWide};
 ghost use Rattle.table_columns.specs.Changed.{set_rows, unflagged};
 ghost use Rattle.table_store.specs.Content.{version_of};
 ghost use Rattle.table_store.specs.Changes.{NamesDiffer, columns_of, rows_of, with_last_column, with_rows};
 ghost use Rattle.table_store.specs.Kept.{kept_at, rows_at};
-ghost use Rattle.table_store.specs.Touches.{columns_beside, row_count, whole_columns};
+ghost use Rattle.table_store.specs.Touches.{columns_beside, whole_columns};
 
-use crate::tables::{Tables, copy_heading, heading_and};
+use crate::tables::{StoredTables, copy_heading, heading_and};
 use bat_core::{Cells, Shared};
 use cell_core::{Cell, Column, Memory, Sequence, Word};
 use std::alloc::Global;
-use table_columns::Kept;
+use table_columns::TableColumns;
 
-impl Tables {
+impl StoredTables {
     /// The table with this name has one more column at its end, with its default in each row.
-    pub fn with_column(&self, alloc: Global, name: &Word, column: Column) -> Result<Tables, Memory>
+    pub fn with_column(
+        &self,
+        alloc: Global,
+        name: &Word,
+        column: Column,
+    ) -> Result<StoredTables, Memory>
         requires { NamesDiffer self.now.db }
         ensures db { IfOk result (λ tables. tables.db ≡ with_last_column name.now column self.now.db) }
         ensures others { IfOk result (λ tables. (table column : List ℕ) → version_of table column tables ≡ version_of table column self.now) }
@@ -32,13 +37,13 @@ impl Tables {
         Ok(tables)
     }
 
-    /// The table with this name has more rows behind the others.
+    /// The table with this name has more rows after the others.
     pub fn with_more_rows(
         &self,
         alloc: Global,
         name: &Word,
         rows: &[Sequence<Cell>],
-    ) -> Result<Tables, Memory>
+    ) -> Result<StoredTables, Memory>
         requires differ { NamesDiffer self.now.db }
         requires wide { IfSome (named_table name.now self.now.db) (λ (table : Table). AreWide (length table.columns) rows.now) }
         ensures db { IfOk result (λ tables. tables.db ≡ with_rows name.now (rows_of name.now self.now.db ++ rows.now) self.now.db) }
@@ -54,7 +59,12 @@ impl Tables {
     }
 
     /// The table with this name lacks the rows that have a flag.
-    pub fn without_rows(&self, alloc: Global, name: &Word, gone: &[bool]) -> Result<Tables, Memory>
+    pub fn without_rows(
+        &self,
+        alloc: Global,
+        name: &Word,
+        gone: &[bool],
+    ) -> Result<StoredTables, Memory>
         requires differ { NamesDiffer self.now.db }
         requires flags { length gone.now ≡ row_count name.now self.now.db }
         ensures db { IfOk result (λ tables. tables.db ≡ with_rows name.now (unflagged gone.now (rows_of name.now self.now.db)) self.now.db) }
@@ -76,7 +86,7 @@ impl Tables {
         name: &Word,
         hits: &[bool],
         sets: &[(Word, Cells)],
-    ) -> Result<Tables, Memory>
+    ) -> Result<StoredTables, Memory>
         requires differ { NamesDiffer self.now.db }
         requires flags { length hits.now ≡ row_count name.now self.now.db }
         ensures db { IfOk result (λ tables. tables.db ≡ with_rows name.now (set_rows sets.now (columns_of name.now self.now.db) 0 hits.now (rows_of name.now self.now.db)) self.now.db) }
@@ -93,7 +103,12 @@ impl Tables {
     }
 
     /// The table at a place has other rows.
-    fn with_rows_at(&self, alloc: Global, place: usize, kept: Kept) -> Result<Tables, Memory>
+    fn with_rows_at(
+        &self,
+        alloc: Global,
+        place: usize,
+        kept: TableColumns,
+    ) -> Result<StoredTables, Memory>
         requires within { place < length self.now.db.tables }
         requires width { kept.width ≡ (kept_at place self.now).width }
         requires versions { kept.versions ≡ (kept_at place self.now).versions }
@@ -116,7 +131,7 @@ impl Tables {
         }
     }
 
-    /// The rows of the table with this name, made anew.
+    /// The rows of the table with this name, as a new list.
     pub fn rows(&self, alloc: Global, name: &Word) -> Result<Sequence<Sequence<Cell>>, Memory>
         ensures { IfOk result (λ rows. rows ≡ rows_of name.now self.now.db) }
     {
@@ -147,7 +162,7 @@ impl Tables {
 fn name_columns(
     alloc: Global,
     columns: &[Column],
-    kept: &Kept,
+    kept: &TableColumns,
 ) -> Result<Sequence<(Word, Shared)>, Memory>
     requires { length columns.now ≡ kept.now.width }
     ensures { IfOk result (λ named. named ≡ columns_beside 0 columns.now kept.now.rows) }

@@ -9,7 +9,7 @@ pub struct Heading {
     pub columns: Sequence<Column>,
 }
 
-// By a call of its own, so that proofs needn't go through its forms where one is let go.
+// By a call of its own, so that proofs needn't go through its forms where one is dropped.
 impl Drop for Heading {
     fn drop(self) {
         let Heading {

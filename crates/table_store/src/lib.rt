@@ -1,8 +1,8 @@
 //! The tables of a run, kept as columns.
 //!
-//! It stands below SQL, on `table_columns`: a database here is what tables there are, under names, with
-//! columns, rows, and a version for each column. `Store` is the present one, `Snap` the one of an earlier
-//! moment, and a `Change` is prepared first and then applied, which can't fail.
+//! It is below SQL and uses `table_columns`: a database here is a list of named tables with
+//! columns, rows, and a version for each column. `Store` is the present one, `Snap` the one of an
+//! earlier moment. A `Change` is prepared first and then applied, which can't fail.
 #![tactic(auto)]
 
 mod change;

@@ -2,18 +2,18 @@
 ghost use Rattle.std.specs.Prelude.{◌≡◌, ℕ, List, [], ◌∷◌, ◌++◌, length, map, true, false, None, Some, IfOk, IfSome};
 ghost use Rattle.cell_core.specs.declared.table.Table.{Table};
 ghost use Rattle.cell_core.specs.Relations.{bound};
-ghost use Rattle.cell_core.specs.Tables.{named_table};
+ghost use Rattle.cell_core.specs.Tables.{all_columns, has_column, named_table, names_in, row_count};
 ghost use Rattle.table_columns.specs.Rows.{AreWide};
 ghost use Rattle.table_columns.specs.Changed.{NewCells, set_rows, unflagged};
-ghost use Rattle.table_store.specs.Content.{has_column, version_of};
+ghost use Rattle.table_store.specs.Content.{version_of};
 ghost use Rattle.table_store.specs.Headings.{headings_of};
 ghost use Rattle.table_store.specs.Changes.{IsPrepared, NamesDiffer, columns_of, rows_of, with_last_column, with_rows, with_table, without_table};
-ghost use Rattle.table_store.specs.Touches.{all_columns, names_in, row_count, whole_columns};
+ghost use Rattle.table_store.specs.Touches.{whole_columns};
 ghost use Rattle.pool_policy.specs.Versions.{is_of};
 
 use crate::change::Change;
 use crate::heading::Heading;
-use crate::tables::{Tables, touch_one};
+use crate::tables::{StoredTables, touch_one};
 use crate::touched::{one_name, set_names, touch};
 use bat_core::{Cells, Columns, Shared};
 use cell_core::{Cell, Column, Memory, Sequence, Word};
@@ -23,7 +23,7 @@ use std::marker::Model;
 /// The tables of a run. Contracts see a database with one version for each column.
 #[derive(Drop)]
 pub struct Store {
-    tables: Tables,
+    tables: StoredTables,
 }
 
 impl Model for Store {
@@ -34,11 +34,11 @@ impl Model for Store {
     ghost view = { λ s. s.tables };
 }
 
-/// The tables as they were when the snapshot was taken. It shares the columns, so it costs as much as
-/// there are columns, whatever their length.
+/// The tables as they were when the snapshot was taken. It shares the columns, so it costs as much
+/// as there are columns, whatever their length.
 #[derive(Drop)]
 pub struct Snap {
-    tables: Tables,
+    tables: StoredTables,
 }
 
 impl Model for Snap {
@@ -56,7 +56,7 @@ impl Store {
         ensures versions { result.versions ≡ [] }
     {
         Store {
-            tables: Tables::new(alloc),
+            tables: StoredTables::new(alloc),
         }
     }
 
@@ -74,21 +74,21 @@ impl Store {
         self.tables.version(table, column)
     }
 
-    /// How many rows a table has, 0 where it isn't there.
+    /// How many rows a table has, 0 where it doesn't exist.
     pub fn row_count(&self, table: &Word) -> u64
         ensures { result ≡ row_count table.now self.now.db }
     {
         self.tables.row_count(table)
     }
 
-    /// The rows of a table, made anew from its columns; none where it isn't there.
+    /// The rows of a table, made from its columns; none where it doesn't exist.
     pub fn rows(&self, alloc: Global, table: &Word) -> Result<Sequence<Sequence<Cell>>, Memory>
         ensures { IfOk result (λ rows. rows ≡ rows_of table.now self.now.db) }
     {
         self.tables.rows(alloc, table)
     }
 
-    /// The present content, for good.
+    /// A snapshot of the present content, which later changes leave as it is.
     pub fn snapshot(&self, alloc: Global) -> Result<Snap, Memory>
         ensures { IfOk result (λ snap. snap ≡ self.now) }
     {
@@ -96,15 +96,15 @@ impl Store {
         Ok(Snap { tables })
     }
 
-    /// A column of a snapshot, with the numbers of its rows as oids from 0; none where there is no such
-    /// column.
+    /// A column of a snapshot, with the numbers of its rows as oids from 0; none where there is no
+    /// such column.
     pub fn column(&self, snap: &Snap, table: &Word, column: &Word) -> Result<Option<Shared>, Memory>
         ensures { IfOk result (λ found. found ≡ bound table.now column.now snap.now.db) }
     {
         snap.tables.column(table, column)
     }
 
-    /// Prepares that a table without rows stands behind the others. Nothing changes yet.
+    /// Prepares a table without rows after the others. Nothing changes yet.
     pub fn add_table(&self, alloc: Global, heading: Heading) -> Result<Change, Memory>
         ensures prepared { IfOk result (λ change. IsPrepared change self.now) }
         ensures db { IfOk result (λ change. change.content.db ≡ with_table heading.name heading.columns self.now.db) }
@@ -115,7 +115,7 @@ impl Store {
         Ok(Change { tables, touched })
     }
 
-    /// Prepares that the tables of a name go. Nothing changes yet.
+    /// Prepares the removal of the tables of a name. Nothing changes yet.
     pub fn drop_table(&self, alloc: Global, name: &Word) -> Result<Change, Memory>
         ensures prepared { IfOk result (λ change. IsPrepared change self.now) }
         ensures db { IfOk result (λ change. change.content.db ≡ without_table name.now self.now.db) }
@@ -126,7 +126,7 @@ impl Store {
         Ok(Change { tables, touched })
     }
 
-    /// Prepares that a table has one more column at its end, with its default in each row. Nothing changes
+    /// Prepares one more column at a table's end, with its default in each row. Nothing changes
     /// yet.
     pub fn add_column(&self, alloc: Global, table: &Word, column: Column) -> Result<Change, Memory>
         requires { NamesDiffer self.now.db }
@@ -140,7 +140,7 @@ impl Store {
         Ok(Change { tables, touched })
     }
 
-    /// Prepares that a table has more rows behind the others. Nothing changes yet.
+    /// Prepares more rows of a table after the others. Nothing changes yet.
     pub fn append_rows(
         &self,
         alloc: Global,
@@ -159,8 +159,13 @@ impl Store {
         Ok(Change { tables, touched })
     }
 
-    /// Prepares that a table lacks the rows that have a flag. Nothing changes yet.
-    pub fn keep_rows(&self, alloc: Global, table: &Word, gone: &[bool]) -> Result<Change, Memory>
+    /// Prepares the removal of a table's rows that have a flag. Nothing changes yet.
+    pub fn drop_flagged_rows(
+        &self,
+        alloc: Global,
+        table: &Word,
+        gone: &[bool],
+    ) -> Result<Change, Memory>
         requires differ { NamesDiffer self.now.db }
         requires flags { length gone.now ≡ row_count table.now self.now.db }
         ensures prepared { IfOk result (λ change. IsPrepared change self.now) }
@@ -172,7 +177,7 @@ impl Store {
         Ok(Change { tables, touched })
     }
 
-    /// Prepares that some columns of a table have other cells in the rows that have a flag: the first row
+    /// Prepares other cells in some columns of a table, in the rows that have a flag: the first row
     /// with a flag gets the first cell of each set, and so on. Nothing changes yet.
     pub fn set_cells(
         &self,
@@ -193,8 +198,8 @@ impl Store {
         Ok(Change { tables, touched })
     }
 
-    /// Carries out a change that was prepared on this content. What it touched and is still there has the
-    /// version that is handed in, and other columns keep theirs.
+    /// Carries out a change that was prepared on this content. Columns that it touched and that
+    /// still exist get the version that is passed, and other columns keep theirs.
     pub fn apply(&mut self, change: Change, version: u64)
         requires { IsPrepared change self.old }
         ensures db { self.new.db ≡ change.content.db }

@@ -5,13 +5,12 @@ ghost use Rattle.std.specs.Option.{option_map, option_and_then};
 ghost use Rattle.cell_core.specs.declared.table.Table.{Table as TableSeen};
 ghost use Rattle.cell_core.specs.Pairs.{numbered};
 ghost use Rattle.cell_core.specs.Relations.{bound, column_cells};
-ghost use Rattle.cell_core.specs.Tables.{column_place, first_named};
+ghost use Rattle.cell_core.specs.Tables.{all_columns, column_place, first_named, has_column, names_in, row_count};
 ghost use Rattle.table_columns.specs.Rows.{KeptTable};
-ghost use Rattle.table_store.specs.Content.{column_version, has_column, version_in, version_of};
+ghost use Rattle.table_store.specs.Content.{column_version, version_in, version_of};
 ghost use Rattle.table_store.specs.Changes.{with_table, without_table};
 ghost use Rattle.table_store.specs.Headings.{headings_of};
 ghost use Rattle.table_store.specs.Kept.{AreKept, IsKept, headings_without, heading_at, heading_place, kept_at, kept_without, stamped_at, table_from, table_place, tables_from};
-ghost use Rattle.table_store.specs.Touches.{all_columns, names_in, row_count};
 ghost use Rattle.pool_policy.specs.Versions.{is_of};
 
 use crate::heading::Heading;
@@ -20,26 +19,26 @@ use cell_core::{Column, Memory, Sequence, Word, copy_columns, find_column};
 use pool_policy::Touched;
 use std::alloc::Global;
 use std::marker::Model;
-use table_columns::Kept;
+use table_columns::TableColumns;
 
-/// Tables without their rows, and beside each its columns. Contracts see the database with the versions of
-/// its columns.
-pub(crate) struct Tables {
+/// Tables without their rows, each with its columns. Contracts see the database with the versions
+/// of its columns.
+pub(crate) struct StoredTables {
     headings: Vec<Heading>,
-    kept: Vec<Kept>,
+    kept: Vec<TableColumns>,
 }
 
-// By a call of its own, so that proofs needn't go through its forms where one is let go.
-impl Drop for Tables {
+// By a call of its own, so that proofs needn't go through its forms where one is dropped.
+impl Drop for StoredTables {
     fn drop(self) {
-        let Tables {
+        let StoredTables {
             headings: _,
             kept: _,
         } = self;
     }
 }
 
-impl Model for Tables {
+impl Model for StoredTables {
     ghost use Rattle.table_store.specs.Content.{Content};
     ghost use Rattle.table_store.specs.Kept.{AreKept, content_from};
 
@@ -50,13 +49,13 @@ impl Model for Tables {
     ghost invariant = { λ t. AreKept t.headings.items t.kept.items };
 }
 
-impl Tables {
+impl StoredTables {
     /// No tables.
-    pub fn new(alloc: Global) -> Tables
+    pub fn new(alloc: Global) -> StoredTables
         ensures db { result.db ≡ record { tables = [] } }
         ensures versions { result.versions ≡ [] }
     {
-        Tables {
+        StoredTables {
             headings: Vec::new(alloc),
             kept: Vec::new(alloc),
         }
@@ -76,7 +75,7 @@ impl Tables {
         version_among(&self.headings, &self.kept, table, column)
     }
 
-    /// A column, if it is there.
+    /// A column, if it exists.
     pub fn column(&self, table: &Word, column: &Word) -> Result<Option<Shared>, Memory>
         ensures { IfOk result (λ found. found ≡ bound table.now column.now self.now.db) }
     {
@@ -84,38 +83,38 @@ impl Tables {
     }
 
     /// The same tables, whose columns both share.
-    pub fn share(&self, alloc: Global) -> Result<Tables, Memory>
+    pub fn share(&self, alloc: Global) -> Result<StoredTables, Memory>
         ensures { IfOk result (λ tables. tables ≡ self.now) }
     {
         let headings = copy_headings(alloc, &self.headings)?;
         let kept = share_all(alloc, &self.kept)?;
-        Ok(Tables { headings, kept })
+        Ok(StoredTables { headings, kept })
     }
 
-    /// These tables and one more behind them, without rows.
-    pub fn with(&self, alloc: Global, heading: Heading) -> Result<Tables, Memory>
+    /// These tables, followed by one more without rows.
+    pub fn with(&self, alloc: Global, heading: Heading) -> Result<StoredTables, Memory>
         ensures db { IfOk result (λ tables. tables.db ≡ with_table heading.name heading.columns self.now.db) }
         ensures others { IfOk result (λ tables. (table column : List ℕ) → version_of table column tables ≡ version_of table column self.now) }
     {
-        let empty = Kept::new(alloc, heading.columns.as_slice().len())?;
+        let empty = TableColumns::new(alloc, heading.columns.as_slice().len())?;
         let mut headings = copy_headings(alloc, &self.headings)?;
         let mut kept = share_all(alloc, &self.kept)?;
         headings.push(heading)?;
         kept.push(empty)?;
-        Ok(Tables { headings, kept })
+        Ok(StoredTables { headings, kept })
     }
 
     /// These tables but those with this name.
-    pub fn without(&self, alloc: Global, name: &Word) -> Result<Tables, Memory>
+    pub fn without(&self, alloc: Global, name: &Word) -> Result<StoredTables, Memory>
         ensures db { IfOk result (λ tables. tables.db ≡ without_table name.now self.now.db) }
         ensures others { IfOk result (λ tables. (table column : List ℕ) → (bytes_eq table name.now && list_any (bytes_eq column) (all_columns name.now self.now.db)) ≡ false → version_of table column tables ≡ version_of table column self.now) }
     {
         let headings = headings_but(alloc, &self.headings, name)?;
         let kept = kept_but(alloc, &self.headings, &self.kept, name)?;
-        Ok(Tables { headings, kept })
+        Ok(StoredTables { headings, kept })
     }
 
-    /// That all of a table is touched.
+    /// `Touched` for all of a table.
     pub fn touch_whole(&self, alloc: Global, name: &Word) -> Result<Touched, Memory>
         ensures { IfOk result (λ touched. touched ≡ record { table = name.now; columns = all_columns name.now self.now.db; old_rows = row_count name.now self.now.db; added = None }) }
     {
@@ -139,7 +138,7 @@ impl Tables {
     }
 
     /// What is kept of the table at a place.
-    pub fn kept(&self, place: usize) -> &Kept
+    pub fn kept(&self, place: usize) -> &TableColumns
         requires { place < length self.now.db.tables }
         ensures kept { result.now ≡ kept_at place self.now }
         ensures beside { length result.now.versions ≡ result.now.width }
@@ -153,8 +152,8 @@ impl Tables {
         alloc: Global,
         place: usize,
         heading: Heading,
-        table: Kept,
-    ) -> Result<Tables, Memory>
+        table: TableColumns,
+    ) -> Result<StoredTables, Memory>
         requires within { place < length self.now.db.tables }
         requires kept { IsKept heading table }
         ensures tables { IfOk result (λ tables. tables.db.tables ≡ slice_set self.now.db.tables place (table_from heading table)) }
@@ -164,10 +163,10 @@ impl Tables {
         let mut kept = share_all(alloc, &self.kept)?;
         headings[place] = heading;
         kept[place] = table;
-        Ok(Tables { headings, kept })
+        Ok(StoredTables { headings, kept })
     }
 
-    /// Gives the touched columns a version.
+    /// Sets the version of the touched columns.
     pub fn stamp(&mut self, touched: &Touched, version: u64)
         ensures db { self.new.db ≡ self.old.db }
         ensures touched { (table column : List ℕ) → is_of touched.now table column ≡ true → has_column table column self.new.db ≡ true → version_of table column self.new ≡ version }
@@ -195,15 +194,21 @@ fn heading_in(headings: &[Heading], place: usize) -> &Heading
 }
 
 /// What is kept of the table at a place.
-fn kept_in(kept: &[Kept], place: usize) -> &Kept
+fn kept_in(kept: &[TableColumns], place: usize) -> &TableColumns
     requires { place < length kept.now }
     ensures { result.now ≡ slice_index_or kept.now place result.now }
 {
     &kept[place]
 }
 
-/// Gives columns of the table at a place a version.
-fn stamp_at(headings: &[Heading], kept: &mut [Kept], place: usize, names: &[Word], version: u64)
+/// Sets the version of columns of the table at a place.
+fn stamp_at(
+    headings: &[Heading],
+    kept: &mut [TableColumns],
+    place: usize,
+    names: &[Word],
+    version: u64,
+)
     requires are { AreKept headings.now kept.old }
     requires within { place < length headings.now }
     ensures { kept.new ≡ stamped_at names.now version headings.now place kept.old }
@@ -212,7 +217,7 @@ fn stamp_at(headings: &[Heading], kept: &mut [Kept], place: usize, names: &[Word
 }
 
 /// The version of a column of the first table with this name.
-fn version_among(headings: &[Heading], kept: &[Kept], table: &Word, column: &Word) -> u64
+fn version_among(headings: &[Heading], kept: &[TableColumns], table: &Word, column: &Word) -> u64
     ensures { result ≡ version_in table.now column.now (tables_from headings.now kept.now) (map (λ (k : KeptTable). k.versions) kept.now) }
 {
     let (mut names, mut rest) = (headings, kept);
@@ -250,7 +255,7 @@ fn version_at(columns: &[Column], versions: &[u64], name: &Word) -> u64
 /// A column of the first table with this name.
 fn column_among(
     headings: &[Heading],
-    kept: &[Kept],
+    kept: &[TableColumns],
     table: &Word,
     column: &Word,
 ) -> Result<Option<Shared>, Memory>
@@ -272,7 +277,7 @@ fn column_among(
 }
 
 /// A column of a table.
-fn column_at(heading: &Heading, kept: &Kept, name: &Word) -> Result<Option<Shared>, Memory>
+fn column_at(heading: &Heading, kept: &TableColumns, name: &Word) -> Result<Option<Shared>, Memory>
     requires { IsKept heading.now kept.now }
     ensures { IfOk result (λ found. found ≡ option_map (λ place. numbered (column_cells place (table_from heading.now kept.now).rows)) (column_place name.now heading.now.columns)) }
 {
@@ -283,11 +288,11 @@ fn column_at(heading: &Heading, kept: &Kept, name: &Word) -> Result<Option<Share
     Ok(Some(column))
 }
 
-/// That all of the first table with this name is touched.
+/// `Touched` for all of the first table with this name.
 fn touch_among(
     alloc: Global,
     headings: &[Heading],
-    kept: &[Kept],
+    kept: &[TableColumns],
     name: &Word,
 ) -> Result<Touched, Memory>
     ensures { IfOk result (λ touched. touched ≡ record { table = name.now; columns = all_columns name.now (record { tables = tables_from headings.now kept.now }); old_rows = row_count name.now (record { tables = tables_from headings.now kept.now }); added = None }) }
@@ -306,7 +311,7 @@ fn touch_among(
     touch_none(alloc, name)
 }
 
-/// That all of a table is touched.
+/// `Touched` for all of a table.
 pub(crate) fn touch_one(
     alloc: Global,
     name: &Word,
@@ -323,7 +328,7 @@ pub(crate) fn touch_one(
     })
 }
 
-/// That a table is touched which isn't there.
+/// `Touched` for a table which doesn't exist.
 fn touch_none(alloc: Global, name: &Word) -> Result<Touched, Memory>
     ensures { IfOk result (λ touched. touched ≡ record { table = name.now; columns = []; old_rows = 0; added = None }) }
 {
@@ -373,7 +378,7 @@ pub(crate) fn heading_and(
 }
 
 /// The same columns of each table, which both share.
-fn share_all(alloc: Global, kept: &[Kept]) -> Result<Vec<Kept>, Memory>
+fn share_all(alloc: Global, kept: &[TableColumns]) -> Result<Vec<TableColumns>, Memory>
     ensures { IfOk result (λ copy. copy.items ≡ kept.now) }
 {
     let mut copy = Vec::with_capacity(alloc, kept.len())?;
@@ -402,9 +407,9 @@ fn headings_but(alloc: Global, headings: &[Heading], name: &Word) -> Result<Vec<
 fn kept_but(
     alloc: Global,
     headings: &[Heading],
-    kept: &[Kept],
+    kept: &[TableColumns],
     name: &Word,
-) -> Result<Vec<Kept>, Memory>
+) -> Result<Vec<TableColumns>, Memory>
     ensures { IfOk result (λ left. left.items ≡ kept_without name.now headings.now kept.now) }
 {
     let mut left = Vec::new(alloc);
@@ -437,7 +442,6 @@ fn find_place(headings: &[Heading], name: &Word) -> Option<usize>
     None
 }
 
-/// The names of columns.
 fn names_of(alloc: Global, columns: &[Column]) -> Result<Sequence<Word>, Memory>
     ensures { IfOk result (λ names. names ≡ names_in columns.now) }
 {

@@ -1,4 +1,4 @@
-//! What a change touches.
+//! The columns that a change touches.
 ghost use Rattle.std.specs.Prelude.{◌≡◌, [], ◌∷◌, map, None, IfOk};
 ghost use Rattle.table_columns.specs.Changed.{NewCells};
 
@@ -7,7 +7,7 @@ use cell_core::{Memory, Sequence, Word};
 use pool_policy::Touched;
 use std::alloc::Global;
 
-/// That these columns of a table are touched.
+/// `Touched` for these columns of a table.
 pub(crate) fn touch(table: &Word, columns: Sequence<Word>, old_rows: u64) -> Result<Touched, Memory>
     ensures { IfOk result (λ touched. touched ≡ record { table = table.now; columns = columns; old_rows = old_rows; added = None }) }
 {
@@ -19,7 +19,7 @@ pub(crate) fn touch(table: &Word, columns: Sequence<Word>, old_rows: u64) -> Res
     })
 }
 
-/// One name.
+/// A list of one name.
 pub(crate) fn one_name(alloc: Global, name: &Word) -> Result<Sequence<Word>, Memory>
     ensures { IfOk result (λ names. names ≡ name.now ∷ []) }
 {

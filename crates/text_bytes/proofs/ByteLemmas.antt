@@ -51,7 +51,7 @@ module _ (p : ℕ → Bool) where
         | false ↦ λ e. e
       ] refl
 
-  -- the front is found again behind what passes and before what stops
+  -- the front is found again after what passes and before what stops
   pub front_again : (bs rest : List ℕ) → list_all p bs ≡ true → begins p rest ≡ false → prefix_len p (bs ++ rest) ≡ length bs
   front_again [] [] all stop = refl
   front_again [] (b ∷ rest) all stop = ap (λ t. cond t (1 + prefix_len p rest) 0) stop
@@ -93,7 +93,7 @@ digits_front_word b bs h = digits_word_bytes (b ∷ take (prefix_len is_digit bs
 
 -- ## Parts of lists
 
--- behind a text and one mark more
+-- after a text and one mark more
 pub behind_one : (xs rest : List ℕ) (x : ℕ) → drop (length xs + 1) (xs ++ x ∷ rest) ≡ rest
 behind_one [] rest x = refl
 behind_one (z ∷ xs) rest x = let more : length (z ∷ xs) + 1 ≡ suc (length xs + 1) = omega arith in rw more (behind_one xs rest x)

@@ -1,4 +1,4 @@
--- The test of a day's text tells whether it names a day.
+-- The test of a day's text decides whether it names a day.
 use Rattle.std.proofs.Common.{◌≡◌, ℕ, ◌≤◌, List, Bool, true, false, cond, Option, Some, None, ℤ, pos, ◌≢◌, length, refl, ap, sym, ◌∙◌, arith}
 use Rattle.std.specs.Prelude.{nat_le, slice_index, IfSome, IfNone}
 use Rattle.std.specs.Bool.{Decides}

@@ -40,13 +40,13 @@ at_second t x y h = ap (λ t. cond t x y) h
 pub same_err : {T U E : Type 0} (e f : E) → IsErrOf {T = T} {E = E} (Err e) f → IsErrOf {T = U} {E = E} (Err e) f
 same_err e f h = let same : e ≡ f = cc in ap Err same
 
--- ## Bytes behind others
+-- ## Bytes after others
 
 pub joined_found : (kept : List ℕ) (o : Option (List ℕ × ℕ)) (p : List ℕ × ℕ) → joined kept o ≡ Some p → (q : List ℕ × ℕ) × (o ≡ Some q) × ((kept ++ q.0, q.1 + 1) ≡ p)
 joined_found kept None p h = cc
 joined_found kept (Some q) p h = (q, refl, value_found (kept ++ q.0, q.1 + 1) p h)
 
--- what is found behind the bytes so far
+-- what is found after the bytes so far
 abbrev pub resumed : List ℕ → ℕ → Option (List ℕ × ℕ) → Option (List ℕ × ℕ)
 resumed bytes n None = None
 resumed bytes n (Some found) = Some (bytes ++ found.0, n + found.1)

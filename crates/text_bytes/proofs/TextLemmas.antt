@@ -4,7 +4,7 @@ use Rattle.std.specs.Str.{IsUtf8}
 use Rattle.std.proofs.lemmas.Str.{IsUtf8-take, IsUtf8-drop, IsCharBoundary-before_ascii, IsCharBoundary-after_ascii}
 use Rattle.std.proofs.Math.Seq.{get_or-append_seam, take-append_seam, drop-append_seam}
 
--- round an ASCII byte of a text stand texts
+-- before and after an ASCII byte of a text are texts
 pub around_ascii : (xs : List ℕ) (b : ℕ) (ys : List ℕ) → b < 128 → IsUtf8 (xs ++ b ∷ ys) → IsUtf8 xs × IsUtf8 ys
 around_ascii xs b ys h text =
     let here : get_or (xs ++ b ∷ ys) (length xs) 0 ≡ b = get_or-append_seam xs b ys 0 in

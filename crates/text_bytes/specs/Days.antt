@@ -3,7 +3,7 @@ use Rattle.std.specs.Prelude.{ℕ, ◌+◌, ◌==◌, List, length, Bool, ◌&&�
 use Rattle.jiff_core.specs.Calendar.{days_in_month}
 use Rattle.cell_core.specs.Day.{year_in, month_in, day_of_month_in, day_in}
 
--- two digits stand at a place
+-- two digits are at a place
 abbrev pub are_two_digits : List ℕ → ℕ → Bool
 are_two_digits text place =
     (nat_le 48 (slice_index text place) && nat_le (slice_index text place) 57) && (nat_le 48 (slice_index text (place + 1)) && nat_le (slice_index text (place + 1)) 57)

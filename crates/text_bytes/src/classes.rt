@@ -37,7 +37,7 @@ fn is_in_line(byte: u8) -> bool
     !(byte == b'\n')
 }
 
-/// How many bytes of a word stand at the front.
+/// How many bytes of a word are at the front.
 pub fn word_length(bytes: &[u8]) -> usize
     ensures value { result ≡ prefix_len classes.is_word_byte bytes.now }
     ensures within { result ≤ length bytes.now }
@@ -45,7 +45,7 @@ pub fn word_length(bytes: &[u8]) -> usize
     bytes.iter().take_while(|byte| is_word_byte(**byte)).count()
 }
 
-/// How many digits stand at the front.
+/// How many digits are at the front.
 pub fn digits_length(bytes: &[u8]) -> usize
     ensures value { result ≡ prefix_len classes.is_digit bytes.now }
     ensures within { result ≤ length bytes.now }
@@ -53,7 +53,7 @@ pub fn digits_length(bytes: &[u8]) -> usize
     bytes.iter().take_while(|byte| is_digit(**byte)).count()
 }
 
-/// How many bytes stand before the end of the line.
+/// How many bytes come before the end of the line.
 pub fn line_length(bytes: &[u8]) -> usize
     ensures value { result ≡ prefix_len classes.is_in_line bytes.now }
     ensures within { result ≤ length bytes.now }
@@ -61,7 +61,7 @@ pub fn line_length(bytes: &[u8]) -> usize
     bytes.iter().take_while(|byte| is_in_line(**byte)).count()
 }
 
-/// Whether a byte of a word stands at the front.
+/// Whether a byte of a word is at the front.
 pub fn begins_word_byte(bytes: &[u8]) -> bool
     ensures { result ≡ classes.begins classes.is_word_byte bytes.now }
 {
@@ -71,7 +71,7 @@ pub fn begins_word_byte(bytes: &[u8]) -> bool
     }
 }
 
-/// Whether this byte stands at the front.
+/// Whether this byte is at the front.
 pub fn begins_with(byte: u8, bytes: &[u8]) -> bool
     ensures { result ≡ classes.begins_with byte bytes.now }
 {

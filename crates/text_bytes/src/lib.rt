@@ -1,8 +1,8 @@
 //! Bytes of texts: their classes, the fronts of one class, and the numbers and days that they write.
 //!
-//! It stands on `cell_text`, whose days these are, and `jiff_core`, whose calendar it is. What is read of
-//! SQL and of MAL alike stands here, once: each call gives what its definition in `specs/` says, and the
-//! lemmas on fronts, texts, numbers and days are there for the crates above. It takes no memory.
+//! It builds on `cell_text` for days and on `jiff_core` for the calendar. It has what is read of
+//! SQL and of MAL alike: each call returns what its definition in `specs/` says. The lemmas on
+//! fronts, texts, numbers and days are for the crates above. It takes no memory.
 #![tactic(auto)]
 
 mod classes;

@@ -36,7 +36,7 @@ pub fn number_128(digits: &str) -> Option<u128>
     Some(number)
 }
 
-/// The number with a digit behind it, where it fits 64 bits.
+/// The number with a digit after it, where it fits 64 bits.
 fn with_digit_64(number: u64, byte: u8) -> Option<u64>
     ensures { MatchOption result (2 ^ 64 ≤ number * 10 + digit_value byte)
         (λ n. n ≡ number * 10 + digit_value byte) }
@@ -47,7 +47,7 @@ fn with_digit_64(number: u64, byte: u8) -> Option<u64>
     tens.checked_add(u64::from(digit(byte)))
 }
 
-/// The number with a digit behind it, where it fits 128 bits.
+/// The number with a digit after it, where it fits 128 bits.
 fn with_digit_128(number: u128, byte: u8) -> Option<u128>
     ensures { MatchOption result (2 ^ 128 ≤ number * 10 + digit_value byte)
         (λ n. n ≡ number * 10 + digit_value byte) }
@@ -58,8 +58,8 @@ fn with_digit_128(number: u128, byte: u8) -> Option<u128>
     tens.checked_add(u128::from(digit(byte)))
 }
 
-/// What a byte counts as a digit; 36 where it is neither a digit nor a letter. A decimal digit is found
-/// first, as nearly every byte is one.
+/// The value of a byte as a digit; 36 where it is neither a digit nor a letter. A decimal digit is
+/// found first, as nearly every byte is one.
 #[tactic(auto, using(std::proofs::lemmas::Bool::Decides::nat_tests))]
 fn digit(byte: u8) -> u32
     ensures { result ≡ digit_value byte }

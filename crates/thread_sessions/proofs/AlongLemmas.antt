@@ -1,4 +1,4 @@
--- A session stands where the log says, whatever events of others come next, and behind its own.
+-- A session agrees with the log after its own events and after events of others.
 use Rattle.std.proofs.Common.{◌≡◌, List, [], ◌∷◌, ◌++◌, take, Bool, true, false, cond, refl, ap, sym, ◌∙◌, subst, arith}
 use Rattle.std.specs.Prelude.{◌==◌}
 use Rattle.std.specs.List.{AllByRecursion}
@@ -80,7 +80,7 @@ along options x log (event ∷ more) lawful others at =
     subst (λ (events : List EventTree). IsAt options events x) parts
     (along options x (log ++ event ∷ []) more all others.1 (other_at options log x event (lawful_front options (log ++ event ∷ []) more all) others.0 at))
 
--- a session stands where a lawful log is, of which it saw all that is its own
+-- a session agrees with a lawful log, of which it saw all its own events
 pub seen_at : (options : PoolOptions) (log : List Event) (x : Session) → IsLawful options (log_tree log) → HasSeen options log x → IsAt options (log_tree log) x
 seen_at options log x lawful s =
     let rest = s.begins.0 in
@@ -165,11 +165,11 @@ module _ {V : Type 0} (options : PoolOptions) where
   pub computed_with : (pass : Pass V Event) (x new : Session) → GoesInPlan x x.stage → HasComputed x new → IsWith options pass x → IsWith options pass new
   computed_with pass x new in_plan c w = record { free = w.free; number = c.number ∙ w.number; own = w.own; at = computed_at options (log_tree (seen_by pass)) x new in_plan c w.at }
 
-  -- so where its query has moved
+  -- likewise where its query has moved
   pub moved_with : (pass : Pass V Event) (x new : Session) → x.wide ≡ true → HasMoved x new → IsWith options pass x → IsWith options pass new
   moved_with pass x new wide m w = record { free = w.free; number = ap (λ (z : Session). z.number) m.is ∙ w.number; own = w.own; at = moved_at options (log_tree (seen_by pass)) x new wide m w.at }
 
-  -- so after a turn in which it did an event
+  -- likewise after a turn in which it did an event
   pub added_with : (old mid new : Pass V Event) (x y : Session) (list after : List Event) → IsFree new → KeepsPlace old mid → KeepsPlace mid new → seen_by mid ≡ list → entries_by session_of (pass_number old) list ≡ own_entries old → own_entries mid ≡ own_entries old
       → seen_by new ≡ after → AddsOne session_of mid (seen_by new) → ((e : Event) → after ≡ seen_by mid ++ e ∷ [] → own_entries new ≡ own_entries mid ++ e ∷ []) → x.number ≡ pass_number old → y.number ≡ x.number → IsAt options (log_tree (seen_by new)) y
       → IsWith options new y

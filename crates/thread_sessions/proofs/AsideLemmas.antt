@@ -43,7 +43,7 @@ comes_aside x stage.Between next text aside c = reads_aside x.pieces x.ended nex
 pub computed_aside : (x new : Session) → HasComputed x new → IsAside x.stage → IsAside new.stage
 computed_aside x new c aside = comes_aside x x.stage new.stage new.text.items aside c.stage
 
--- behind an event there a query has begun at most
+-- after an event there a query has begun at most
 follows_aside : (from next : Stage) → IsAside from → Follows from next → MayBegin next
 follows_aside (stage.Querying (step.Ending reply work)) next aside f = f
 follows_aside (stage.Querying (step.Begun q)) next aside f = f

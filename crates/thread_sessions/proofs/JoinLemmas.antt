@@ -26,7 +26,7 @@ use Rattle.thread_sessions.proofs.ListLemmas.{starts_then}
 -- ## A pass for each session
 
 module _ {V : Type 0} where
-  -- one pass more is split
+  -- one more pass is split
   pub split_first : (hall : Hall V Event) (old new : Pass V Event) (n : ℕ) → IsFirst hall old n 0 → IsPassOf hall new × IsFree new → pass_number new ≡ pass_number old → split_count new ≡ split_count old + 1
       → joined_passes new ≡ joined_passes old → own_entries new ≡ own_entries old → IsFirst hall new (n + 1) 0
   split_first hall old new n f kept number counted joined own = record {
@@ -39,7 +39,7 @@ module _ {V : Type 0} where
     beyond = λ k low. ap (kept_under k) joined ∙ f.beyond k low;
   }
 
-  -- one session more has its script
+  -- one more session has its script
   pub scripts_more : (runners : List (Runner V Event)) (runner : Runner V Event) → scripts_of (sessions_of (runners ++ runner ∷ [])) ≡ scripts_of (sessions_of runners) ++ runner.session.pieces ∷ []
   scripts_more [] runner = refl
   scripts_more (first ∷ runners) runner = ap (λ scripts. first.session.pieces ∷ scripts) (scripts_more runners runner)
@@ -54,7 +54,7 @@ module _ {V : Type 0} where
       → AreRunners options hall (runners ++ runner ∷ [])
   runners_more options hall runners runner number is are = append_all (λ place (r : Runner V Event). (r.session.number ≡ place + 1) × IsRunner options hall r) runners runner (number, is) are
 
-  -- a session that has not begun stands behind nothing, as its pass has seen nothing
+  -- a session that has not begun agrees with the empty log, as its pass has seen nothing
   pub starts_with : (options : PoolOptions) (old other : Pass V Event) (x : Session) → IsFree other → x.number ≡ pass_number other → seen_by other ≡ seen_by old → seen_by old ≡ [] → own_entries other ≡ [] → IsAt options [] x → IsWith options other x
   starts_with options old other x free number seen none own at = record {
     free = free;
@@ -83,7 +83,7 @@ module _ {V : Type 0} where
           subst (λ (x : Runner V Event). HasRunOut options hall x y) (get_or_from_slice_get before place x x was) (subst (λ r. IfOk r (λ y. HasRunOut options hall (get_or before place x) y)) found (each place (Ok y) x high));
     }
 
-    -- the runner that stood where one stands now
+    -- the runner that was at the place of this one
     before_it : {P : Type 0} (before after : List (Runner V Event)) → HaveComeBack before after → (place : ℕ) (y : Runner V Event) → slice_get after place ≡ Some y → ((x : Runner V Event) → slice_get before place ≡ Some x → HasRunOut options hall x y → P) → P
     before_it before after c place y is found =
         let low = slice_get_within after place y is in
@@ -104,7 +104,7 @@ module _ {V : Type 0} where
     pub session_there : (runners : List (Runner V Event)) (place : ℕ) (x : Runner V Event) → slice_get runners place ≡ Some x → slice_get (sessions_of runners) place ≡ Some x.session
     session_there runners place x there = slice_get-map (λ (r : Runner V Event). r.session) runners place ∙ ap (option_map (λ (r : Runner V Event). r.session)) there
 
-    -- so they are sessions with the same scripts, and are over
+    -- they are sessions with the same scripts, and are over
     pub record AreBack (wide : Bool) (before after : List (Runner V Event)) : Type 0 where
       pub long : length after ≡ length before
       pub scripts : scripts_of (sessions_of after) ≡ scripts_of (sessions_of before)
@@ -162,7 +162,7 @@ module _ {V : Type 0} where
       at = j.at;
     }
 
-    -- one session more is joined
+    -- one more session is joined
     pub join_more : (sessions : List Session) (x : Session) → x.number ≡ length sessions + 1 → IsWith options other x → StartsWith (seen_by new) (seen_by old) × StartsWith (seen_by new) (seen_by other)
         → AreJoined options old sessions → AreJoined options new (sessions ++ x ∷ [])
     join_more sessions x number w begins were =
@@ -184,7 +184,7 @@ module _ {V : Type 0} where
     all_joined k low high = let splits = f.splits_are in f.under k low (omega (arith, high, splits))
 
     module _ (list : List Event) (each : (number : ℕ) → entries_by session_of number list ≡ entries_under first number) where
-      -- no entry is of a number beside those of the sessions
+      -- no entry is of another number than those of the sessions
       pub none_beside : HasNoneBeside n list
       none_beside = (
         each 0 ∙ f.own,

@@ -23,7 +23,7 @@ nothing_long : {X : Type 0} (xs : List X) → length xs ≡ 0 → xs ≡ []
 nothing_long [] none = refl
 nothing_long (x ∷ xs) none = absurd (let no : ⊥ = omega (arith, none) in no)
 
--- nothing stands behind a list that it leaves as it is
+-- an appended list that changes nothing is empty
 pub nothing_behind : {X : Type 0} (xs ys : List X) → xs ++ ys ≡ xs → ys ≡ []
 nothing_behind xs ys same = let long = ap length same in let sum = length-append xs ys in nothing_long ys (omega (arith, long, sum))
 
@@ -50,7 +50,7 @@ none_by session (event ∷ list) none =
     let more = entries_by session_of session list in
     (none_first (event.session == session) event more none, none_by session list (none_more (event.session == session) event more none))
 
--- so what comes behind a list that has all its entries
+-- likewise what comes after a list that has all its entries
 pub others_behind : (session : ℕ) (seen rest : List Event) → entries_by session_of session (seen ++ rest) ≡ entries_by session_of session seen
     → AllByRecursion (λ (event : EventTree). (event.session == session) ≡ false) (log_tree rest)
 others_behind session seen rest same = none_by session rest (nothing_behind (entries_by session_of session seen) (entries_by session_of session rest) (sym (by_append session seen rest) ∙ same))

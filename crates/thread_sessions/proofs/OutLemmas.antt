@@ -32,7 +32,7 @@ use Rattle.dataflow.specs.declared.task.Task.{Task}
 use Rattle.dataflow.specs.Jobs.{CanRun}
 use Rattle.dataflow.specs.Plans.{has, has_all, is_out, IsIdle, IsWhole, NoneOut, NothingReady}
 use Rattle.dataflow.specs.Rules.{IsTask, basis_values, value_at as known_value}
-use Rattle.query_run.specs.declared.step.Query.{Query}
+use Rattle.query_run.specs.declared.step.RunningQuery.{RunningQuery}
 use Rattle.query_run.specs.Queries.{HasArgs, HasAsked, HasBefore, HasGained, IsUnderWay, all_values, has_result, result_at, value_at, was_asked}
 use Rattle.query_run.specs.Ready.{IsReady}
 use Rattle.query_run.specs.Steps.{IsOpened}
@@ -66,9 +66,9 @@ has_more xs n m there = list_any-append (λ j. nat_eq j m) xs (n ∷ []) ∙ ap 
 false_true : {P : Type 0} {b : Bool} → b ≡ true → b ≡ false → P
 false_true is not = absurd (let no : true ≡ false = sym is ∙ not in cc)
 
--- ## A result more
+-- ## One more result
 
-module _ (q to : Query) (n : ℕ) (result : Obj) (id work : ℕ) (g : HasGained q n result id work to) (inside : n < length q.values.items) where
+module _ (q to : RunningQuery) (n : ℕ) (result : Obj) (id work : ℕ) (g : HasGained q n result id work to) (inside : n < length q.values.items) where
   gained_is : has_result to n ≡ true
   gained_is = ap is_some (gained_here q to n result id work g inside)
 
@@ -82,17 +82,17 @@ module _ (q to : Query) (n : ℕ) (result : Obj) (id work : ℕ) (g : HasGained 
       go true same = ap (has_result to) (eqb-true m n same) ∙ gained_is
       go false same = others_same m (eqb-false m n same) ∙ there
 
-inside_values : (q : Query) (n : ℕ) (instr : Instr) → IsUnderWay q → slice_get q.plan.instrs n ≡ Some instr → n < length q.values.items
+inside_values : (q : RunningQuery) (n : ℕ) (instr : Instr) → IsUnderWay q → slice_get q.plan.instrs n ≡ Some instr → n < length q.values.items
 inside_values q n instr under here = let many = under.values in let low = slice_get_within q.plan.instrs n instr here in omega (arith, many, low)
 
-pub now_keeps : (q to : Query) (n : ℕ) (instr : Instr) → IsUnderWay q → slice_get q.plan.instrs n ≡ Some instr → HasNow q n to → Gains q to
+pub now_keeps : (q to : RunningQuery) (n : ℕ) (instr : Instr) → IsUnderWay q → slice_get q.plan.instrs n ≡ Some instr → HasNow q n to → Gains q to
 now_keeps q to n instr under here now = gained_keeps q to n now.0 now.1 now.2 now.3 (inside_values q n instr under here)
 
-pub now_there : (q to : Query) (n : ℕ) (instr : Instr) → IsUnderWay q → slice_get q.plan.instrs n ≡ Some instr → HasNow q n to → has_result to n ≡ true
+pub now_there : (q to : RunningQuery) (n : ℕ) (instr : Instr) → IsUnderWay q → slice_get q.plan.instrs n ≡ Some instr → HasNow q n to → has_result to n ≡ true
 now_there q to n instr under here now = gained_is q to n now.0 now.1 now.2 now.3 (inside_values q n instr under here)
 
--- what is out then
-module _ (b : Basis) (q to : Query) (n : ℕ) (instr : Instr) (handed finished later : List ℕ) {but : ℕ → Type 0} (under : IsUnderWay q) (here : slice_get q.plan.instrs n ≡ Some instr) (now : HasNow q n to) (only : (m : ℕ) → but m → m ≡ n)
+-- the results that are out then
+module _ (b : Basis) (q to : RunningQuery) (n : ℕ) (instr : Instr) (handed finished later : List ℕ) {but : ℕ → Type 0} (under : IsUnderWay q) (here : slice_get q.plan.instrs n ≡ Some instr) (now : HasNow q n to) (only : (m : ℕ) → but m → m ≡ n)
     (o : IsOut b q handed finished but) (own_only : has handed n ≡ true → has later n ≡ true) (own_within : has later n ≡ true → has handed n ≡ true) (same_later : (m : ℕ) → m ≢ n → has later m ≡ has finished m) where
   abbrev g : HasGained q n now.0 now.1 now.2 to
   g = now.3
@@ -129,19 +129,19 @@ module _ (b : Basis) (q to : Query) (n : ℕ) (instr : Instr) (handed finished l
       within_at m fin false same = o.within m (sym (same_later m (eqb-false m n same)) ∙ fin)
 
 -- where it wasn't handed out
-pub out_gained : (b : Basis) (q to : Query) (n : ℕ) (instr : Instr) (handed finished : List ℕ) {but : ℕ → Type 0} → IsUnderWay q → slice_get q.plan.instrs n ≡ Some instr → HasNow q n to → ((m : ℕ) → but m → m ≡ n) → has handed n ≡ false
+pub out_gained : (b : Basis) (q to : RunningQuery) (n : ℕ) (instr : Instr) (handed finished : List ℕ) {but : ℕ → Type 0} → IsUnderWay q → slice_get q.plan.instrs n ≡ Some instr → HasNow q n to → ((m : ℕ) → but m → m ≡ n) → has handed n ≡ false
     → IsOut b q handed finished but → IsOut b to handed finished (λ m. ⊥)
 out_gained b q to n instr handed finished under here now only new o = out_after b q to n instr handed finished finished under here now only o (λ out. false_true out new) (o.within n) (λ m apart. refl)
 
 -- and where it was, and is done
-pub out_done : (b : Basis) (q to : Query) (n : ℕ) (instr : Instr) (handed finished : List ℕ) → IsUnderWay q → slice_get q.plan.instrs n ≡ Some instr → HasNow q n to → has handed n ≡ true → IsOut b q handed finished (λ m. ⊥)
+pub out_done : (b : Basis) (q to : RunningQuery) (n : ℕ) (instr : Instr) (handed finished : List ℕ) → IsUnderWay q → slice_get q.plan.instrs n ≡ Some instr → HasNow q n to → has handed n ≡ true → IsOut b q handed finished (λ m. ⊥)
     → IsOut b to handed (finished ++ n ∷ []) (λ m. ⊥)
 out_done b q to n instr handed finished under here now out o =
     out_after b q to n instr handed finished (finished ++ n ∷ []) under here now (λ m no. absurd no) o (λ was. has_last finished n) (λ fin. out) (λ m apart. has_else finished n m apart)
 
 -- ## Asked for, and handed out
 
-pub out_asked : (b : Basis) (q to : Query) (n : ℕ) (handed finished : List ℕ) → HasAsked q n to → IsOut b q handed finished (λ m. ⊥) → IsOut b to handed finished (λ m. m ≡ n)
+pub out_asked : (b : Basis) (q to : RunningQuery) (n : ℕ) (handed finished : List ℕ) → HasAsked q n to → IsOut b q handed finished (λ m. ⊥) → IsOut b to handed finished (λ m. m ≡ n)
 out_asked b q to n handed finished a o = record {
   basis = (λ i. record { plan = a.plan_is i; database = (a.snap_is i).db }) ∙ o.basis;
   out = λ m apart none. ap (λ bs. slice_index_or bs m false) a.asked_are ∙ get_or-set_other q.asked.items n m true false apart ∙ o.out m (λ no. no) (sym (same m) ∙ none);
@@ -154,20 +154,20 @@ out_asked b q to n handed finished a o = record {
     same : (m : ℕ) → has_result to m ≡ has_result q m
     same m = ap (λ vs. is_some (slice_index_or vs m None)) a.values_are
 
-pub asked_is : (q to : Query) (n : ℕ) (instr : Instr) → IsUnderWay q → slice_get q.plan.instrs n ≡ Some instr → HasAsked q n to → was_asked to n ≡ true
+pub asked_is : (q to : RunningQuery) (n : ℕ) (instr : Instr) → IsUnderWay q → slice_get q.plan.instrs n ≡ Some instr → HasAsked q n to → was_asked to n ≡ true
 asked_is q to n instr under here a =
     ap (λ bs. slice_index_or bs n false) a.asked_are ∙ get_or-set_same q.asked.items n true false (let many = under.asked in let low = slice_get_within q.plan.instrs n instr here in omega (arith, many, low))
 
-pub asked_keeps : (q to : Query) (n : ℕ) → HasAsked q n to → Gains q to
+pub asked_keeps : (q to : RunningQuery) (n : ℕ) → HasAsked q n to → Gains q to
 asked_keeps q to n a m there = ap (λ vs. is_some (slice_index_or vs m None)) a.values_are ∙ there
 
-pub asked_none : (q to : Query) (n m : ℕ) → HasAsked q n to → has_result q m ≡ false → has_result to m ≡ false
+pub asked_none : (q to : RunningQuery) (n m : ℕ) → HasAsked q n to → has_result q m ≡ false → has_result to m ≡ false
 asked_none q to n m a none = ap (λ vs. is_some (slice_index_or vs m None)) a.values_are ∙ none
 
-pub asked_args : (q to : Query) (n : ℕ) (instr : Instr) → HasAsked q n to → HasArgs q instr → HasArgs to instr
+pub asked_args : (q to : RunningQuery) (n : ℕ) (instr : Instr) → HasAsked q n to → HasArgs q instr → HasArgs to instr
 asked_args q to n instr a has_args = args_stay q to (asked_keeps q to n a) instr has_args
 
-pub out_handed : (b : Basis) (q : Query) (n : ℕ) (instr : Instr) (handed finished : List ℕ) → slice_get q.plan.instrs n ≡ Some instr → HasArgs q instr → was_asked q n ≡ true → has_result q n ≡ false → IsOut b q handed finished (λ m. m ≡ n)
+pub out_handed : (b : Basis) (q : RunningQuery) (n : ℕ) (instr : Instr) (handed finished : List ℕ) → slice_get q.plan.instrs n ≡ Some instr → HasArgs q instr → was_asked q n ≡ true → has_result q n ≡ false → IsOut b q handed finished (λ m. m ≡ n)
     → IsOut b q (handed ++ n ∷ []) finished (λ m. ⊥)
 out_handed b q n instr handed finished here args asked open_ o = record {
   basis = o.basis;
@@ -191,7 +191,7 @@ out_handed b q n instr handed finished here args asked open_ o = record {
     ready_at m out false same = o.ready m (sym (has_else handed n m (eqb-false m n same)) ∙ out)
 
 -- what is ready wasn't handed out
-pub ready_new : (b : Basis) (q : Query) (n : ℕ) (handed finished : List ℕ) → IsReady q n → IsOut b q handed finished (λ m. ⊥) → has handed n ≡ false
+pub ready_new : (b : Basis) (q : RunningQuery) (n : ℕ) (handed finished : List ℕ) → IsReady q n → IsOut b q handed finished (λ m. ⊥) → has handed n ≡ false
 ready_new b q n handed finished r o = sym (o.out n (λ no. no) r.open_) ∙ r.unasked
 
 pub new_due : (handed finished : List ℕ) (n : ℕ) → (has finished n ≡ true → has handed n ≡ true) → has handed n ≡ false → has finished n ≡ false
@@ -210,7 +210,7 @@ fit_other db _ args apart fits = fits
 no_bind : (o : Op) → is_bind o ≡ false → o ≡ op.Bind → ⊥
 no_bind o other is = let yes : is_bind o ≡ true = ap is_bind is in let never : true ≡ false = sym yes ∙ other in cc
 
-pub task_is : InstrsRun → (q : Query) (n : ℕ) (instr : Instr) (task : Task) → IsUnderWay q → slice_get q.plan.instrs n ≡ Some instr → is_bind instr.op ≡ false → task.instr ≡ n → task.job.op ≡ instr.op
+pub task_is : InstrsRun → (q : RunningQuery) (n : ℕ) (instr : Instr) (task : Task) → IsUnderWay q → slice_get q.plan.instrs n ≡ Some instr → is_bind instr.op ≡ false → task.instr ≡ n → task.job.op ≡ instr.op
     → arg_values (known_of q.values.items) instr.args ≡ Some (values_of task.job.args.items) → IsTask (basis_in q) task
 task_is run q n instr task under here plain number operator given =
     let own = run q.plan q.snap.db n instr under.checked under.fits here in
@@ -227,7 +227,7 @@ task_is run q n instr task under here plain number operator given =
 
 -- ## Arguments that have their results
 
-result_is : (q : Query) (n : ℕ) → has_result q n ≡ is_some (arg_value (known_of q.values.items) (arg.Var n))
+result_is : (q : RunningQuery) (n : ℕ) → has_result q n ≡ is_some (arg_value (known_of q.values.items) (arg.Var n))
 result_is q n = flat q.values.items n ∙ ap (λ o. is_some (unwrap_or o None)) (sym (slice_get-map (option_map value_of) q.values.items n))
   where
     flat : (xs : List (Option Obj)) (k : ℕ) → is_some (slice_index_or xs k None) ≡ is_some (unwrap_or (option_map (option_map value_of) (slice_get xs k)) None)
@@ -236,7 +236,7 @@ result_is q n = flat q.values.items n ∙ ap (λ o. is_some (unwrap_or o None)) 
     flat (Some x ∷ xs) zero = refl
     flat (x ∷ xs) (suc k) = flat xs k
 
-pub all_there : (q : Query) (args : List Arg) → has_all (has_result q) args ≡ is_some (arg_values (known_of q.values.items) args)
+pub all_there : (q : RunningQuery) (args : List Arg) → has_all (has_result q) args ≡ is_some (arg_values (known_of q.values.items) args)
 all_there q [] = refl
 all_there q (arg.Const c ∷ args) = all_there q args ∙ kept (arg_values (known_of q.values.items) args)
   where
@@ -254,7 +254,7 @@ all_there q (arg.Var n ∷ args) =
 
 -- ## What is handed out
 
-pub new_task : (b : Basis) (q : Query) (n : ℕ) (instr : Instr) (handed finished : List ℕ) (task : Task) {but : ℕ → Type 0} → IsOut b q handed finished but → slice_get q.plan.instrs n ≡ Some instr → is_bind instr.op ≡ false → HasArgs q instr → has_result q n ≡ false
+pub new_task : (b : Basis) (q : RunningQuery) (n : ℕ) (instr : Instr) (handed finished : List ℕ) (task : Task) {but : ℕ → Type 0} → IsOut b q handed finished but → slice_get q.plan.instrs n ≡ Some instr → is_bind instr.op ≡ false → HasArgs q instr → has_result q n ≡ false
     → has handed n ≡ false → task.instr ≡ n → IsTask (basis_in q) task → IsNew b q handed finished task
 new_task b q n instr handed finished task o here plain args open_ new number is = record {
   is_task = subst (λ c. IsTask c task) o.basis is;
@@ -282,7 +282,7 @@ all_have (Some v ∷ vs) each = kept (all_or_none vs) (all_have vs (λ i low. ea
     kept None none = none
     kept (Some ws) some = refl
 
-module _ (run : InstrsRun) (b : Basis) (q : Query) (handed finished : List ℕ) (under : IsUnderWay q) (o : IsOut b q handed finished (λ m. ⊥)) (none : (n : ℕ) → IsReady q n → ⊥) where
+module _ (run : InstrsRun) (b : Basis) (q : RunningQuery) (handed finished : List ℕ) (under : IsUnderWay q) (o : IsOut b q handed finished (λ m. ⊥)) (none : (n : ℕ) → IsReady q n → ⊥) where
   nothing : NothingReady b (has_result q) (needs q) handed
   nothing i instr here needed new = go (has_all (has_result q) instr.args) refl
     where
@@ -347,7 +347,7 @@ module _ (run : InstrsRun) (b : Basis) (q : Query) (handed finished : List ℕ) 
 none_in : {P : Type 0} (n : ℕ) → has [] n ≡ true → P
 none_in n is = absurd (let no : false ≡ true = is in cc)
 
-pub out_opened : (q to : Query) → IsOpened q to → IsOut (basis_in to) to [] [] (λ n. ⊥)
+pub out_opened : (q to : RunningQuery) → IsOpened q to → IsOut (basis_in to) to [] [] (λ n. ⊥)
 out_opened q to o = record {
   basis = refl;
   out = λ n no none. o.unasked n;
@@ -358,7 +358,7 @@ out_opened q to o = record {
 }
 
 -- what is handed out and isn't done has no result
-pub out_open : (b : Basis) (q : Query) (n : ℕ) (handed finished : List ℕ) → has handed n ≡ true → has finished n ≡ false → IsOut b q handed finished (λ m. ⊥) → has_result q n ≡ false
+pub out_open : (b : Basis) (q : RunningQuery) (n : ℕ) (handed finished : List ℕ) → has handed n ≡ true → has finished n ≡ false → IsOut b q handed finished (λ m. ⊥) → has_result q n ≡ false
 out_open b q n handed finished out due o = go (has_result q n) refl
   where
     go : (e : Bool) → has_result q n ≡ e → has_result q n ≡ false
@@ -366,11 +366,11 @@ out_open b q n handed finished out due o = go (has_result q n) refl
     go true is = false_true (o.only n out is) due
 
 -- and was asked for
-pub out_asked_is : (b : Basis) (q : Query) (n : ℕ) (handed finished : List ℕ) → has handed n ≡ true → has finished n ≡ false → IsOut b q handed finished (λ m. ⊥) → was_asked q n ≡ true
+pub out_asked_is : (b : Basis) (q : RunningQuery) (n : ℕ) (handed finished : List ℕ) → has handed n ≡ true → has finished n ≡ false → IsOut b q handed finished (λ m. ⊥) → was_asked q n ≡ true
 out_asked_is b q n handed finished out due o = o.out n (λ no. no) (out_open b q n handed finished out due o) ∙ out
 
 -- the value of an instruction is that of the query
-pub value_there : (b : Basis) (q : Query) (n : ℕ) (v : Value) → basis_in q ≡ b → known_value b n ≡ Some v → value_at q n ≡ Some (Some v)
+pub value_there : (b : Basis) (q : RunningQuery) (n : ℕ) (v : Value) → basis_in q ≡ b → known_value b n ≡ Some v → value_at q n ≡ Some (Some v)
 value_there b q n v basis is = flat (value_at q n) (ap (λ c. known_value c n) basis ∙ is)
   where
     flat : (o : Option (Option Value)) → unwrap_or o None ≡ Some v → o ≡ Some (Some v)

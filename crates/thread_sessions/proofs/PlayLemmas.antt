@@ -56,7 +56,7 @@ first_of n event list none = (low, high)
     high : event.session ≤ n
     high = go (cases_lt n event.session)
 
--- where no entry is of a number beside those of the sessions, each event is of one of them
+-- where no entry is of another number than those of the sessions, each event is of one of them
 of_one : (n : ℕ) (list : List Event) → HasNoneBeside n list → AllByRecursion (IsOfOne n) (log_tree list)
 of_one n [] none = tt
 of_one n (event ∷ list) none = (
@@ -70,7 +70,7 @@ of_one n (event ∷ list) none = (
 pub events_of : (n : ℕ) (log : List Event) → HasNoneBeside n log → AllByRecursion (IsOfOne n) (log_tree log)
 events_of n log none = of_one n log none
 
--- ## A log that was handed out
+-- ## The log at the end
 
 module _ (log events : List Event) (same : events ≡ log) where
   pub texts_in : (scripts : List (List (List ℕ))) (texts : List (List ℕ)) → AreTexts (log_tree log) 1 scripts texts → AreTexts (log_tree events) 1 scripts texts
@@ -79,9 +79,9 @@ module _ (log events : List Event) (same : events ≡ log) where
   pub totals_in : (options : PoolOptions) (totals : Totals) → totals ≡ run_totals options (log_tree log) → totals ≡ run_totals options (log_tree events)
   totals_in options totals are = are ∙ ap (λ (es : List Event). run_totals options (log_tree es)) (sym same)
 
--- ## Where the sessions stand
+-- ## The sessions at the end
 
--- each stands where the log says, with its number
+-- each agrees with the log, with its number
 abbrev pub AreAt : PoolOptions → List EventTree → List Session → Type 0
 AreAt options log sessions = (place : ℕ) (x : Session) → slice_get sessions place ≡ Some x → (x.number ≡ place + 1) × IsAt options log x
 
@@ -124,7 +124,7 @@ module _ (workers : ℕ) (options : PoolOptions) (log : List EventTree) (session
       played_from (front ++ event ∷ []) back (is ∙ sym (append_assoc front (event ∷ []) back)) all.1
       (subst (λ turns. IsPlayed (order_for workers) options (scripts_of sessions) turns (front ++ event ∷ [])) (sym (map-append (λ (e : EventTree). e.session) front (event ∷ []))) (does_at front event back is all.0 before))
 
-  -- the sessions, which are over, took turns that gave the log
+  -- the sessions, which are over, took turns that make the log
   pub run_out : AllByRecursion (IsOfOne (length sessions)) log → AreOver (length sessions) sessions → IsRunOut (order_for workers) options (scripts_of sessions) log
   run_out all over = record {
     turns = turns_of log;

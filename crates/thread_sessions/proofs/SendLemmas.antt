@@ -7,7 +7,7 @@ use Rattle.std.proofs.option.Option.TheSendSync as Option
 use Rattle.mal_meaning.proofs.plan.Plan.TheSendSync as Plan
 use Rattle.lineage_key.proofs.key.Key.TheSendSync as Key
 use Rattle.pool_policy.proofs.options.Admitted.TheSendSync as Admitted
-use Rattle.run_log.proofs.event.Looked.TheSendSync as Looked
+use Rattle.run_log.proofs.event.FoundLog.TheSendSync as FoundLog
 use Rattle.run_log.specs.contracts.stmt_text.StmtText as StmtTextRow
 use Rattle.mal_meaning.specs.contracts.plan.Plan as PlanRow
 use Rattle.run_log.specs.contracts.event.Act as ActRow
@@ -15,7 +15,7 @@ use Rattle.run_log.specs.contracts.event.Event as EventRow
 use Rattle.table_store.proofs.store.Store.TheSendSync as Store
 use Rattle.recycle_pool.proofs.pool.Pool.TheSendSync as Pool
 use Rattle.book_core.specs.contracts.book.Book as BookRow
-use Rattle.thread_sessions.specs.contracts.kept.Kept as KeptRow
+use Rattle.thread_sessions.specs.contracts.kept.SharedBook as KeptRow
 
 pub stmt_text_send : IsSend StmtTextRow.the_row
 stmt_text_send = search (crosses, sendable) depth 30
@@ -24,7 +24,7 @@ pub act_send : IsSend ActRow.the_row
 act_send = variants_send ActRow.enum (
   (search sendable, (Option.the_send PlanRow.the_row Plan.the_send, tt)),
   (
-    (search sendable, (Key.the_send, (Looked.the_send, tt))),
+    (search sendable, (Key.the_send, (FoundLog.the_send, tt))),
     (
       (search sendable, (Key.the_send, (Admitted.the_send, tt))),
       (

@@ -7,8 +7,8 @@ use Rattle.sql_tree.proofs.tree.Cond.TheLaws.TheKnot as CondKnot
 use Rattle.sql_tree.proofs.tree.Expr.TheLaws.TheKnot as ExprKnot
 use Rattle.sql_tree.specs.contracts.tree.Query as QueryRow
 use Rattle.sql_tree.specs.contracts.tree.Stmt as StmtRow
-use Rattle.sql_semantics.specs.contracts.refusal.Refusal as RefusalRow
-use Rattle.sql_semantics.proofs.refusal.Refusal.TheSendSync as Refusal
+use Rattle.sql_definitions.specs.contracts.refusal.Refusal as RefusalRow
+use Rattle.sql_definitions.proofs.refusal.Refusal.TheSendSync as Refusal
 use Rattle.mal_meaning.proofs.plan.Plan.TheSendSync as Plan
 use Rattle.reply_layout.proofs.shown.Shown.TheSendSync as Shown
 use Rattle.query_run.proofs.step.Step.TheSendSync as Step

@@ -16,7 +16,7 @@ use Rattle.dataflow.specs.declared.basis.Basis.{Basis}
 use Rattle.dataflow.specs.declared.task.Task.{Task}
 use Rattle.dataflow.specs.Plans.{has, has_all}
 use Rattle.dataflow.specs.Rules.{IsTask}
-use Rattle.query_run.specs.declared.step.Query.{Query}
+use Rattle.query_run.specs.declared.step.RunningQuery.{RunningQuery}
 use Rattle.query_run.specs.declared.step.Step.{Step}
 use Rattle.query_run.specs.declared.step.Step.TheVariants as step
 use Rattle.query_run.specs.Queries.{HasArgs, HasGained, has_result, was_asked}
@@ -32,7 +32,7 @@ use Rattle.thread_sessions.specs.Runners.{IsWith}
 -- ## What is run
 
 -- the plan of a query, and the tables that it sees
-abbrev pub basis_in : Query → Basis
+abbrev pub basis_in : RunningQuery → Basis
 basis_in q = record { plan = q.plan; database = q.snap.db }
 
 abbrev pub no_basis : Basis
@@ -52,7 +52,7 @@ is_bind Bind = true
 is_bind _ = false
 
 -- whether an instruction needs a worker: it has no result, and is no bind
-abbrev pub needs : Query → ℕ → Bool
+abbrev pub needs : RunningQuery → ℕ → Bool
 needs q n = option_map_or (λ (instr : Instr). not (is_bind instr.op)) (slice_get q.plan.instrs n) false && not (has_result q n)
 
 abbrev pub needed_in : Stage → ℕ → Bool
@@ -61,8 +61,8 @@ needed_in _ n = false
 
 -- ## What is out
 
--- which results are out: those that were handed out and aren't there, but for some; what is handed out has its arguments, and is there exactly where it is done
-pub record IsOut (b : Basis) (q : Query) (handed finished : List ℕ) (but : ℕ → Type 0) : Type 0 where
+-- the results that are out: those that were handed out and aren't there, but for some; an instruction that was handed out has its arguments, and its result exactly if it is done
+pub record IsOut (b : Basis) (q : RunningQuery) (handed finished : List ℕ) (but : ℕ → Type 0) : Type 0 where
   pub basis : basis_in q ≡ b
   pub out : (n : ℕ) → (but n → ⊥) → has_result q n ≡ false → was_asked q n ≡ has handed n
   pub only : (n : ℕ) → has handed n ≡ true → has_result q n ≡ true → has finished n ≡ true
@@ -71,15 +71,15 @@ pub record IsOut (b : Basis) (q : Query) (handed finished : List ℕ) (but : ℕ
   pub ready : (n : ℕ) → has handed n ≡ true → (instr : Instr) × (slice_get q.plan.instrs n ≡ Some instr) × HasArgs q instr
 
 -- a query with the result of an instruction, and with all that it had
-abbrev pub HasNow : Query → ℕ → Query → Type 0
+abbrev pub HasNow : RunningQuery → ℕ → RunningQuery → Type 0
 HasNow q n to = (result : Obj) × (id work : ℕ) × HasGained q n result id work to
 
 -- no result is lost
-abbrev pub Gains : Query → Query → Type 0
+abbrev pub Gains : RunningQuery → RunningQuery → Type 0
 Gains q to = (n : ℕ) → has_result q n ≡ true → has_result to n ≡ true
 
--- the task is of an instruction that has no result, whose arguments have theirs, and which wasn't handed out
-pub record IsNew (b : Basis) (q : Query) (handed finished : List ℕ) (task : Task) : Type 0 where
+-- the task is of an instruction that has its arguments, has no result and wasn't handed out
+pub record IsNew (b : Basis) (q : RunningQuery) (handed finished : List ℕ) (task : Task) : Type 0 where
   pub is_task : IsTask b task
   pub needed : needs q task.instr ≡ true
   pub ready : (instr : Instr) → slice_get b.plan.instrs task.instr ≡ Some instr → has_all (has_result q) instr.args ≡ true
@@ -108,7 +108,7 @@ module _ {V : Type 0} where
     pub more : runner.session.ended < length runner.session.pieces
     pub ready : IsReady runner.session.stage
 
-  -- it did it, and stands where all says that its pass has seen then
+  -- it did it, and agrees with all that its pass has seen then
   pub record HasDone (options : PoolOptions) (hall : Hall V Event) (old new : Runner V Event) : Type 0 where
     pub ours : IsPassOf hall new.pass
     pub stands : IsWith options new.pass new.session
@@ -124,7 +124,7 @@ module _ {V : Type 0} where
 
   -- ## Its query
 
-  -- a session that stands where all says that its pass has seen, if its query stands at this step; it is the one that began
+  -- a session that agrees with all that its pass has seen, if its query is in this step; it is the one that began
   pub record IsCrewed (options : PoolOptions) (hall : Hall V Event) (runner : Runner V Event) (began : Session) (at : Step) : Type 0 where
     pub ours : IsPassOf hall runner.pass
     pub stands : IsWith options runner.pass (at_stage runner.session (stage.Querying at))
@@ -134,18 +134,18 @@ module _ {V : Type 0} where
 
   -- its query is open, and what is handed out is out
   pub record IsCrew (options : PoolOptions) (hall : Hall V Event) (runner : Runner V Event) (began : Session) (handed finished : List ℕ) : Type 0 where
-    pub query : Query
+    pub query : RunningQuery
     pub open_ : runner.session.stage ≡ stage.Querying (step.Open query)
     pub crewed : IsCrewed options hall runner began (step.Open query)
     pub out : IsOut (basis_of began.stage) query handed finished (λ n. ⊥)
 
-  -- so, and a closure does its events
+  -- its query is open, what is handed out is out, and a closure does its events
   pub record IsSound {F : Type 0} (g : Shared F (MutBor (Runner V Event) × Unit {0}) (Result (Unit {0}) Memory × (MutBor (Runner V Event) × Unit {0}))) (options : PoolOptions) (hall : Hall V Event) (f : F) (runner : Runner V Event) (began : Session) (handed finished : List ℕ) : Type 0 where
     pub does : DoesEvents g options hall f
     pub crew : IsCrew options hall runner began handed finished
 
-  -- where a query comes to by one instruction: it goes on, or the instruction is handed out
-  abbrev pub IsGone : PoolOptions → Hall V Event → Runner V Event → Session → Query → List ℕ → List ℕ → List ℕ → Gone → Type 0
+  -- a query after one instruction: it goes on, or the instruction is handed out
+  abbrev pub IsGone : PoolOptions → Hall V Event → Runner V Event → Session → RunningQuery → List ℕ → List ℕ → List ℕ → Gone → Type 0
   IsGone options hall runner began q before handed finished (On to) =
       IsCrewed options hall runner began (step.Open to) × IsOut (basis_of began.stage) to handed finished (λ n. ⊥) × Gains q to × (handed ≡ before)
   IsGone options hall runner began q before handed finished (Out to task) =

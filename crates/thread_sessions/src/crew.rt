@@ -3,7 +3,7 @@ ghost use Rattle.std.specs.Prelude.{◌≡◌, ◌≢◌, false, length, true, s
 ghost use Rattle.cell_core.specs.declared.operator.Instr.{Instr as InstrSeen};
 ghost use Rattle.bat_core.specs.Objects.{value_of};
 ghost use Rattle.dataflow.specs.Plans.{has};
-ghost use Rattle.query_run.specs.declared.step.Query.{Query as QuerySeen};
+ghost use Rattle.query_run.specs.declared.step.RunningQuery.{RunningQuery as QuerySeen};
 ghost use Rattle.query_run.specs.declared.step.Step.TheVariants as step;
 ghost use Rattle.query_run.specs.Queries.{HasArgs, HasMark, IsUnderWay, has_result, value_at, was_asked};
 ghost use Rattle.recycle_pool.specs.declared.found.Found.TheVariants as what;
@@ -14,15 +14,15 @@ ghost use Rattle.session_run.specs.Stages.{Follows};
 ghost use Rattle.thread_sessions.specs.Crews as told;
 ghost use Rattle.thread_sessions.specs.Crews.{AsksOrOffers, DoesEvents, HasNow, IsCrewed, IsGone, IsOut, basis_in, basis_of, with_stage};
 
-use crate::kept::RunOptions;
+use crate::kept::HasOptions;
 use crate::runner::Runner;
 use bat_core::{Obj, Operate};
 use cell_core::{Memory, Op, Steps};
 use dataflow::{Job, Task};
 use mal_exec::known_args;
 use query_keys::instrs_run;
-use query_run::{Offer, Query, Step};
-use recycle_pool::{Found, Part};
+use query_run::{Offer, RunningQuery, Step};
+use recycle_pool::{CoverPiece, Found};
 use run_log::Event;
 use session_run::{Session, Stage};
 use std::alloc::Global;
@@ -32,9 +32,9 @@ use std::snapshot::Snapshot;
 use std::sync::ledger::Ledger;
 use turn_hall::{Hall, Logged};
 
-/// What a crew works with.
+/// The tools of a crew, which don't change while it works.
 #[derive(Drop)]
-pub(crate) struct Tools<'h, 'k, V: Logged, K: RunOptions, F, E> {
+pub(crate) struct Tools<'h, 'k, V: Logged, K: HasOptions, F, E> {
     pub alloc: Global,
     pub hall: &'h Hall<V>,
     /// Does a session's next event, in a turn.
@@ -45,9 +45,10 @@ pub(crate) struct Tools<'h, 'k, V: Logged, K: RunOptions, F, E> {
     pub of: PhantomData<K>,
 }
 
-/// A session whose query is open, with the pass by which it takes turns. It asks the pool for the results of
-/// marked instructions, computes by itself what reuses others, hands the rest out, and offers what comes back.
-pub(crate) struct Crew<'h, 'k, 's, V: Logged, K: RunOptions, F, E, L: Ledger> {
+/// A session whose query is open, with the pass by which it takes turns. It asks the pool for the
+/// results of marked instructions, computes binds and results from pooled ones by itself, hands the
+/// rest out, and offers the values that come back.
+pub(crate) struct Crew<'h, 'k, 's, V: Logged, K: HasOptions, F, E, L: Ledger> {
     pub tools: Tools<'h, 'k, V, K, F, E>,
     pub steps: &'s mut Steps<L>,
     pub runner: Runner<V>,
@@ -55,13 +56,13 @@ pub(crate) struct Crew<'h, 'k, 's, V: Logged, K: RunOptions, F, E, L: Ledger> {
     pub handed: Vec<u32>,
     /// Those of them that are done.
     pub finished: Vec<u32>,
-    /// How many instructions the plan has.
+    /// The number of instructions of the plan.
     pub instrs: u32,
     ghost counted: { instrs ≡ length (basis_of tools.began.value.stage).plan.instrs },
 }
 
-// By a call of its own, so that proofs needn't go through its forms where one is let go.
-impl<'h, 'k, 's, V: Logged, K: RunOptions, F: Drop, E, L: Ledger> Drop
+// By a call of its own, so that proofs needn't go through its forms where one is dropped.
+impl<'h, 'k, 's, V: Logged, K: HasOptions, F: Drop, E, L: Ledger> Drop
     for Crew<'h, 'k, 's, V, K, F, E, L> {
     fn drop(self) {
         let Crew {
@@ -75,8 +76,8 @@ impl<'h, 'k, 's, V: Logged, K: RunOptions, F: Drop, E, L: Ledger> Drop
     }
 }
 
-impl<'h, 'k, 's, V: Logged, K: RunOptions, F: Drop, E, L: Ledger> Crew<'h, 'k, 's, V, K, F, E, L> {
-    /// Its session with its pass; the rest is let go.
+impl<'h, 'k, 's, V: Logged, K: HasOptions, F: Drop, E, L: Ledger> Crew<'h, 'k, 's, V, K, F, E, L> {
+    /// Its session with its pass. The rest is dropped.
     pub(crate) fn into_runner(self) -> Runner<V>
         ensures { result ≡ self.entry.runner }
     {
@@ -92,18 +93,18 @@ impl<'h, 'k, 's, V: Logged, K: RunOptions, F: Drop, E, L: Ledger> Crew<'h, 'k, '
     }
 }
 
-/// Where a query comes to by one instruction.
+/// The query after one instruction.
 #[derive(Drop)]
 pub(crate) enum Gone {
     /// It goes on.
-    On(Query),
+    On(RunningQuery),
     /// The instruction is handed out.
-    Out(Query, Task),
+    Out(RunningQuery, Task),
 }
 
 impl<V: Logged<Entry = Event>> Runner<V> {
     /// Its open query, which has to be put back.
-    pub(crate) fn take_query(&mut self) -> Query
+    pub(crate) fn take_query(&mut self) -> RunningQuery
         requires { (q : QuerySeen) × (self.old.session.stage ≡ stage.Querying (step.Open q)) }
         ensures query { self.old.session.stage ≡ stage.Querying (step.Open result) }
         ensures rest { self.new ≡ with_stage self.old stage.Between }
@@ -119,11 +120,12 @@ impl<
     'h,
     'k,
     V: Logged<Entry = Event>,
-    K: RunOptions,
+    K: HasOptions,
     F: Fn(&mut Runner<V>) -> Result<(), Memory>,
     E: Operate,
 > Tools<'h, 'k, V, K, F, E> {
-    /// Does the event of a query that asks or offers, in a turn, and answers where the query stands then.
+    /// Does the event of a query that asks or offers, in a turn, and returns the query's step after
+    /// it.
     fn do_event(&self, runner: &mut Runner<V>, next: Step) -> Result<Step, Memory>
         requires does { DoesEvents F.Fn K.options self.now.hall.now self.now.event }
         requires crewed { IsCrewed K.options self.now.hall.now runner.old self.now.began.value next }
@@ -146,7 +148,7 @@ impl<
         steps: &mut Steps<L>,
         handed: &mut Vec<u32>,
         finished: &[u32],
-        mut query: Query,
+        mut query: RunningQuery,
         n: usize,
     ) -> Result<Gone, Memory>
         requires does { DoesEvents F.Fn K.options self.now.hall.now self.now.event }
@@ -169,7 +171,7 @@ impl<
         steps: &mut Steps<L>,
         handed: &mut Vec<u32>,
         finished: &[u32],
-        query: Query,
+        query: RunningQuery,
         n: usize,
     ) -> Result<Gone, Memory>
         requires does { DoesEvents F.Fn K.options self.now.hall.now self.now.event }
@@ -189,17 +191,17 @@ impl<
         }
     }
 
-    /// Computes a result from what was found for it, or where nothing was.
+    /// Computes a result after a look: from what was found, or else from its arguments.
     fn found<L: Ledger>(
         &self,
         runner: &mut Runner<V>,
         steps: &mut Steps<L>,
         handed: &mut Vec<u32>,
         finished: &[u32],
-        query: Query,
+        query: RunningQuery,
         n: usize,
         found: Found,
-        parts: Vec<Part>,
+        parts: Vec<CoverPiece>,
     ) -> Result<Gone, Memory>
         requires does { DoesEvents F.Fn K.options self.now.hall.now self.now.event }
         requires crewed { IsCrewed K.options self.now.hall.now runner.old self.now.began.value (step.Found query n found parts) }
@@ -217,16 +219,16 @@ impl<
         }
     }
 
-    /// Computes a result from others, and offers it.
+    /// Computes a result from pooled ones, and offers it.
     fn reuse<L: Ledger>(
         &self,
         runner: &mut Runner<V>,
         steps: &mut Steps<L>,
-        query: Query,
+        query: RunningQuery,
         n: usize,
         found: Found,
-        parts: Vec<Part>,
-    ) -> Result<Query, Memory>
+        parts: Vec<CoverPiece>,
+    ) -> Result<RunningQuery, Memory>
         requires does { DoesEvents F.Fn K.options self.now.hall.now self.now.event }
         requires crewed { IsCrewed K.options self.now.hall.now runner.old self.now.began.value (step.Found query n found parts) }
         requires some { found ≢ what.Miss }
@@ -244,10 +246,10 @@ impl<
     fn offer(
         &self,
         runner: &mut Runner<V>,
-        query: Query,
+        query: RunningQuery,
         n: usize,
         offer: Offer,
-    ) -> Result<Query, Memory>
+    ) -> Result<RunningQuery, Memory>
         requires does { DoesEvents F.Fn K.options self.now.hall.now self.now.event }
         requires crewed { IsCrewed K.options self.now.hall.now runner.old self.now.began.value (step.Offering query n offer) }
         ensures crewed { IfOk result (λ to. IsCrewed K.options self.now.hall.now runner.new self.now.began.value (step.Open to)) }
@@ -266,7 +268,7 @@ impl<
         steps: &mut Steps<L>,
         handed: &mut Vec<u32>,
         finished: &[u32],
-        query: Query,
+        query: RunningQuery,
         n: usize,
     ) -> Result<Gone, Memory>
         requires does { DoesEvents F.Fn K.options self.now.hall.now self.now.event }
@@ -288,14 +290,14 @@ impl<
         Ok(Gone::Out(query, task))
     }
 
-    /// Gives its query the value of an instruction, and offers it where it is marked.
+    /// Hands the query the value of an instruction, and offers that of a marked one to the pool.
     pub fn give(
         &self,
         runner: &mut Runner<V>,
-        query: Query,
+        query: RunningQuery,
         n: usize,
         value: Obj,
-    ) -> Result<Query, Memory>
+    ) -> Result<RunningQuery, Memory>
         requires does { DoesEvents F.Fn K.options self.now.hall.now self.now.event }
         requires crewed { IsCrewed K.options self.now.hall.now runner.old self.now.began.value (step.Open query) }
         requires asked { was_asked query n ≡ true }
@@ -320,8 +322,8 @@ fn is_bind(op: Op) -> bool
     matches!(op, Op::Bind)
 }
 
-/// The task of an instruction whose arguments are there.
-fn task_of(alloc: Global, query: &Query, n: usize) -> Result<Task, Memory>
+/// The task of an instruction that has its arguments.
+fn task_of(alloc: Global, query: &RunningQuery, n: usize) -> Result<Task, Memory>
     requires under { IsUnderWay query.now }
     requires args { (instr : InstrSeen) × (slice_get query.now.plan.instrs n ≡ Some instr) × (told.is_bind instr.op ≡ false) × HasArgs query.now instr }
     ensures number { IfOk result (λ task. task.instr ≡ n) }

@@ -15,8 +15,8 @@ use run_sessions::{Run, finish_run};
 use session_run::Session;
 use std::alloc::Global;
 
-/// Ends a run whose sessions are over: each of them saw a beginning of the log, behind which all events are
-/// of others.
+/// Ends a run whose sessions are over: each of them saw a beginning of the log, after which all
+/// events are of others.
 pub(crate) fn end_run(alloc: Global, book: Book, sessions: Vec<Session>) -> Result<Run, Memory>
     requires seen { HaveSeen book.options book.log sessions.items }
     requires none { HasNoneBeside (length sessions.items) book.log }
@@ -28,7 +28,7 @@ pub(crate) fn end_run(alloc: Global, book: Book, sessions: Vec<Session>) -> Resu
     ensures texts { IfOk result (λ run. AreTexts (log_tree run.log.items) 1 (scripts_of sessions.items) (map (λ (text : VecSeen ℕ GlobalSeen). text.items) run.texts.items)) }
     ensures totals { IfOk result (λ run. run.totals ≡ run_totals book.options (log_tree run.log.items)) }
 {
-    // What came behind what a session saw changes nothing for it, as the log is lawful.
-    let _ = book.log();
+    // The log is lawful, so events after those that a session saw change nothing for it.
+    book.log_is_lawful();
     finish_run(alloc, book, sessions)
 }

@@ -1,4 +1,4 @@
-//! A crew as what `flow` runs.
+//! A crew as the jobs that `flow` runs.
 ghost use Rattle.std.specs.Prelude.{◌≡◌, ℕ, ◌++◌, ◌∷◌, [], true, false, IfOk, OnOk, IfSome, IfNone, Some};
 ghost use Rattle.bat_core.specs.Objects.{value_of};
 ghost use Rattle.dataflow.specs.Plans.{Grows, IsHandedOut, IsIdle, has};
@@ -6,7 +6,7 @@ ghost use Rattle.dataflow.specs.Rules.{value_at};
 ghost use Rattle.thread_sessions.specs.Crews.{IsSound, basis_of, needed_in, valued_in};
 
 use crate::crew::{Crew, Gone};
-use crate::kept::RunOptions;
+use crate::kept::HasOptions;
 use crate::runner::Runner;
 use bat_core::{Obj, Operate};
 use cell_core::Memory;
@@ -25,12 +25,12 @@ impl<
     'k,
     's,
     V: Logged<Entry = Event>,
-    K: RunOptions,
+    K: HasOptions,
     F: Fn(&mut Runner<V>) -> Result<(), Memory>,
     E: Operate,
     L: Ledger,
 > Crew<'h, 'k, 's, V, K, F, E, L> {
-    /// The next task, if there is one that is ready.
+    /// The next task that is ready, if any.
     fn next_task<R: Wait>(&mut self, rt: &R) -> Result<Option<Task>, Memory>
         requires { IsSound F.Fn K.options self.old.tools.hall.now self.old.tools.event self.old.runner self.old.tools.began.value self.old.handed.items self.old.finished.items }
         ensures tools { self.new.tools ≡ self.old.tools }
@@ -66,7 +66,7 @@ impl<
         unreachable!()
     }
 
-    /// Takes in the value of an instruction that is out.
+    /// Takes in the value of an instruction that was handed out.
     fn take_value(&mut self, instr: u32, value: Obj) -> Result<(), Memory>
         requires sound { IsSound F.Fn K.options self.old.tools.hall.now self.old.tools.event self.old.runner self.old.tools.began.value self.old.handed.items self.old.finished.items }
         requires out { has self.old.handed.items instr ≡ true }
@@ -94,7 +94,7 @@ impl<
     'k,
     's,
     V: Logged<Entry = Event>,
-    K: RunOptions,
+    K: HasOptions,
     F: Fn(&mut Runner<V>) -> Result<(), Memory>,
     E: Operate,
     L: Ledger,

@@ -20,14 +20,15 @@ use std::marker::{Brand, PhantomData};
 use std::sync::ledger::Ledger;
 use turn_hall::Logged;
 
-/// The options of a run, in a type, so that each turn knows them. Whoever makes the book picks them.
-pub trait RunOptions {
+/// The options of a run as a type, by which each turn knows them. They are chosen where the book is
+/// made.
+pub trait HasOptions {
     ghost use Rattle.pool_policy.specs.declared.options.PoolOptions.{PoolOptions};
 
     ghost options: { PoolOptions };
 }
 
-impl RunOptions for Brand {
+impl HasOptions for Brand {
     ghost use Rattle.std.specs.Prelude.{[]};
     ghost use Rattle.score_hook.specs.declared.stats.Evict.TheVariants.{Lru};
     ghost use Rattle.pool_policy.specs.declared.options.Admit.TheVariants.{All};
@@ -37,13 +38,13 @@ impl RunOptions for Brand {
 
 /// A book, in a type that names its options.
 #[derive(Drop)]
-pub struct Kept<K: RunOptions> {
+pub struct SharedBook<K: HasOptions> {
     pub(crate) book: Book,
     of: PhantomData<K>,
     ghost optioned: { book.options ≡ K.options },
 }
 
-impl<K: RunOptions> Logged for Kept<K> {
+impl<K: HasOptions> Logged for SharedBook<K> {
     type Entry = Event;
 
     ghost entries = { λ kept. kept.book.log };
@@ -55,28 +56,28 @@ impl<K: RunOptions> Logged for Kept<K> {
     }
 }
 
-impl<K: RunOptions> Kept<K> {
+impl<K: HasOptions> SharedBook<K> {
     /// A book without events.
-    pub fn new(alloc: Global, options: PoolOptions) -> Result<Kept<K>, Memory>
+    pub fn new(alloc: Global, options: PoolOptions) -> Result<SharedBook<K>, Memory>
         requires options { options ≡ K.options }
         requires places { options.places ≤ 1024 }
         requires budget { options.budget ≤ 2 ^ 40 }
         ensures { IfOk result (λ kept. kept.book.log ≡ []) }
     {
         let book = Book::new(alloc, options)?;
-        Ok(Kept {
+        Ok(SharedBook {
             book,
             of: PhantomData,
         })
     }
 
-    /// A session that stood where the log was when it saw it stands where the log is now: what came between is of
-    /// others.
+    /// Shows that a session agrees with the present log: the events after those that it has seen
+    /// are of other sessions.
     pub fn catch_up(&self, session: &Session)
         requires { HasSeen K.options self.now.book.log session.now }
         ensures { IsAt K.options (log_tree self.now.book.log) session.now }
     {
-        let _ = self.book.log();
+        self.book.log_is_lawful();
     }
 
     /// Does the next event of a session. Where memory runs out, the book stays as it was.
@@ -106,13 +107,13 @@ impl<K: RunOptions> Kept<K> {
         Ok(())
     }
 
-    /// Its log is lawful under the options. So the pool, which is that of the log's fold, is sound here and at
-    /// each turn before.
+    /// Shows that the log is lawful under the options. The pool, which is that of the log's fold,
+    /// is therefore sound after each event.
     pub fn tell_law(&self)
         ensures lawful { IsLawful K.options (log_tree self.now.book.log) }
         ensures sound { IsSoundAlong K.options (log_tree self.now.book.log) }
     {
-        let _ = self.book.log();
+        self.book.log_is_lawful();
     }
 
     /// The book.
@@ -120,7 +121,7 @@ impl<K: RunOptions> Kept<K> {
         ensures options { result.options ≡ K.options }
         ensures log { result.log ≡ self.book.log }
     {
-        let Kept { book, of: _ } = self;
+        let SharedBook { book, of: _ } = self;
         book
     }
 }

@@ -2,7 +2,7 @@
 ghost use Rattle.std.specs.Prelude.{◌≡◌, ℕ, ◌<◌, length, None, true, IfOk, OnOk};
 ghost use Rattle.mal_meaning.specs.Meaning.{plan_rows};
 ghost use Rattle.dataflow.specs.Plans.{NoneOut};
-ghost use Rattle.query_run.specs.declared.step.Query.{Query as QuerySeen};
+ghost use Rattle.query_run.specs.declared.step.RunningQuery.{RunningQuery as QuerySeen};
 ghost use Rattle.query_run.specs.declared.step.Step.TheVariants as step;
 ghost use Rattle.session_run.specs.declared.stage.Stage.TheVariants as stage;
 ghost use Rattle.session_run.specs.Stages.{IsAside};
@@ -10,7 +10,7 @@ ghost use Rattle.thread_sessions.specs.Crews.{CanDo, DoesEvents, HasDone, HasEnd
 ghost use Rattle.thread_sessions.specs.Runs.{HasRunOn, IsRunner};
 
 use crate::crew::{Crew, Tools};
-use crate::kept::{Kept, RunOptions};
+use crate::kept::{HasOptions, SharedBook};
 use crate::runner::{Runner, next_event};
 use bat_core::Operate;
 use cell_core::{Memory, RunError, Steps};
@@ -28,17 +28,18 @@ use std::sync::ledger::Ledger;
 use std::thread::Threads;
 use turn_hall::{Hall, Logged};
 
-/// Runs the query that a session has begun, by so many workers. Its End is the session's next event.
-pub(crate) fn run_query<K: RunOptions, R: Threads + Wait + Sync, E: Operate + Sync, L: Ledger>(
+/// Runs the query that a session has begun, by `workers` workers. Its End is the session's next
+/// event.
+pub(crate) fn run_query<K: HasOptions, R: Threads + Wait + Sync, E: Operate + Sync, L: Ledger>(
     rt: &R,
     alloc: Global,
-    hall: &Hall<Kept<K>>,
-    runner: Runner<Kept<K>>,
+    hall: &Hall<SharedBook<K>>,
+    runner: Runner<SharedBook<K>>,
     scorer: &Scorer,
     kernel: &E,
     steps: &mut Steps<L>,
     workers: u32,
-) -> Result<Runner<Kept<K>>, Memory>
+) -> Result<Runner<SharedBook<K>>, Memory>
     requires kind { scorer.now.kind ≡ K.options.evict }
     requires weights { scorer.now.weights.items ≡ K.options.weights }
     requires runner { IsRunner K.options hall.now runner }
@@ -46,19 +47,19 @@ pub(crate) fn run_query<K: RunOptions, R: Threads + Wait + Sync, E: Operate + Sy
     requires begun { (q : QuerySeen) × (runner.session.stage ≡ stage.Querying (step.Begun q)) }
     ensures { IfOk result (HasRunOn K.options hall.now runner) }
 {
-    let event = |runner: &mut Runner<Kept<K>>| -> Result<(), Memory>
+    let event = |runner: &mut Runner<SharedBook<K>>| -> Result<(), Memory>
         requires kind { scorer.now.kind ≡ K.options.evict }
         requires weights { scorer.now.weights.items ≡ K.options.weights }
         requires can { CanDo K.options hall.now runner.old }
         ensures { OnOk result (HasDone K.options hall.entry.now runner.old runner.new) }
     { next_event(rt, alloc, hall, runner, scorer, kernel) };
-    run_open::<Kept<K>, K, _, _, _, _>(rt, alloc, hall, runner, event, kernel, steps, workers)
+    run_open::<SharedBook<K>, K, _, _, _, _>(rt, alloc, hall, runner, event, kernel, steps, workers)
 }
 
 /// The same, where a closure does the session's events.
 fn run_open<
     V: Logged<Entry = Event>,
-    K: RunOptions,
+    K: HasOptions,
     R: Threads + Wait + Sync,
     F: Fn(&mut Runner<V>) -> Result<(), Memory> + Drop,
     E: Operate + Sync,
@@ -95,7 +96,7 @@ fn open_crew<
     'k,
     's,
     V: Logged<Entry = Event>,
-    K: RunOptions,
+    K: HasOptions,
     F: Fn(&mut Runner<V>) -> Result<(), Memory> + Drop,
     E: Operate,
     L: Ledger,
@@ -143,10 +144,10 @@ fn open_crew<
     })
 }
 
-/// Ends a query all of whose results are there.
+/// Ends a query that has all its results.
 fn finish<
     V: Logged<Entry = Event>,
-    K: RunOptions,
+    K: HasOptions,
     F: Fn(&mut Runner<V>) -> Result<(), Memory> + Drop,
     E: Operate,
     L: Ledger,
@@ -164,7 +165,7 @@ fn finish<
 /// Ends a query that overflows.
 fn give_up<
     V: Logged<Entry = Event>,
-    K: RunOptions,
+    K: HasOptions,
     F: Fn(&mut Runner<V>) -> Result<(), Memory> + Drop,
     E: Operate,
     L: Ledger,
@@ -176,8 +177,8 @@ fn give_up<
     end(crew, overflow())
 }
 
-/// Lets the session of a crew go, whose query ends.
-fn end<V: Logged<Entry = Event>, K: RunOptions, F: Drop, E, L: Ledger>(
+/// Takes the session out of a crew, whose query ends.
+fn end<V: Logged<Entry = Event>, K: HasOptions, F: Drop, E, L: Ledger>(
     crew: Crew<'_, '_, '_, V, K, F, E, L>,
     ending: Step,
 ) -> Runner<V>

@@ -1,13 +1,13 @@
 //! A session on a thread of its own.
 ghost use Rattle.std.specs.Prelude.{◌≡◌, ◌<◌, ℕ, nat_lt, true, false, IfOk, OnOk};
-ghost use Rattle.query_run.specs.declared.step.Query.{Query as QuerySeen};
+ghost use Rattle.query_run.specs.declared.step.RunningQuery.{RunningQuery as QuerySeen};
 ghost use Rattle.query_run.specs.declared.step.Step.TheVariants as step;
 ghost use Rattle.session_run.specs.declared.stage.Stage.TheVariants as stage;
 ghost use Rattle.session_run.specs.Stages.{IsAside, MayBegin};
 ghost use Rattle.thread_sessions.specs.Crews.{CanDo, HasDone};
 ghost use Rattle.thread_sessions.specs.Runs.{HasRunOn, HasRunOut, IsRunner};
 
-use crate::kept::{Kept, RunOptions};
+use crate::kept::{HasOptions, SharedBook};
 use crate::query::run_query;
 use crate::turn::{do_event, take_turn};
 use bat_core::Operate;
@@ -28,7 +28,7 @@ pub(crate) struct Runner<V: Logged> {
     pub(crate) session: Session,
 }
 
-// By a call of its own, so that proofs needn't go through its forms where one is let go.
+// By a call of its own, so that proofs needn't go through its forms where one is dropped.
 impl<V: Logged> Drop for Runner<V> {
     fn drop(self) {
         let Runner {
@@ -49,11 +49,11 @@ impl<V: Logged> Runner<V> {
 }
 
 /// Does a session's next event in one turn, with a counter of its own.
-pub(crate) fn next_event<K: RunOptions, R: Wait, E: Operate>(
+pub(crate) fn next_event<K: HasOptions, R: Wait, E: Operate>(
     rt: &R,
     alloc: Global,
-    hall: &Hall<Kept<K>>,
-    runner: &mut Runner<Kept<K>>,
+    hall: &Hall<SharedBook<K>>,
+    runner: &mut Runner<SharedBook<K>>,
     scorer: &Scorer,
     kernel: &E,
 ) -> Result<(), Memory>
@@ -66,11 +66,11 @@ pub(crate) fn next_event<K: RunOptions, R: Wait, E: Operate>(
 }
 
 /// The same, with this counter.
-fn counted_event<K: RunOptions, R: Wait, E: Operate, L: Ledger>(
+fn counted_event<K: HasOptions, R: Wait, E: Operate, L: Ledger>(
     rt: &R,
     alloc: Global,
-    hall: &Hall<Kept<K>>,
-    runner: &mut Runner<Kept<K>>,
+    hall: &Hall<SharedBook<K>>,
+    runner: &mut Runner<SharedBook<K>>,
     scorer: &Scorer,
     kernel: &E,
     blank: Blank,
@@ -104,17 +104,17 @@ fn has_begun(session: &Session) -> bool
     matches!(&session.stage, Stage::Querying(Step::Begun(_)))
 }
 
-/// Where a query has begun that is run by workers, it is run to its end.
-fn run_begun<K: RunOptions, R: Threads + Wait + Sync, E: Operate + Sync, L: Ledger>(
+/// Runs a query that has just begun to its end, by workers.
+fn run_begun<K: HasOptions, R: Threads + Wait + Sync, E: Operate + Sync, L: Ledger>(
     rt: &R,
     alloc: Global,
-    hall: &Hall<Kept<K>>,
-    runner: Runner<Kept<K>>,
+    hall: &Hall<SharedBook<K>>,
+    runner: Runner<SharedBook<K>>,
     scorer: &Scorer,
     kernel: &E,
     steps: &mut Steps<L>,
     workers: u32,
-) -> Result<Runner<Kept<K>>, Memory>
+) -> Result<Runner<SharedBook<K>>, Memory>
     requires kind { scorer.now.kind ≡ K.options.evict }
     requires weights { scorer.now.weights.items ≡ K.options.weights }
     requires runner { IsRunner K.options hall.now runner }
@@ -128,17 +128,17 @@ fn run_begun<K: RunOptions, R: Threads + Wait + Sync, E: Operate + Sync, L: Ledg
     Ok(runner)
 }
 
-/// Lets a session take turns until it has no event more.
-fn run_counted<K: RunOptions, R: Threads + Wait + Sync, E: Operate + Sync, L: Ledger>(
+/// Runs a session to its end, turn by turn.
+fn run_counted<K: HasOptions, R: Threads + Wait + Sync, E: Operate + Sync, L: Ledger>(
     rt: &R,
     alloc: Global,
-    hall: &Hall<Kept<K>>,
-    runner: Runner<Kept<K>>,
+    hall: &Hall<SharedBook<K>>,
+    runner: Runner<SharedBook<K>>,
     scorer: &Scorer,
     kernel: &E,
     workers: u32,
     blank: Blank,
-) -> Result<Runner<Kept<K>>, Memory>
+) -> Result<Runner<SharedBook<K>>, Memory>
     requires name { blank.name ≡ L.name }
     requires parts { blank.parts ≡ L.parts }
     requires some { 0 < blank.parts }
@@ -172,15 +172,15 @@ fn run_counted<K: RunOptions, R: Threads + Wait + Sync, E: Operate + Sync, L: Le
 }
 
 /// Runs a session to its end, with a counter of its own.
-pub(crate) fn run_to_end<K: RunOptions, R: Threads + Wait + Sync, E: Operate + Sync>(
+pub(crate) fn run_to_end<K: HasOptions, R: Threads + Wait + Sync, E: Operate + Sync>(
     rt: &R,
     alloc: Global,
-    hall: &Hall<Kept<K>>,
-    runner: Runner<Kept<K>>,
+    hall: &Hall<SharedBook<K>>,
+    runner: Runner<SharedBook<K>>,
     scorer: &Scorer,
     kernel: &E,
     workers: u32,
-) -> Result<Runner<Kept<K>>, Memory>
+) -> Result<Runner<SharedBook<K>>, Memory>
     requires kind { scorer.now.kind ≡ K.options.evict }
     requires weights { scorer.now.weights.items ≡ K.options.weights }
     requires runner { IsRunner K.options hall.now runner }

@@ -12,7 +12,7 @@ ghost use Rattle.run_sessions.specs.Tables.{AreOver, AreTexts, scripts_of};
 ghost use Rattle.thread_sessions.specs.Runs.{AreJoined, AreRunners, AreSet, HasRunOut, IsFirst, IsRunOut, IsRunner, order_for, sessions_of};
 
 use crate::end::end_run;
-use crate::kept::{Kept, RunOptions};
+use crate::kept::{HasOptions, SharedBook};
 use crate::runner::{Runner, run_to_end};
 use bat_core::Operate;
 use cell_core::{Memory, Sequence, Word};
@@ -27,9 +27,9 @@ use std::thread;
 use std::thread::Threads;
 use turn_hall::{Hall, Pass};
 
-/// Runs sessions, one for each script, each on a thread of its own where one can be made. They take turns
-/// at one book, each at its own pace, until all are done. Each query is run by so many workers, where there
-/// are more than one. Each thread counts its work for itself.
+/// Runs sessions, one for each script, each on a thread of its own where one starts. They take
+/// turns at one book, each at its own pace, until all are done. With more than one worker,
+/// `workers` of them run each query. Each thread counts its work for itself.
 pub fn serve_sessions<R: Threads + Wait + Sync, E: Operate + Sync>(
     rt: &R,
     alloc: Global,
@@ -55,7 +55,7 @@ pub fn serve_sessions<R: Threads + Wait + Sync, E: Operate + Sync>(
 }
 
 /// The same, under options that a type names.
-fn serve<K: RunOptions + Send + Sync, R: Threads + Wait + Sync, E: Operate + Sync>(
+fn serve<K: HasOptions + Send + Sync, R: Threads + Wait + Sync, E: Operate + Sync>(
     rt: &R,
     alloc: Global,
     scripts: Vec<Sequence<Word>>,
@@ -77,7 +77,7 @@ fn serve<K: RunOptions + Send + Sync, R: Threads + Wait + Sync, E: Operate + Syn
     ensures texts { IfOk result (λ run. AreTexts (log_tree run.log.items) 1 scripts.items (map (λ (text : VecSeen ℕ GlobalSeen). text.items) run.texts.items)) }
     ensures totals { IfOk result (λ run. run.totals ≡ run_totals K.options (log_tree run.log.items)) }
 {
-    let kept = Kept::<K>::new(alloc, options)?;
+    let kept = SharedBook::<K>::new(alloc, options)?;
     let (hall, mut pass) = Hall::new(alloc, kept)?;
     let started = start_all(alloc, &hall, &mut pass, scripts, workers > 1)?;
     let ended = run_all(rt, alloc, &hall, started, scorer, kernel, workers)?;
@@ -87,13 +87,13 @@ fn serve<K: RunOptions + Send + Sync, R: Threads + Wait + Sync, E: Operate + Syn
 }
 
 /// A session for each script, each with a pass that is split from the first one.
-fn start_all<K: RunOptions>(
+fn start_all<K: HasOptions>(
     alloc: Global,
-    hall: &Hall<Kept<K>>,
-    pass: &mut Pass<Kept<K>>,
+    hall: &Hall<SharedBook<K>>,
+    pass: &mut Pass<SharedBook<K>>,
     scripts: Vec<Sequence<Word>>,
     wide: bool,
-) -> Result<Vec<Runner<Kept<K>>>, Memory>
+) -> Result<Vec<Runner<SharedBook<K>>>, Memory>
     requires few { length scripts.items ≤ 16 }
     requires short { AllByRecursion (λ (pieces : List (List ℕ)). length pieces ≤ 256) scripts.items }
     requires first { IsFirst hall.now pass.old 0 0 }
@@ -116,23 +116,23 @@ fn start_all<K: RunOptions>(
     Ok(runners)
 }
 
-/// What each session comes to, on a thread of its own where one can be made.
-fn run_each<K: RunOptions + Send + Sync, R: Threads + Wait + Sync, E: Operate + Sync>(
+/// Runs each session to its end, on a thread of its own where one starts.
+fn run_each<K: HasOptions + Send + Sync, R: Threads + Wait + Sync, E: Operate + Sync>(
     rt: &R,
     alloc: Global,
-    hall: &Hall<Kept<K>>,
-    runners: Vec<Runner<Kept<K>>>,
+    hall: &Hall<SharedBook<K>>,
+    runners: Vec<Runner<SharedBook<K>>>,
     scorer: &Scorer,
     kernel: &E,
     workers: u32,
-) -> Result<Vec<Result<Runner<Kept<K>>, Memory>>, Memory>
+) -> Result<Vec<Result<Runner<SharedBook<K>>, Memory>>, Memory>
     requires kind { scorer.now.kind ≡ K.options.evict }
     requires weights { scorer.now.weights.items ≡ K.options.weights }
     requires runners { All (λ runner. IsRunner K.options hall.now runner × (runner.session.wide ≡ nat_lt 1 workers) × MayBegin runner.session.stage) runners.items }
     ensures length { IfOk result (λ ended. length ended.items ≡ length runners.items) }
     ensures each { IfOk result (λ ended. (place : ℕ) (r : _) (runner : _) → place < length runners.items → IfOk (slice_index_or ended.items place r) (λ after. HasRunOut K.options hall.now (slice_index_or runners.items place runner) after)) }
 {
-    let run = |runner: Runner<Kept<K>>| -> Result<Runner<Kept<K>>, Memory>
+    let run = |runner: Runner<SharedBook<K>>| -> Result<Runner<SharedBook<K>>, Memory>
         requires { (scorer.now.kind ≡ K.options.evict) × (scorer.now.weights.items ≡ K.options.weights) × IsRunner K.options hall.now runner × (runner.session.wide ≡ nat_lt 1 workers) × MayBegin runner.session.stage }
         ensures { IfOk result (λ after. HasRunOut K.options hall.entry.now runner after) }
     { run_to_end(rt, alloc, hall, runner, scorer, kernel, workers) };
@@ -140,11 +140,11 @@ fn run_each<K: RunOptions + Send + Sync, R: Threads + Wait + Sync, E: Operate + 
     Ok(ended)
 }
 
-/// The sessions, where none lacked memory.
-fn all_ended<K: RunOptions>(
+/// The sessions, unless one lacked memory.
+fn all_ended<K: HasOptions>(
     alloc: Global,
-    ended: Vec<Result<Runner<Kept<K>>, Memory>>,
-) -> Result<Vec<Runner<Kept<K>>>, Memory>
+    ended: Vec<Result<Runner<SharedBook<K>>, Memory>>,
+) -> Result<Vec<Runner<SharedBook<K>>>, Memory>
     ensures { IfOk result (λ runners. map Ok runners.items ≡ ended.items) }
 {
     let mut runners = Vec::new(alloc);
@@ -155,15 +155,15 @@ fn all_ended<K: RunOptions>(
 }
 
 /// Runs all sessions to their ends.
-fn run_all<K: RunOptions + Send + Sync, R: Threads + Wait + Sync, E: Operate + Sync>(
+fn run_all<K: HasOptions + Send + Sync, R: Threads + Wait + Sync, E: Operate + Sync>(
     rt: &R,
     alloc: Global,
-    hall: &Hall<Kept<K>>,
-    runners: Vec<Runner<Kept<K>>>,
+    hall: &Hall<SharedBook<K>>,
+    runners: Vec<Runner<SharedBook<K>>>,
     scorer: &Scorer,
     kernel: &E,
     workers: u32,
-) -> Result<Vec<Runner<Kept<K>>>, Memory>
+) -> Result<Vec<Runner<SharedBook<K>>>, Memory>
     requires kind { scorer.now.kind ≡ K.options.evict }
     requires weights { scorer.now.weights.items ≡ K.options.weights }
     requires runners { AreRunners K.options hall.now runners.items }
@@ -178,12 +178,12 @@ fn run_all<K: RunOptions + Send + Sync, R: Threads + Wait + Sync, E: Operate + S
     all_ended(alloc, ended)
 }
 
-/// Joins the passes of sessions to the first one, and gives the sessions back.
-fn join_all<K: RunOptions>(
+/// Joins the passes of sessions to the first one, and returns the sessions.
+fn join_all<K: HasOptions>(
     alloc: Global,
-    hall: &Hall<Kept<K>>,
-    pass: &mut Pass<Kept<K>>,
-    runners: Vec<Runner<Kept<K>>>,
+    hall: &Hall<SharedBook<K>>,
+    pass: &mut Pass<SharedBook<K>>,
+    runners: Vec<Runner<SharedBook<K>>>,
 ) -> Result<Vec<Session>, Memory>
     requires first { IsFirst hall.now pass.old (length runners.items) 0 }
     requires runners { AreRunners K.options hall.now runners.items }

@@ -5,7 +5,7 @@ ghost use Rattle.session_run.specs.Stages.{Follows, GoesInPlan, IsAside, IsReady
 ghost use Rattle.run_sessions.specs.Tables.{IsOver};
 ghost use Rattle.thread_sessions.specs.Runners.{HasOneMore, IsWith};
 
-use crate::kept::{Kept, RunOptions};
+use crate::kept::{HasOptions, SharedBook};
 use bat_core::Operate;
 use cell_core::{Memory, Steps};
 use score_hook::Scorer;
@@ -15,12 +15,12 @@ use std::sync::Wait;
 use std::sync::ledger::Ledger;
 use turn_hall::{Hall, Pass};
 
-/// Does the next event of a session in one turn. After Memory the turn is given up.
-pub(crate) fn do_event<K: RunOptions, R: Wait, E: Operate, L: Ledger>(
+/// Does the next event of a session in one turn. Where memory runs out the turn adds nothing.
+pub(crate) fn do_event<K: HasOptions, R: Wait, E: Operate, L: Ledger>(
     rt: &R,
     alloc: Global,
-    hall: &Hall<Kept<K>>,
-    pass: &mut Pass<Kept<K>>,
+    hall: &Hall<SharedBook<K>>,
+    pass: &mut Pass<SharedBook<K>>,
     session: &mut Session,
     scorer: &Scorer,
     kernel: &E,
@@ -55,12 +55,13 @@ pub(crate) fn do_event<K: RunOptions, R: Wait, E: Operate, L: Ledger>(
     }
 }
 
-/// Lets a session compute outside turns, and then do its next event, and answers whether it had one.
-pub fn take_turn<K: RunOptions, R: Wait, E: Operate, L: Ledger>(
+/// Computes a session's work outside turns and then does its next event. Returns whether it had
+/// one.
+pub fn take_turn<K: HasOptions, R: Wait, E: Operate, L: Ledger>(
     rt: &R,
     alloc: Global,
-    hall: &Hall<Kept<K>>,
-    pass: &mut Pass<Kept<K>>,
+    hall: &Hall<SharedBook<K>>,
+    pass: &mut Pass<SharedBook<K>>,
     session: &mut Session,
     scorer: &Scorer,
     kernel: &E,

@@ -4,7 +4,7 @@ use Rattle.std.specs.Prelude.{Option, Some}
 use mathlib.Core.Option.{some}
 use lib.ListN.{get_elem?}
 use Rattle.atomic_table.specs.Table.{Me, Allows, Final, Seen}
-use Rattle.turn_hall.specs.declared.view.Stage.TheVariants.{Free}
+use Rattle.turn_hall.specs.declared.view.PassStage.TheVariants.{Free}
 use Rattle.turn_hall.specs.declared.view.View.{View}
 use Rattle.turn_hall.specs.Entries.{StartsWith, entries_by}
 use Rattle.turn_hall.specs.Views.{IsAtTurn, AllJoined, entries_kept}

@@ -9,7 +9,7 @@ use native.Mathlib.Decide.{ℕ_discrete}
 use lib.ListN.{get_elem?}
 use Rattle.atomic_table.specs.Table.{State, Me, rest, keeps, takes, gives, Allows}
 use Rattle.atomic_table.proofs.Lists.{set_here, set_again, one_turn}
-use Rattle.turn_hall.specs.declared.view.Stage.TheVariants.{Ended, Free, Waiting, Serving, Published}
+use Rattle.turn_hall.specs.declared.view.PassStage.TheVariants.{Ended, Free, Waiting, Serving, Published}
 use Rattle.turn_hall.specs.declared.view.View.{View}
 use Rattle.turn_hall.specs.Entries.{StartsWith, entries_by, kept_under}
 use Rattle.turn_hall.specs.Views.{Holds, IsAtTurn, ticket_of, ticket_count, at_stage}
@@ -30,7 +30,7 @@ moved v w number own splits joined live = record {
 }
 
 module _ {V E : Type 0} (entries : V → List E) (author : E → ℕ) where
-  -- who draws a ticket waits with the next one
+  -- a pass that draws a ticket waits with the next one
   pub draws : (n id : ℕ) (m : Me (Option V) (View E)) → m.0.stage ≡ Free
       → Allows (IsOrderly entries author) n id m 1 (λ y. (y + 1) % 18446744073709551616) (Draws m)
   draws n id m free s o size at fits =
@@ -77,7 +77,7 @@ module _ {V E : Type 0} (entries : V → List E) (author : E → ℕ) where
       subst (λ (ws : List ℕ). IsOrderly entries author (record { words = ws; homes = s.homes; views = set s.views id v })) (sym same)
       (subst (λ (vs : List (View E)). IsOrderly entries author (record { words = s.words; homes = s.homes; views = vs })) (sym (set_again s.views id v at)) o)
 
-  -- who watches has the turn once its ticket is served: it takes the slot, and its turn begins
+  -- a pass that watches has the turn once its ticket is served: it takes the slot, and its turn begins
   pub watches : (n id t : ℕ) (m : Me (Option V) (View E)) → m.0.stage ≡ Waiting t
       → Allows (IsOrderly entries author) n id m 2 (λ y. y) (Watches entries author m)
   watches n id t m waits s o size at fits =
@@ -157,7 +157,7 @@ module _ {V E : Type 0} (entries : V → List E) (author : E → ℕ) where
         ((λ hit. absurd (miss hit)), (λ again. refl)),
       ))
 
-  -- who has the turn publishes the count of a list with one entry more, which names it
+  -- the pass that has the turn publishes the count of a list with one entry more, which names it
   pub publishes : (n id new t : ℕ) (m : Me (Option V) (View E)) (e : E) → m.0.stage ≡ Serving t
       → slot_entries entries m.1 ≡ m.0.seen ++ e ∷ [] → author e ≡ m.0.number → new ≡ length (slot_entries entries m.1)
       → Allows (IsOrderly entries author) n id m 0 (λ _. new) (λ _. Publishes entries m)
@@ -218,7 +218,7 @@ module _ {V E : Type 0} (entries : V → List E) (author : E → ℕ) where
         refl,
       )
 
-  -- who has the turn passes it on, once the value in the slot stands for the whole list: it gives the slot back
+  -- the pass that has the turn passes it on, once the value in the slot stands for the whole list: it returns the slot
   pub passes_on : (n id : ℕ) (v : View E) (x : V) (held : List (ℕ × Option V)) → IsAtTurn v.stage → n ≡ 1 → entries x ≡ v.seen
       → Allows (IsOrderly entries author) n id (v, (0, Some x) ∷ held) 2 (λ y. (y + 1) % 18446744073709551616) (λ _. PassesOn (v, (0, Some x) ∷ held))
   passes_on n id v x held at_turn slots is s o size at fits =
@@ -264,10 +264,10 @@ module _ {V E : Type 0} (entries : V → List E) (author : E → ℕ) where
         refl,
       )
 
-  -- who has the turn takes the value out of the slot, which is its own until it passes on: no word and no view changes
+  -- the pass that has the turn takes the value out of the slot, which is its own until it passes on: no word and no view changes
   pub takes_value : (m : Me (Option V) (View E)) (x : V) → m.1 ≡ (0, Some x) ∷ [] → (old : Option V) × (m.1 ≡ (0, old) ∷ rest m.1)
   takes_value m x slot = (Some x, slot ∙ ap (λ (held : List (ℕ × Option V)). (0, Some x) ∷ rest held) (sym slot))
 
-  -- who took the value out puts one back into the same slot: no word and no view changes
+  -- a pass that took the value out puts one back into the same slot: no word and no view changes
   pub puts_back : (m : Me (Option V) (View E)) → m.1 ≡ (0, None) ∷ [] → (old : Option V) × (m.1 ≡ (0, old) ∷ rest m.1)
   puts_back m slot = (None, slot ∙ ap (λ (held : List (ℕ × Option V)). (0, None) ∷ rest held) (sym slot))

@@ -8,7 +8,7 @@ use native.Mathlib.Decide.{ℕ_discrete, dec_le}
 use lib.ListN.{get_elem?}
 use Rattle.atomic_table.specs.Table.{Me, keeps, Allows, Splits, Joins, opening, Final, Seen}
 use Rattle.atomic_table.proofs.Lists.{set_else}
-use Rattle.turn_hall.specs.declared.view.Stage.TheVariants.{Ended, Free}
+use Rattle.turn_hall.specs.declared.view.PassStage.TheVariants.{Ended, Free}
 use Rattle.turn_hall.specs.declared.view.View.{View}
 use Rattle.turn_hall.specs.Entries.{StartsWith, entries_by, longer, kept_under}
 use Rattle.turn_hall.specs.Views.{Holds, IsAtTurn, ticket_count, first_view, one_more, newcomer, joined_with, ended_view, AllJoined, entries_kept}
@@ -110,7 +110,7 @@ module _ {V E : Type 0} (entries : V → List E) (author : E → ℕ) where
         slot = ⊎_elim (λ h. inl h) (λ h. inr (turn_set l other w ended_view at' (free_not_turn w.stage free') (turn_set s.views id v both at (free_not_turn v.stage free) h))) o.slot;
       }
 
-  -- after a join the first pass has seen the longer of what it had seen and what it was told, which both begin the list
+  -- after a join the first pass has seen the longer of what it had seen and what its `told` has, which both begin the list
   pub compares : (n id : ℕ) (m : Me (Option V) (View E)) → m.0.stage ≡ Free
       → Allows (IsOrderly entries author) n id m 0 (λ y. y) (λ _. Compares m)
   compares n id m free s o size at fits =

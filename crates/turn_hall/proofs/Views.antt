@@ -1,59 +1,59 @@
--- Stages and views: what one of them tells, and no two passes with one ticket.
+-- Stages and views: what follows from one of them, and no two passes with one ticket.
 use Rattle.std.proofs.Common.{◌≡◌, ◌≢◌, ℕ, ◌≤◌, ◌⊎◌, List, [], ◌∷◌, ◌++◌, set, sym, refl, ap, subst, ◌∙◌, inl, inr, ⊎_elim, arith}
 use mathlib.Core.Option.{some}
 use lib.ListN.{get_elem?}
 use Rattle.atomic_table.proofs.Lists.{at_set, set_else, at_longer}
-use Rattle.turn_hall.specs.declared.view.Stage.{Stage}
-use Rattle.turn_hall.specs.declared.view.Stage.TheVariants.{Ended, Free, Waiting, Serving, Published}
+use Rattle.turn_hall.specs.declared.view.PassStage.{PassStage}
+use Rattle.turn_hall.specs.declared.view.PassStage.TheVariants.{Ended, Free, Waiting, Serving, Published}
 use Rattle.turn_hall.specs.declared.view.View.{View}
 use Rattle.turn_hall.specs.Views.{Holds, IsAtTurn, ticket_count}
 use Rattle.turn_hall.proofs.Lists.{at_snoc, at_once}
 
-pub ticket_count-le_one : (stage : Stage) → ticket_count stage ≤ 1
+pub ticket_count-le_one : (stage : PassStage) → ticket_count stage ≤ 1
 ticket_count-le_one Ended = omega arith
 ticket_count-le_one Free = omega arith
 ticket_count-le_one (Waiting t) = omega arith
 ticket_count-le_one (Serving t) = omega arith
 ticket_count-le_one (Published t) = omega arith
 
--- who has the turn holds a ticket
-pub ticket_count-turn : (stage : Stage) → IsAtTurn stage → ticket_count stage ≡ 1
+-- a pass that has the turn holds a ticket
+pub ticket_count-turn : (stage : PassStage) → IsAtTurn stage → ticket_count stage ≡ 1
 ticket_count-turn Ended h = absurd h
 ticket_count-turn Free h = absurd h
 ticket_count-turn (Waiting t) h = refl
 ticket_count-turn (Serving t) h = refl
 ticket_count-turn (Published t) h = refl
 
-pub ended_or_not : (stage : Stage) → (stage ≡ Ended) ⊎ (stage ≢ Ended)
+pub ended_or_not : (stage : PassStage) → (stage ≡ Ended) ⊎ (stage ≢ Ended)
 ended_or_not Ended = inl refl
 ended_or_not Free = inr (λ h. cc)
 ended_or_not (Waiting t) = inr (λ h. cc)
 ended_or_not (Serving t) = inr (λ h. cc)
 ended_or_not (Published t) = inr (λ h. cc)
 
-pub turn_not_ended : (stage : Stage) → IsAtTurn stage → stage ≢ Ended
-turn_not_ended stage h e = let F : Stage → Type 0 = IsAtTurn in subst F e h
+pub turn_not_ended : (stage : PassStage) → IsAtTurn stage → stage ≢ Ended
+turn_not_ended stage h e = let F : PassStage → Type 0 = IsAtTurn in subst F e h
 
-pub free_not_turn : (stage : Stage) → stage ≡ Free → IsAtTurn stage → ⊥
-free_not_turn stage e h = let F : Stage → Type 0 = IsAtTurn in subst F e h
+pub free_not_turn : (stage : PassStage) → stage ≡ Free → IsAtTurn stage → ⊥
+free_not_turn stage e h = let F : PassStage → Type 0 = IsAtTurn in subst F e h
 
-pub free_not_ended : (stage : Stage) → stage ≡ Free → stage ≢ Ended
+pub free_not_ended : (stage : PassStage) → stage ≡ Free → stage ≢ Ended
 free_not_ended stage e h = cc
 
-pub waiting_not_ended : (stage : Stage) (t : ℕ) → stage ≡ Waiting t → stage ≢ Ended
+pub waiting_not_ended : (stage : PassStage) (t : ℕ) → stage ≡ Waiting t → stage ≢ Ended
 waiting_not_ended stage t e h = cc
 
-pub waiting_not_turn : (stage : Stage) (t : ℕ) → stage ≡ Waiting t → IsAtTurn stage → ⊥
-waiting_not_turn stage t e h = let F : Stage → Type 0 = IsAtTurn in subst F e h
+pub waiting_not_turn : (stage : PassStage) (t : ℕ) → stage ≡ Waiting t → IsAtTurn stage → ⊥
+waiting_not_turn stage t e h = let F : PassStage → Type 0 = IsAtTurn in subst F e h
 
-pub waiting_holds : (stage : Stage) (t : ℕ) → stage ≡ Waiting t → Holds t stage
-waiting_holds stage t e = let F : Stage → Type 0 = Holds t in subst F (sym e) refl
+pub waiting_holds : (stage : PassStage) (t : ℕ) → stage ≡ Waiting t → Holds t stage
+waiting_holds stage t e = let F : PassStage → Type 0 = Holds t in subst F (sym e) refl
 
-pub serving_at_turn : (stage : Stage) (t : ℕ) → stage ≡ Serving t → IsAtTurn stage
-serving_at_turn stage t e = let F : Stage → Type 0 = IsAtTurn in subst F (sym e) tt
+pub serving_at_turn : (stage : PassStage) (t : ℕ) → stage ≡ Serving t → IsAtTurn stage
+serving_at_turn stage t e = let F : PassStage → Type 0 = IsAtTurn in subst F (sym e) tt
 
 -- a pass holds one ticket
-pub holds_once : (stage : Stage) (t u : ℕ) → Holds t stage → Holds u stage → t ≡ u
+pub holds_once : (stage : PassStage) (t u : ℕ) → Holds t stage → Holds u stage → t ≡ u
 holds_once Ended t u p q = absurd p
 holds_once Free t u p q = absurd p
 holds_once (Waiting s) t u p q = sym p ∙ q
@@ -84,13 +84,13 @@ module _ {E : Type 0} where
   -- a pass that is added holds no ticket
   pub apart_snoc : (l : List (View E)) (w : View E) → w.stage ≡ Free → IsApart l → IsApart (l ++ w ∷ [])
   apart_snoc l w free old j k a b at_j at_k t p q =
-      let none : (u : View E) → w ≡ u → Holds t u.stage → ⊥ = λ u same h. (let F : Stage → Type 0 = Holds t in subst F (ap (λ (x : View E). x.stage) (sym same) ∙ free) h) in
+      let none : (u : View E) → w ≡ u → Holds t u.stage → ⊥ = λ u same h. (let F : PassStage → Type 0 = Holds t in subst F (ap (λ (x : View E). x.stage) (sym same) ∙ free) h) in
       ⊎_elim
       (λ x. ⊎_elim (λ y. old j k a b x y t p q) (λ y. absurd (none b y.1 q)) (at_snoc l w k b at_k))
       (λ x. absurd (none a x.1 p))
       (at_snoc l w j a at_j)
 
-  -- who has the turn still has it, where another pass steps
+  -- a pass that has the turn still has it, where another pass steps
   pub turn_set : (l : List (View E)) (i : ℕ) (v w : View E) → get_elem? l i ≡ some v → (IsAtTurn v.stage → ⊥)
       → (k : ℕ) × (u : View E) × (get_elem? l k ≡ some u) × IsAtTurn u.stage
       → (k : ℕ) × (u : View E) × (get_elem? (set l i w) k ≡ some u) × IsAtTurn u.stage

@@ -2,7 +2,7 @@
 use Rattle.std.specs.Prelude.{◌≡◌, ℕ, ◌%◌, ◌^◌, List, [], ◌∷◌, ◌++◌, Some, None}
 use Rattle.turn_hall.specs.declared.hall.Hall.{Hall}
 use Rattle.turn_hall.specs.declared.hall.Pass.{Pass}
-use Rattle.turn_hall.specs.declared.view.Stage.TheVariants.{Free, Waiting, Serving}
+use Rattle.turn_hall.specs.declared.view.PassStage.TheVariants.{Free, Waiting, Serving}
 use Rattle.turn_hall.specs.Views.{AllJoined, entries_kept}
 
 module _ {V E : Type 0} where
@@ -56,7 +56,7 @@ module _ {V E : Type 0} where
   abbrev pub entries_under : Pass V E → ℕ → List E
   entries_under pass number = entries_kept pass.seat.me.0 number
 
-  -- the pass waits with a ticket that the word gave as this number
+  -- the pass waits with a ticket that is this number in the word
   abbrev pub Waits : ℕ → Pass V E → Type 0
   Waits ticket pass = (t : ℕ) × (t % 2 ^ 64 ≡ ticket) × (pass.seat.me.0.stage ≡ Waiting t) × (pass.seat.me.1 ≡ [])
 

@@ -3,7 +3,7 @@ use Rattle.std.specs.Prelude.{◌≡◌, ◌≢◌, ℕ, ◌+◌, ◌%◌, ◌^�
 use mathlib.Core.Option.{some}
 use lib.ListN.{get_elem?}
 use Rattle.atomic_table.specs.Table.{State}
-use Rattle.turn_hall.specs.declared.view.Stage.TheVariants.{Ended}
+use Rattle.turn_hall.specs.declared.view.PassStage.TheVariants.{Ended}
 use Rattle.turn_hall.specs.declared.view.View.{View}
 use Rattle.turn_hall.specs.Entries.{StartsWith, entries_by, kept_under}
 use Rattle.turn_hall.specs.Views.{Holds, IsAtTurn, ticket_count}
@@ -30,9 +30,9 @@ pub record IsOrderly {V E : Type 0} (entries : V → List E) (author : E → ℕ
   pub queue : sum_by (λ v. ticket_count v.stage) s.views + serving ≡ drawn
   pub tickets : (k : ℕ) (v : View E) → get_elem? s.views k ≡ some v → (t : ℕ) → Holds t v.stage → (serving ≤ t) × (t < drawn)
   pub apart : (j k : ℕ) (v w : View E) → get_elem? s.views j ≡ some v → get_elem? s.views k ≡ some w → (t : ℕ) → Holds t v.stage → Holds t w.stage → j ≡ k
-  -- who has the turn holds the ticket that is served, and has seen the whole list
+  -- the pass that has the turn holds the ticket that is served, and has seen the whole list
   pub turn : (k : ℕ) (v : View E) → get_elem? s.views k ≡ some v → IsAtTurn v.stage → Holds serving v.stage × (v.seen ≡ log)
-  -- the list begins with what each pass has seen, and with what it was told
+  -- the list begins with what each pass has seen, and with what its `told` has
   pub seen : (k : ℕ) (v : View E) → get_elem? s.views k ≡ some v → StartsWith log v.seen
   pub told : (k : ℕ) (v : View E) → get_elem? s.views k ≡ some v → StartsWith log v.told
   -- each pass is live, or its number and entries are kept with the first pass; a number above the splits has no entry

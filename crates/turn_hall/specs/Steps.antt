@@ -1,7 +1,7 @@
--- What each step on a word tells the pass that takes it. A pass's knowledge is its view, and the slot while it has the turn.
+-- What a pass learns by each step on a word. Its knowledge is its view, and the slot while it has the turn.
 use Rattle.std.specs.Prelude.{◌≡◌, ◌≢◌, ℕ, ◌%◌, ◌^◌, List, [], ◌∷◌, ◌++◌, length, drop, Option, Some, None}
 use Rattle.atomic_table.specs.Table.{Me, rest}
-use Rattle.turn_hall.specs.declared.view.Stage.TheVariants.{Free, Waiting, Serving, Published}
+use Rattle.turn_hall.specs.declared.view.PassStage.TheVariants.{Free, Waiting, Serving, Published}
 use Rattle.turn_hall.specs.declared.view.View.{View}
 use Rattle.turn_hall.specs.Entries.{StartsWith, entries_by, longer}
 use Rattle.turn_hall.specs.Views.{ticket_of, at_stage}
@@ -36,11 +36,11 @@ module _ {V E : Type 0} where
       let list = slot_entries entries before.1 in
       after ≡ (record before.0 { stage = Published (ticket_of before.0.stage); seen = list; own = before.0.own ++ drop (length before.0.seen) list }, before.1)
 
-  -- it has no ticket, and gave the slot back
+  -- it has no ticket, and returned the slot
   abbrev pub PassesOn : Me (Option V) (View E) → Me (Option V) (View E) → Type 0
   PassesOn before after = after ≡ (at_stage Free before.0, rest before.1)
 
-  -- it has seen the longer of what it had seen and what it was told, and that begins with both
+  -- it has seen the longer of what it had seen and what its `told` has, and that begins with both
   abbrev pub Compares : Me (Option V) (View E) → Me (Option V) (View E) → Type 0
   Compares before after =
       let list = longer before.0.seen before.0.told in

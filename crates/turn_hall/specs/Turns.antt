@@ -14,6 +14,6 @@ turn_value turn = turn.value
 abbrev pub with_value : {V : Type 0} → Turn V → V → Turn V
 with_value turn x = record turn { value = x }
 
--- the turn ends with the last value behind the reference
+-- the turn ends with the last value of the reference
 abbrev pub LendsValue : (R : RattleType) → MutBor (Turn R.Denot) → MutBor R.Denot → Fml
 LendsValue R turn x = Lends (the_row (record { mir = named 1; lft = [] }) R) R turn x (with_value turn.now)

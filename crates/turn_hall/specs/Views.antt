@@ -1,12 +1,12 @@
 -- The view of a pass, and how the kinds of step change it.
 use Rattle.std.specs.Prelude.{◌≡◌, ℕ, ◌+◌, ◌<◌, ◌≤◌, List, [], ◌∷◌, IsSome, ◌==◌, unwrap_or, if◌then◌else◌}
-use Rattle.turn_hall.specs.declared.view.Stage.{Stage}
-use Rattle.turn_hall.specs.declared.view.Stage.TheVariants.{Ended, Free, Waiting, Serving, Published}
+use Rattle.turn_hall.specs.declared.view.PassStage.{PassStage}
+use Rattle.turn_hall.specs.declared.view.PassStage.TheVariants.{Ended, Free, Waiting, Serving, Published}
 use Rattle.turn_hall.specs.declared.view.View.{View}
 use Rattle.turn_hall.specs.Entries.{kept_under}
 
 -- the pass holds this ticket
-abbrev pub Holds : ℕ → Stage → Type 0
+abbrev pub Holds : ℕ → PassStage → Type 0
 Holds t Ended = ⊥
 Holds t Free = ⊥
 Holds t (Waiting u) = u ≡ t
@@ -14,7 +14,7 @@ Holds t (Serving u) = u ≡ t
 Holds t (Published u) = u ≡ t
 
 -- the pass has the turn
-abbrev pub IsAtTurn : Stage → Type 0
+abbrev pub IsAtTurn : PassStage → Type 0
 IsAtTurn Ended = ⊥
 IsAtTurn Free = ⊥
 IsAtTurn (Waiting u) = ⊥
@@ -22,7 +22,7 @@ IsAtTurn (Serving u) = Unit {0}
 IsAtTurn (Published u) = Unit {0}
 
 -- the ticket that the pass holds, and 0 where it holds none
-abbrev pub ticket_of : Stage → ℕ
+abbrev pub ticket_of : PassStage → ℕ
 ticket_of Ended = 0
 ticket_of Free = 0
 ticket_of (Waiting u) = u
@@ -30,7 +30,7 @@ ticket_of (Serving u) = u
 ticket_of (Published u) = u
 
 -- how many tickets the pass holds
-abbrev pub ticket_count : Stage → ℕ
+abbrev pub ticket_count : PassStage → ℕ
 ticket_count Ended = 0
 ticket_count Free = 0
 ticket_count (Waiting u) = 1
@@ -39,7 +39,7 @@ ticket_count (Published u) = 1
 
 module _ {E : Type 0} where
   -- the view at another place in the queue
-  abbrev pub at_stage : Stage → View E → View E
+  abbrev pub at_stage : PassStage → View E → View E
   at_stage stage v = record v { stage = stage }
 
   -- the first pass of a hall
@@ -54,7 +54,7 @@ module _ {E : Type 0} where
   abbrev pub newcomer : View E → View E
   newcomer v = record { number = v.splits + 1; stage = Free; seen = v.seen; own = []; splits = 0; joined = []; told = [] }
 
-  -- the first pass, after another was joined to it: it keeps the other's number and own entries, and was told what the other had seen
+  -- the first pass, after another was joined to it: it keeps the other's number and own entries, and its `told` has what the other had seen
   abbrev pub joined_with : View E → View E → View E
   joined_with v w = record v { joined = (w.number, w.own) ∷ v.joined; told = w.seen }
 

@@ -55,8 +55,8 @@ impl<V: Logged> Hall<V> {
         }
     }
 
-    /// Splits a pass from the first one. It has the next number, has seen as much, and owns no entry.
-    /// Today a split takes no memory, so it succeeds.
+    /// Splits a pass from the first one. It has the next number, has seen as much, and owns no
+    /// entry. A split takes no memory, so it succeeds.
     pub fn split(&self, _alloc: Global, pass: &mut Pass<V>) -> Result<Pass<V>, Memory>
         requires hall { IsPassOf self.now pass.old }
         requires free { IsFree pass.old }
@@ -105,8 +105,8 @@ impl<V: Logged> Hall<V> {
         unreachable!()
     }
 
-    /// Waits until no pass has the turn or a ticket for it, as it seems at a moment. A pass that waits here holds
-    /// up no other: who runs takes its turn before one that sleeps.
+    /// Waits until no pass has the turn or a ticket for it, as far as one read shows. A pass that
+    /// waits here delays no other: a running pass takes its turn before a sleeping one.
     fn wait<R: Wait>(&self, rt: &R) -> Wake {
         let mut wake = Wake::new();
         'looks: for _ in rt.forever() {

@@ -1,7 +1,8 @@
 //! Values that stand for a list of entries.
 ghost use Rattle.std.specs.Prelude.{◌≡◌, ℕ, ◌<◌, ◌^◌, List, length};
 
-/// A value as a hall sees it: as a list of entries, which only grows. Each names the number of a pass.
+/// A value as a hall sees it: as a list of entries, which only grows. Each names the number of a
+/// pass.
 pub trait Logged {
     /// What the list holds.
     type Entry;

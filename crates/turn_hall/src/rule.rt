@@ -1,4 +1,4 @@
-//! The rule of the hall's table, and what each kind of step tells.
+//! The rule of the hall's table, and what a pass learns by each kind of step.
 ghost use Rattle.turn_hall.specs.Rule.{IsOrderly};
 ghost use Rattle.turn_hall.specs.Steps.{Draws, Watches, Publishes, PassesOn, Compares};
 ghost use Rattle.turn_hall.specs.Views.{first_view, one_more, newcomer, joined_with, ended_view};
@@ -20,7 +20,7 @@ pub const SERVING: usize = 2;
 /// The slot with the value.
 pub const VALUE: usize = 0;
 
-/// The rule.
+/// The rule of the hall's table.
 pub struct HallRule<V> {
     of: PhantomData<V>,
 }
@@ -63,7 +63,7 @@ impl<V, E> Play<Option<V>, View<E>> for PassOn {
     ghost then = { λ _ before _ after. PassesOn before after };
 }
 
-/// To compare what was seen with what was told, after a join.
+/// To compare what was seen with what `told` has, after a join.
 pub struct Compare;
 
 impl<V, E> Play<Option<V>, View<E>> for Compare {

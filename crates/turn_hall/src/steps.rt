@@ -1,6 +1,6 @@
 //! The steps of a pass, one function for each kind. The calls of `hall.rt` are made of them.
 ghost use Rattle.std.specs.Prelude.{◌≡◌, ◌≢◌, ◌^◌, ◌-◌, ◌<◌, [], ◌∷◌, length, true, false};
-ghost use Rattle.turn_hall.specs.declared.view.Stage.TheVariants.{Free, Serving};
+ghost use Rattle.turn_hall.specs.declared.view.PassStage.TheVariants.{Free, Serving};
 ghost use Rattle.turn_hall.specs.Steps.{slot_entries, Begins, Draws, Publishes, PassesOn, Compares};
 ghost use Rattle.turn_hall.specs.Views.{IsAtTurn, one_more, newcomer, joined_with};
 
@@ -45,7 +45,7 @@ impl<V: Logged> Hall<V> {
             .fetch_add::<DrawTicket>(&mut pass.seat, TICKETS, 1)
     }
 
-    /// Watches the ticket that is served, and says whether it is this one. Then the turn begins.
+    /// Watches the ticket that is served. Returns whether it is this one; then the turn begins.
     pub(crate) fn watch(&self, pass: &mut Pass<V>, ticket: u64) -> bool
         requires hall { IsPassOf self.now pass.old }
         requires waits { Waits ticket pass.old }
@@ -99,8 +99,8 @@ impl<V: Logged> Hall<V> {
             .store::<Publish<V>>(&mut pass.seat, COUNT, count);
     }
 
-    /// Passes the turn on, where the value in the slot stands for what the pass has seen, and wakes one that sleeps
-    /// where nobody is awake who would take it.
+    /// Passes the turn on, where the value in the slot stands for what the pass has seen. Wakes a
+    /// sleeping pass where none is awake to take the turn.
     pub(crate) fn pass_on(&self, pass: &mut Pass<V>)
         requires hall { IsPassOf self.now pass.old }
         requires turn { IsAtTurn pass.old.seat.me.0.stage }
@@ -144,7 +144,7 @@ impl<V: Logged> Hall<V> {
             .join_seat::<SplitJoin>(&mut pass.seat, seat);
     }
 
-    /// Compares what a pass has seen with what it was told.
+    /// Compares what a pass has seen with what its `told` has.
     pub(crate) fn compare(&self, pass: &mut Pass<V>)
         requires hall { IsPassOf self.now pass.old }
         requires free { IsFree pass.old }

@@ -51,7 +51,7 @@ impl Notes {
         }
     }
 
-    /// Adds a note, and says whether there was room for it.
+    /// Adds a note, and returns whether there was room for it.
     fn add(&mut self, note: Note) -> bool
         ensures added { IsTrue result → self.new.notes.items ≡ self.old.notes.items ++ note ∷ [] }
         ensures same { result ≡ false → self.new.notes.items ≡ self.old.notes.items }
@@ -67,7 +67,7 @@ impl Notes {
     }
 }
 
-/// A pass with its number, which also tells whether it met the other that it looks for.
+/// A pass with its number, and whether it met the other that it looks for.
 #[derive(Drop)]
 struct Writer {
     pass: Pass<Notes>,
@@ -106,7 +106,7 @@ fn write_note<R: Wait>(rt: &R, hall: &Hall<Notes>, pass: &mut Pass<Notes>, note:
     }
 }
 
-/// Takes turns until there is a note by this number, and says whether one came.
+/// Takes turns until there is a note by this number, and returns whether one came.
 fn meets<R: Wait>(rt: &R, hall: &Hall<Notes>, pass: &mut Pass<Notes>, number: u32) -> bool
     requires ours { IsPassOf hall.now pass.old × IsFree pass.old }
     ensures ours { IsPassOf hall.now pass.new × IsFree pass.new }
@@ -189,7 +189,7 @@ fn split_all(
     Ok(writers)
 }
 
-/// Joins the writers, the last one first, and says whether each came back in its place.
+/// Joins the writers, the last one first, and returns whether each came back in its place.
 fn join_all(hall: &Hall<Notes>, first: &mut Pass<Notes>, mut writers: Vec<Writer>) -> bool
     requires ours { IsPassOf hall.now first.old × IsFree first.old }
     requires number { pass_number first.old ≡ 0 }

@@ -5,7 +5,7 @@ ghost use Rattle.turn_hall.specs.Turns.{turn_value, LendsValue};
 
 use std::marker::PhantomData;
 
-/// The right to change the value of a hall. It borrows the hall, and can't be let go: only
+/// The right to change the value of a hall. It borrows the hall, and can't be dropped: only
 /// `Hall::leave` and `Hall::give_up` take it.
 pub struct Turn<'a, V> {
     value: V,

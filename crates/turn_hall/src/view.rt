@@ -1,8 +1,8 @@
 //! What the rule knows of a pass. No value of these types is ever made.
 use std::collections::LinkedList;
 
-/// Where a pass stands in the queue. A ticket is a number that never wraps.
-pub enum Stage {
+/// The position of a pass in the queue. A ticket is a number that never wraps.
+pub enum PassStage {
     /// It was joined to the first pass, and takes no step any more.
     Ended,
     /// It has no ticket.
@@ -19,8 +19,8 @@ pub enum Stage {
 pub struct View<E> {
     /// Its number, which is its place among the views.
     pub number: u64,
-    /// Where it stands in the queue.
-    pub stage: Stage,
+    /// Its position in the queue.
+    pub stage: PassStage,
     /// The list that it has seen.
     pub seen: LinkedList<E>,
     /// Its own entries.

@@ -17,11 +17,11 @@ pub all_read : (sessions number : ℕ) (text rest : Text) (read : List ℕ) → 
 all_read sessions number text [] read is none = is ∙ ap Turns (append-nil read)
 all_read sessions number text (b ∷ rest) read is none = absurd (omega arith)
 
--- the turn is that of one of so many sessions
+-- the turn is one of this many sessions
 abbrev pub IsTurn : ℕ → ℕ → Type 0
 IsTurn sessions turn = (1 ≤ turn) × (turn ≤ sessions)
 
--- a line that numbers a session numbers one of so many
+-- a line that numbers a session numbers one of this many
 turn_within : (sessions : ℕ) (line : Text) → IfSome (turn_in sessions line) (IsTurn sessions)
 turn_within sessions line = by (is_plain line) (nat_le 1 value) (nat_le value sessions) refl refl
   where

@@ -1,4 +1,4 @@
--- What the text of a schedule says: each line is the number of one session.
+-- The schedule in a text: each line is the number of one session.
 use Rattle.std.specs.Prelude.{◌≡◌, ℕ, ◌+◌, ◌==◌, List, [], ◌∷◌, length, Bool, false, not, ◌&&◌, nat_le, if◌then◌else◌, Option, Some, None}
 use Rattle.std.specs.List.{list_all, slice_split}
 use Rattle.std.specs.Str.Parse.{digits_value}
@@ -11,7 +11,7 @@ Text = List ℕ
 
 -- ## Lines
 
--- the lines among the parts that stand between LFs: behind a last LF there is no further line
+-- the lines among the parts between LFs: after a last LF there is no further line
 abbrev pub lines_among : List Text → List Text
 lines_among [] = []
 lines_among (last ∷ []) = if length last == 0 then [] else last ∷ []
@@ -28,7 +28,7 @@ abbrev pub is_plain : Text → Bool
 is_plain [] = false
 is_plain (digit ∷ digits) = not (digit == 48) && list_all is_digit (digit ∷ digits)
 
--- the session that a line numbers, of so many sessions, if it numbers one
+-- the session that a line numbers, if it numbers one from 1 to `sessions`
 abbrev pub turn_in : ℕ → Text → Option ℕ
 turn_in sessions line =
     if is_plain line && (nat_le 1 (digits_value 10 line) && nat_le (digits_value 10 line) sessions) then Some (digits_value 10 line) else None
@@ -61,7 +61,7 @@ schedule_of sessions text = schedule_from sessions 1 (lines_of text)
 
 -- ## What is promised
 
--- the error tells the first bad line, or that memory ran out
+-- the error is the first bad line, or that memory ran out
 abbrev pub TellsBadLine : ℕ → Text → ScheduleError → Type 0
 TellsBadLine sessions text (BadLine number) = schedule_of sessions text ≡ Bad number
 TellsBadLine sessions text Memory = Unit {0}

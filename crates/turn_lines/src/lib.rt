@@ -1,8 +1,8 @@
-//! Reading a schedule: text that has one session's number a line.
+//! Reading a schedule: text with the number of one session a line.
 //!
-//! It stands on `cell_core` for its want of memory and on `text_bytes` for numbers. `specs/Schedule.antt`
-//! says which lines a text has, which session a line numbers, and what the schedule is: its turns, or the
-//! number of the first bad line. `turns_of` answers exactly that, and each turn is one of the sessions.
+//! `Memory` is from `cell_core`, and numbers are from `text_bytes`. `specs/Schedule.antt` defines
+//! the lines of a text, the session that a line numbers, and the schedule: its turns, or the number
+//! of the first bad line. `turns_of` returns exactly that, and each turn is one of the sessions.
 #![tactic(auto)]
 
 mod turns;

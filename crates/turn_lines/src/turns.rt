@@ -37,7 +37,7 @@ impl<T: Drop> From<AllocFailed<T>> for ScheduleError {
     }
 }
 
-/// The turns of a text, if each of its lines numbers one of so many sessions.
+/// The turns of a text, if each of its lines numbers one of the sessions, which are counted from 1.
 pub fn turns_of(alloc: Global, text: &str, sessions: u32) -> Result<Vec<u32>, ScheduleError>
     ensures turns { IfOk result (λ turns. schedule_of sessions text.now ≡ Turns turns.items) }
     ensures within { IfOk result (λ turns. AllByRecursion (λ turn. (1 ≤ turn) × (turn ≤ sessions)) turns.items) }
@@ -56,7 +56,7 @@ pub fn turns_of(alloc: Global, text: &str, sessions: u32) -> Result<Vec<u32>, Sc
     Ok(turns)
 }
 
-/// The first line of a text, and what stands behind it.
+/// The first line of a text, and the rest after its LF.
 fn cut_line(text: &str) -> (&str, &str)
     requires { 0 < length text.now }
     ensures lines { lines_of text.entry.now ≡ result.0.now ∷ lines_of result.1.now }
@@ -68,7 +68,7 @@ fn cut_line(text: &str) -> (&str, &str)
     }
 }
 
-/// The session that a line numbers, of so many sessions, if it numbers one.
+/// The session that a line numbers, if it numbers one from 1 to `sessions`.
 fn turn_in(sessions: u32, line: &str) -> Option<u32>
     ensures { result ≡ schedule.turn_in sessions line.now }
 {

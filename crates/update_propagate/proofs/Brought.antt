@@ -4,8 +4,7 @@ use Rattle.std.specs.Prelude.{fold}
 use Rattle.pool_policy.specs.declared.entry.PoolEntry.{PoolEntry}
 use Rattle.pool_policy.specs.declared.touched.Touched.{Touched}
 use Rattle.pool_policy.specs.Pool.{PoolState}
-use Rattle.pool_policy.specs.Writes.{come_back, touched_ids}
-use Rattle.recycle_pool.specs.Carries.{backs_of}
+use Rattle.pool_policy.specs.Writes.{backs_of, come_back, touched_ids}
 
 pub brought : (write : Touched) (now next : ℕ) (ids : List ℕ) (entries : List PoolEntry) (pool : PoolState) → next ≡ pool.next → ids ≡ touched_ids write.table write.columns pool.entries → entries ≡ pool.entries
     → fold (come_back write now next ids entries) [] entries ≡ backs_of write now pool

@@ -1,8 +1,6 @@
--- What the private calls speak of, as the policy has it.
+-- The terms of the private calls, as the policy has them.
 use Rattle.std.specs.Prelude.{ℕ, List, [], ◌∷◌, map, sum_by, Bool, true, false, Option}
 use Rattle.std.specs.Option.{option_map, option_map_or}
-use Rattle.cell_core.specs.declared.operator.Op.{Op}
-use Rattle.cell_core.specs.declared.operator.Op.TheVariants as op
 use Rattle.cell_core.specs.declared.operator.Value.TheVariants.{Bat}
 use Rattle.cell_core.specs.Pairs.{Pairs}
 use Rattle.cell_core.specs.Calc.{all_or_none}
@@ -14,8 +12,8 @@ use Rattle.pool_policy.specs.Writes.Source.{Plain as PlainSource, Same as SameSo
 use Rattle.pool_policy.specs.Writes.Growth.{Runs as RunsOver, Nothing as NothingMore, NoForm as NoGrowth}
 use Rattle.update_propagate.specs.declared.back.Back.{Back}
 use Rattle.update_propagate.specs.declared.write.Write.{Write}
-use Rattle.update_propagate.specs.declared.source.Source.{Source}
-use Rattle.update_propagate.specs.declared.source.Source.TheVariants.{Plain, Same, Grown}
+use Rattle.update_propagate.specs.declared.source.ArgSource.{ArgSource}
+use Rattle.update_propagate.specs.declared.source.ArgSource.TheVariants.{Plain, Same, Grown}
 use Rattle.update_propagate.specs.declared.delta.Delta.{Delta}
 use Rattle.update_propagate.specs.declared.joining.JoinForm.{JoinForm}
 use Rattle.update_propagate.specs.declared.joining.JoinForm.TheVariants.{Joins, Nothing, NoForm}
@@ -30,7 +28,7 @@ returns_in backs = map return_in backs
 abbrev pub total_work : List Return → ℕ
 total_work returns = sum_by (λ (r : Return). r.work) returns
 
-abbrev pub source_in : Source → SourceValue
+abbrev pub source_in : ArgSource → SourceValue
 source_in (Plain cell) = PlainSource cell.now
 source_in (Same value) = SameSource value.now
 source_in (Grown back) = GrownSource (return_in back.now)
@@ -62,20 +60,3 @@ growth_over write returns key =
 
 abbrev pub come_back_at : Write → List Return → PoolEntry → List Return
 come_back_at write returns e = come_back write.touched.now write.now write.next write.ids.now write.entries.now returns e
-
--- the calculations of two values, and of one
-abbrev pub takes_two : Op → Bool
-takes_two op.Eq = true
-takes_two op.Ne = true
-takes_two op.Lt = true
-takes_two op.Le = true
-takes_two op.Gt = true
-takes_two op.Ge = true
-takes_two op.And = true
-takes_two op.Or = true
-takes_two _ = false
-
-abbrev pub takes_one : Op → Bool
-takes_one op.Not = true
-takes_one op.IsNil = true
-takes_one _ = false

@@ -9,9 +9,9 @@ use pool_policy::PoolEntry;
 /// An entry that comes back.
 #[derive(Drop)]
 pub(crate) struct Back<'a> {
-    /// It as it was.
+    /// The entry before the write.
     pub(crate) old: &'a PoolEntry,
-    /// It as it is then.
+    /// The entry after the write.
     pub(crate) new: PoolEntry,
     /// What follows its old value.
     pub(crate) delta: Shared,
@@ -19,7 +19,7 @@ pub(crate) struct Back<'a> {
     pub(crate) work: u64,
 }
 
-/// The one that had an id.
+/// The one that had this id.
 pub(crate) fn find_back<'a>(backs: &'a [Back<'a>], id: u64) -> Option<&'a Back<'a>>
     ensures { option_map return_in (option_copied result) ≡ return_of (returns_in backs.entry.now) id }
 {

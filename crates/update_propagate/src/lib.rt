@@ -1,8 +1,8 @@
 //! What comes back in a write, made before anything changes.
 //!
-//! It stands on `pool_policy`, whose functions say what comes back, and on the operators of plans, which
-//! run over what follows the old values alone. The old chunks of columns are shared. `recycle_pool` takes
-//! what is made here into the pool.
+//! It builds on `pool_policy`, whose functions say what comes back, and on the operators of plans,
+//! which run over what follows the old values alone. The old chunks of columns are shared.
+//! `recycle_pool` takes what is made here into the pool.
 #![tactic(auto)]
 
 ghost use Rattle.std.specs.Prelude.{◌≡◌, ◌+◌, IfOk};
@@ -29,9 +29,9 @@ use recycle_pool::{Carried, Pool};
 use std::alloc::Global;
 use std::sync::ledger::Ledger;
 
-/// What comes back in a write: each touched entry with an append form, with a fresh id, a renamed key,
-/// and its old value with what follows, by the operator over what its arguments grew by. The counter
-/// rises by the work of these operators alone. The pool stays as it is.
+/// What comes back in a write: each touched entry with an append form, with a fresh id, a renamed
+/// key, and its old value with what follows, by the operator over what its arguments grew by. The
+/// counter rises by the work of these operators alone. The pool doesn't change.
 pub fn carry<L: Ledger>(
     alloc: Global,
     pool: &Pool,

@@ -7,7 +7,7 @@ use cell_core::Memory;
 use pool_policy::PoolEntry;
 use std::alloc::Global;
 
-/// The ids that they had.
+/// The ids that the entries had.
 pub(crate) fn old_ids(alloc: Global, backs: &[Back<'_>]) -> Result<Vec<u64>, Memory>
     ensures { IfOk result (λ ids. ids.items ≡ map (λ r. r.old.id) (returns_in backs.now)) }
 {
@@ -18,7 +18,7 @@ pub(crate) fn old_ids(alloc: Global, backs: &[Back<'_>]) -> Result<Vec<u64>, Mem
     Ok(ids)
 }
 
-/// The work of the operators that were run for them.
+/// The work of the operators that were run for the entries.
 pub(crate) fn work_of_all(backs: &[Back<'_>]) -> u128
     ensures { result ≡ total_work (returns_in backs.now) }
 {
@@ -29,7 +29,7 @@ pub(crate) fn work_of_all(backs: &[Back<'_>]) -> u128
     total
 }
 
-/// They as they are then.
+/// The entries after the write.
 pub(crate) fn new_entries(alloc: Global, backs: Vec<Back<'_>>) -> Result<Vec<PoolEntry>, Memory>
     ensures { IfOk result (λ entries. entries.items ≡ map (λ r. r.new) (returns_in backs.entry.items)) }
 {

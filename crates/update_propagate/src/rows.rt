@@ -1,4 +1,4 @@
-//! The rows behind the old ones.
+//! The rows after the old ones.
 ghost use Rattle.std.specs.Prelude.{◌≡◌, IfOk, drop};
 ghost use Rattle.std.specs.List.{find};
 ghost use Rattle.std.specs.Option.{option_copied};

@@ -17,38 +17,38 @@ use std::alloc::Global;
 
 /// An argument: a constant, a value that isn't touched, or an entry that came back.
 #[derive(Clone, Copy)]
-pub(crate) enum Source<'a> {
+pub(crate) enum ArgSource<'a> {
     Plain(&'a Cell),
     Same(&'a Shared),
     Grown(&'a Back<'a>),
 }
 
 /// The entry with an id as an argument, where it came back.
-fn grown_of<'a>(backs: &'a [Back<'a>], id: u64) -> Option<Source<'a>>
+fn grown_of<'a>(backs: &'a [Back<'a>], id: u64) -> Option<ArgSource<'a>>
     ensures { option_map source_in result ≡ option_map GrownSource (return_of (returns_in backs.entry.now) id) }
 {
     match find_back(backs, id) {
         None => None,
-        Some(back) => Some(Source::Grown(back)),
+        Some(back) => Some(ArgSource::Grown(back)),
     }
 }
 
 /// The value of the entry with an id as an argument.
-fn same_of<'a>(entries: &'a [PoolEntry], id: u64) -> Option<Source<'a>>
+fn same_of<'a>(entries: &'a [PoolEntry], id: u64) -> Option<ArgSource<'a>>
     ensures { option_map source_in result ≡ option_map (λ e. SameSource e.value) (entry_of_id id entries.entry.now) }
 {
     match place_of_id(entries, id) {
         None => None,
-        Some(place) => Some(Source::Same(&entries[place].value)),
+        Some(place) => Some(ArgSource::Same(&entries[place].value)),
     }
 }
 
 /// An argument of a touched entry; none where it didn't come back.
-fn source_of<'a>(write: &Write<'a>, backs: &'a [Back<'a>], arg: &'a KeyArg) -> Option<Source<'a>>
+fn source_of<'a>(write: &Write<'a>, backs: &'a [Back<'a>], arg: &'a KeyArg) -> Option<ArgSource<'a>>
     ensures { option_map source_in result ≡ source_at write.entry.now (returns_in backs.entry.now) arg.entry.now }
 {
     match arg {
-        KeyArg::Const(cell) => Some(Source::Plain(cell)),
+        KeyArg::Const(cell) => Some(ArgSource::Plain(cell)),
         KeyArg::Id(id) => {
             if is_among(write.ids, *id) {
                 grown_of(backs, *id)
@@ -65,7 +65,7 @@ pub(crate) fn sources_of<'a>(
     write: &Write<'a>,
     backs: &'a [Back<'a>],
     args: &'a [KeyArg],
-) -> Result<Option<Vec<Source<'a>>>, Memory>
+) -> Result<Option<Vec<ArgSource<'a>>>, Memory>
     ensures { IfOk result (λ found. option_map (λ sources. map source_in sources.items) found ≡ all_or_none (map (source_at write.entry.now (returns_in backs.entry.now)) args.entry.now)) }
 {
     let mut sources = Vec::with_capacity(alloc, args.len())?;

@@ -1,8 +1,7 @@
 -- The list that was made is that of the policy, over the pool's entries, its next id and what is touched.
 use Rattle.std.proofs.Common.{◌≡◌, ℕ, List, ap, map, ◌∙◌}
 use Rattle.pool_policy.specs.declared.entry.PoolEntry.{PoolEntry}
-use Rattle.pool_policy.specs.Writes.{Return, touched_ids}
-use Rattle.recycle_pool.specs.Carries.{backs_of}
+use Rattle.pool_policy.specs.Writes.{Return, backs_of, touched_ids}
 use Rattle.update_propagate.specs.declared.back.Back.{Back}
 use Rattle.update_propagate.specs.Views.{returns_in, total_work}
 use Rattle.update_propagate.proofs.Brought.{brought}

@@ -4,6 +4,6 @@ use Rattle.cell_core.specs.declared.cell.Cell.TheVariants.{Int}
 use Rattle.cell_core.specs.Groups.{least}
 use Rattle.bat_group.proofs.parts.least_of.Given as goal
 
--- the best so far stands for the numbers so far
+-- the best so far is that of the numbers so far
 abbrev pub invariant-loop-i : goal.invariant-loop-i
 invariant-loop-i l = (before : List Cell) → least (before ++ Int l.best ∷ []) ≡ least (before ++ take l.i (map Int l.numbers))

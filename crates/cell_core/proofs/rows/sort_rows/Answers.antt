@@ -5,7 +5,7 @@ use Rattle.cell_core.specs.Order.{is_row_below, cells_cmp_total}
 use Rattle.cell_core.proofs.SortedLemmas.{sorted_is}
 use Rattle.cell_core.proofs.rows.sort_rows.Goals as goal
 
--- std's sort is stable, so it answers `sorted_by`
+-- std's sort is stable, so it returns `sorted_by`
 pub returns-clause-ok : goal.returns-clause-ok
 returns-clause-ok c =
     let order = ranks_by cells_cmp_total (λ r. r) in

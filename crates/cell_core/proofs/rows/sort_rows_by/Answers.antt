@@ -5,7 +5,7 @@ use Rattle.cell_core.specs.Keys.{is_keyed_below, keyed_total}
 use Rattle.cell_core.proofs.SortedLemmas.{sorted_is}
 use Rattle.cell_core.proofs.rows.sort_rows_by.Goals as goal
 
--- std's sort is stable, so it answers `sorted_by`
+-- std's sort is stable, so it returns `sorted_by`
 pub returns-clause-ok : goal.returns-clause-ok
 returns-clause-ok c =
     let keys = c.args.keys.now in let below = is_keyed_below keys in

@@ -3,7 +3,7 @@ use Rattle.std.specs.Option.{option_map}
 use Rattle.cell_core.specs.Tables.{column_place}
 use Rattle.cell_core.proofs.table.find_column.Given as goal
 
--- the place is that in what is left, as far on as what is behind
+-- the place is that in the columns left, plus the number of columns passed
 abbrev pub invariant-columns : goal.invariant-columns
 invariant-columns l = record {
   behind : length l.rest ≤ length l.columns;

@@ -5,6 +5,6 @@ use Rattle.chunk_core.proofs.chunk.pick_kept.Goals as goal
 
 pub loop-place-preserved : goal.loop-place-preserved
 loop-place-preserved g c =
-    map_picked g.K.Kept.cell_of (λ i. slice_index_or (map g.K.Kept.cell_of c.args.from.now) i Nil) (map g.K.Kept.cell_of c.args.numbers.now.items)
+    map_picked g.K.Packed.cell_of (λ i. slice_index_or (map g.K.Packed.cell_of c.args.from.now) i Nil) (map g.K.Packed.cell_of c.args.numbers.now.items)
     c.push_kept.new.kept.items c.loop-place.numbers.items c.kept_at.result c.args.places.now c.loop-place.place-index c.loop-place-test.true
     c.in_ok-push_kept.ensures.ok c.loop-place.invariant c.kept_at.ensures

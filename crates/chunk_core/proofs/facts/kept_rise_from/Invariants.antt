@@ -4,7 +4,7 @@ use Rattle.chunk_core.proofs.facts.kept_rise_from.Given as goal
 
 -- the answer for what is left is that for all
 abbrev pub invariant-others : goal.invariant-others
-invariant-others g l = neighbours_from is_below (g.K.Kept.cell_of l.before) (map g.K.Kept.cell_of l.rest) ≡ neighbours_from is_below (g.K.Kept.cell_of l.fn.first) (map g.K.Kept.cell_of l.others)
+invariant-others g l = neighbours_from is_below (g.K.Packed.cell_of l.before) (map g.K.Packed.cell_of l.rest) ≡ neighbours_from is_below (g.K.Packed.cell_of l.fn.first) (map g.K.Packed.cell_of l.others)
 
 abbrev pub decreases-others : goal.decreases-others
 decreases-others g l = length l.rest

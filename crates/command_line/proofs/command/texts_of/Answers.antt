@@ -1,7 +1,7 @@
 use Rattle.std.proofs.Common.{arith}
 use Rattle.std.proofs.lemmas.Grind.{common_steps}
 use Rattle.std.proofs.lemmas.List.Elements.{All-push}
-use Rattle.command_line.specs.Told.{HasUtf8}
+use Rattle.command_line.specs.Matches.{HasUtf8}
 use Rattle.command_line.proofs.command.texts_of.Goals as goal
 
 pub words-preserved : goal.words-preserved

@@ -1,5 +1,5 @@
 use Rattle.std.proofs.Common.{◌≡◌, ◌++◌, length}
-use Rattle.command_line.specs.Told.{AreUtf8, texts_in}
+use Rattle.command_line.specs.Matches.{AreUtf8, texts_in}
 use Rattle.command_line.proofs.command.texts_of.Given as goal
 
 -- the texts so far, and the words that are left

@@ -1,5 +1,5 @@
 use Rattle.std.proofs.Common.{◌≡◌, ◌++◌, length}
-use Rattle.command_line.specs.Told.{texts_in}
+use Rattle.command_line.specs.Matches.{texts_in}
 use Rattle.command_line.proofs.command.words_of.Given as goal
 
 -- the words so far, and those of the texts that are left

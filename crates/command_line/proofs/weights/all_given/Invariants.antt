@@ -1,6 +1,6 @@
 use Rattle.std.proofs.Common.{◌≡◌, ◌++◌, length}
 use Rattle.std.specs.Option.{option_map}
-use Rattle.command_line.specs.Told.{texts_in}
+use Rattle.command_line.specs.Matches.{texts_in}
 use Rattle.command_line.specs.Weights as told
 use Rattle.command_line.proofs.weights.all_given.Given as goal
 

@@ -4,6 +4,6 @@ use Rattle.dataflow.proofs.run.join_all.Given as goal
 
 abbrev pub invariant-workers : goal.invariant-workers
 invariant-workers g l = record {
-  ours : IsHandsOf g.K.Named.basis l.team.queues l.hands;
+  ours : IsHandsOf g.K.HasBasis.basis l.team.queues l.hands;
   theirs : GiveBackTo l.team l.worker-iterator.rest.items;
 }

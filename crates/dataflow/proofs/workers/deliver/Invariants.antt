@@ -4,6 +4,6 @@ use Rattle.dataflow.proofs.workers.deliver.Given as goal
 
 abbrev pub invariant-pushes : goal.invariant-pushes
 invariant-pushes g l = record {
-  ours : IsHandsOf g.K.Named.basis l.team.queues l.hands;
-  answer : IsAnswer g.K.Named.basis l.answer;
+  ours : IsHandsOf g.K.HasBasis.basis l.team.queues l.hands;
+  answer : IsAnswer g.K.HasBasis.basis l.answer;
 }

@@ -6,7 +6,7 @@ use Rattle.evict_admit.specs.Boards.{IsSeated, contender_for, left_at, left_of, 
 use Rattle.evict_admit.proofs.Plans.{IsPlanned}
 use Rattle.evict_admit.proofs.plan.plan_in.Given as goal
 
--- it is known how the rows stand, and what is given up so far is the beginning of the plan
+-- the state of the rows is known, and what is given up so far is the beginning of the plan
 abbrev pub invariant-rounds : goal.invariant-rounds
 invariant-rounds l = record {
   lefts : (p : ℕ) → p < length l.known.rows.now → left_at l.lefts p ≡ left_of l.out.items l.known.rows.now (row_at l.known.rows.now p);

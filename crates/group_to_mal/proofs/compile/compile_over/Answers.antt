@@ -3,7 +3,7 @@ use Rattle.std.specs.Option.{option_copied, option_map}
 use Rattle.sql_tree.specs.Tree.{cond_tree, query_tree}
 use Rattle.mal_emit.specs.Phrases.{variables}
 use Rattle.rows_to_mal.specs.Conjuncts.{Scope}
-use Rattle.sql_semantics.specs.Sources.{from_name, called_sources}
+use Rattle.sql_definitions.specs.Sources.{from_name, called_sources}
 use Rattle.group_to_mal.specs.QueryPlan.{query_plan, plan_of, shown_items}
 use Rattle.group_to_mal.proofs.CompiledLemmas.{if_ok, over_is, from_scope}
 use Rattle.group_to_mal.proofs.compile.compile_over.Goals as goal

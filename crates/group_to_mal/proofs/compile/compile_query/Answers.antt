@@ -5,7 +5,7 @@ use Rattle.mal_meaning.specs.Runs.{Runs}
 use Rattle.mal_check.specs.Checked.{plan_fault}
 use Rattle.mal_check.specs.Runnable.{FitsDb}
 use Rattle.sql_tree.specs.Tree.{stmt_tree}
-use Rattle.sql_semantics.specs.Answer.{answer_of_stmt}
+use Rattle.sql_definitions.specs.Answer.{answer_of_stmt}
 use Rattle.rows_to_mal.specs.Laws.{HoldsTables}
 use Rattle.group_to_mal.proofs.CompiledLemmas.{if_ok, plan_for, is_checked, is_fitting, is_meant, is_runnable}
 use Rattle.group_to_mal.proofs.compile.compile_query.Goals as goal

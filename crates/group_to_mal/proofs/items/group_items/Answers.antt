@@ -9,10 +9,10 @@ use Rattle.group_to_mal.specs.Columns.{heads, groups}
 use Rattle.group_to_mal.specs.QueryPlan.{items_by}
 use Rattle.group_to_mal.specs.Values.{is_grouped, group_value}
 use Rattle.group_to_mal.specs.ItemValues.{args_of}
-use Rattle.sql_semantics.specs.Exprs.{exprs_of}
+use Rattle.sql_definitions.specs.Exprs.{exprs_of}
 use Rattle.group_to_mal.proofs.items.group_items.Goals as goal
 
--- one phrase behind the other
+-- one phrase after the other
 pub returns : goal.returns
 returns c =
     let shown : Arg → Emitter (List Arg) =

@@ -8,10 +8,10 @@ use Rattle.group_to_mal.specs.Columns.{heads}
 use Rattle.group_to_mal.specs.QueryPlan.{items_by}
 use Rattle.group_to_mal.specs.Values.{is_grouped, group_value}
 use Rattle.group_to_mal.specs.ItemValues.{args_of}
-use Rattle.sql_semantics.specs.Exprs.{exprs_of}
+use Rattle.sql_definitions.specs.Exprs.{exprs_of}
 use Rattle.group_to_mal.proofs.items.items_of_groups.Goals as goal
 
--- the heads are named by what the phrase gives
+-- the heads are named by the result of the phrase
 pub returns : goal.returns
 returns c =
     let P : List Instr × Arg → Type 0 =

@@ -3,7 +3,7 @@ use Rattle.mal_emit.specs.Phrases.{variables}
 use Rattle.group_to_mal.specs.Columns.{values_by}
 use Rattle.group_to_mal.specs.Forms.{value_over, is_bat_over}
 use Rattle.group_to_mal.specs.ItemValues.{args_of, bats_in}
-use Rattle.sql_semantics.specs.Exprs.{exprs_of}
+use Rattle.sql_definitions.specs.Exprs.{exprs_of}
 use Rattle.group_to_mal.proofs.items.values.Given as goal
 
 abbrev pub invariant-loop-item : goal.invariant-loop-item

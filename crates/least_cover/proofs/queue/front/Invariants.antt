@@ -5,7 +5,7 @@ use Rattle.cell_core.specs.Cuts.{is_cut_below}
 use Rattle.least_cover.specs.Covers.{span_at}
 use Rattle.least_cover.proofs.queue.front.Given as goal
 
--- those that left stood at the end, and begin behind the cut
+-- those that left were at the end, and begin after the cut
 abbrev pub invariant-queue : goal.invariant-queue
 invariant-queue l = record {
   left : l.queue.items ≡ take (length l.queue.items) l.fn.queue.items;

@@ -3,7 +3,7 @@ use Rattle.mal_check.specs.Checked.{types_from, instr_types}
 use Rattle.mal_check.specs.Types.{types_of}
 use Rattle.mal_check.proofs.check.instr_kinds.Given as goal
 
--- what the rest gives behind what is found is what all give
+-- the types of the rest, after those found, are those of all
 abbrev pub invariant-instrs : goal.invariant-instrs
 invariant-instrs l = types_from (types_of l.kinds) l.rest ≡ instr_types l.instrs
 

@@ -3,7 +3,7 @@ use Rattle.cell_core.specs.Kinds.{calculated_type}
 use Rattle.mal_check.specs.Types.{types_of}
 use Rattle.mal_check.proofs.kinds.calculated_kind.Given as goal
 
--- what the rest gives is what all give
+-- the type for the rest is the type for all
 abbrev pub invariant-args-2 : goal.invariant-args-2
 invariant-args-2 l = calculated_type l.kind (types_of l.rest) ≡ calculated_type l.kind (types_of l.args)
 

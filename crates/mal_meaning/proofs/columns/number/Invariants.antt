@@ -3,7 +3,7 @@ use Rattle.std.specs.List.{enumerate_from}
 use Rattle.cell_core.specs.declared.cell.Cell.TheVariants.{Oid}
 use Rattle.mal_meaning.proofs.columns.number.Given as goal
 
--- what is made so far, and what the rest gives, is what all give
+-- what is made so far, followed by the result of the rest, is the result of all
 abbrev pub invariant-cells : goal.invariant-cells
 invariant-cells l =
     record {

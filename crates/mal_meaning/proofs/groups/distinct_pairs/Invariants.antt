@@ -4,7 +4,7 @@ use Rattle.cell_core.specs.Groups.{distinct}
 use Rattle.mal_meaning.specs.Slow.{are_same}
 use Rattle.mal_meaning.proofs.groups.distinct_pairs.Given as goal
 
--- the rest is the front of all, and what is made is what all behind it give
+-- the rest is the front of all, and what is made is the result of all after it
 abbrev pub invariant-pairs : goal.invariant-pairs
 invariant-pairs l =
     record {

@@ -2,7 +2,7 @@ use Rattle.std.proofs.Common.{◌≡◌, ◌++◌, map, length}
 use Rattle.mal_meaning.specs.Slow.{head_numbered}
 use Rattle.mal_meaning.proofs.groups.number_heads.Given as goal
 
--- what is made so far, and what the rest gives, is what all give
+-- what is made so far, followed by the result of the rest, is the result of all
 abbrev pub invariant-pairs : goal.invariant-pairs
 invariant-pairs l = l.out ++ map (head_numbered l.names) l.rest ≡ map (head_numbered l.names) l.b
 

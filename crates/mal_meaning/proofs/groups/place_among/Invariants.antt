@@ -2,7 +2,7 @@ use Rattle.std.proofs.Common.{◌≡◌, ◌+◌, ◌-◌, ◌≤◌, length}
 use Rattle.mal_meaning.specs.Slow.{number_among}
 use Rattle.mal_meaning.proofs.groups.place_among.Given as goal
 
--- the place in the rest, behind those before it, is the place among all
+-- the place in the rest, plus the number of those before it, is the place among all
 abbrev pub invariant-names : goal.invariant-names
 invariant-names l =
     record {

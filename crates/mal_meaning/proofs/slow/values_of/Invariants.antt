@@ -3,7 +3,7 @@ use Rattle.std.specs.Option.{option_map}
 use Rattle.mal_meaning.specs.Meaning.{arg_values}
 use Rattle.mal_meaning.proofs.slow.values_of.Given as goal
 
--- what is made so far, and what the rest gives, is what all give
+-- what is made so far, followed by the result of the rest, is the result of all
 abbrev pub invariant-args-2 : goal.invariant-args-2
 invariant-args-2 l = option_map (λ more. l.found ++ more) (arg_values (map Some l.values) l.rest) ≡ arg_values (map Some l.values) l.args
 

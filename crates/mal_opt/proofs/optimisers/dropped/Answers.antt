@@ -3,7 +3,8 @@ use Rattle.cell_core.specs.declared.cell.Cell.TheVariants.{Nil}
 use Rattle.cell_core.specs.declared.operator.Arg.TheVariants.{Const}
 use Rattle.mal_opt.specs.Live.{alive_from, is_alive}
 use Rattle.mal_opt.specs.Passes.{passed, nothing, behind, dropping, keeping, replaced, renamed_instr}
-use Rattle.mal_opt.proofs.PassLemmas.{first_and_rest, pass_on}
+use Rattle.cell_core.proofs.ListLemmas.{first_and_rest}
+use Rattle.mal_opt.proofs.PassLemmas.{pass_on}
 use Rattle.mal_opt.proofs.optimisers.dropped.Goals as goal
 
 pub instrs-preserved : goal.instrs-preserved

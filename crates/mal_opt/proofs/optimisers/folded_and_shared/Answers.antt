@@ -1,6 +1,7 @@
 use Rattle.std.proofs.Common.{◌-◌, length, take, drop, ap, ◌∙◌}
 use Rattle.mal_opt.specs.Passes.{passed, nothing, folding, sharing, keeping, renamed_instr}
-use Rattle.mal_opt.proofs.PassLemmas.{first_and_rest, pass_on}
+use Rattle.cell_core.proofs.ListLemmas.{first_and_rest}
+use Rattle.mal_opt.proofs.PassLemmas.{pass_on}
 use Rattle.mal_opt.proofs.optimisers.folded_and_shared.Goals as goal
 
 pub instrs-preserved : goal.instrs-preserved

@@ -5,7 +5,7 @@ use Rattle.cell_core.specs.declared.operator.Instr.{Instr}
 use Rattle.mal_print.specs.Canon as canon
 use Rattle.mal_print.proofs.print.print_mal.Goals as goal
 
--- more behind what stands behind a head
+-- more after what follows a head
 further : (h x y t : List ℕ) → t ≡ h ++ x → t ++ y ≡ h ++ (x ++ y)
 further h x y t e = ap (λ l. l ++ y) e ∙ append_assoc h x y
 

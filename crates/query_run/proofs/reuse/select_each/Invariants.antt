@@ -1,14 +1,14 @@
 use Rattle.std.proofs.Common.{◌≡◌, ◌+◌, ◌++◌, map, length}
 use Rattle.std.specs.List.{sum_by}
 use Rattle.reuse_laws.specs.Reuse.{selected_in}
-use Rattle.recycle_pool.specs.declared.found.Part.{Part}
+use Rattle.recycle_pool.specs.declared.found.CoverPiece.{CoverPiece}
 use Rattle.query_run.specs.Queries.{part_work}
 use Rattle.query_run.proofs.reuse.select_each.Given as goal
 
--- what is selected so far, and what the rest gives, is what all give, in values and in work; and the counter has risen by the work so far
+-- the selections so far and those of the rest are those of all, in values and in work; the counter has risen by the work so far
 abbrev pub invariant-parts : goal.invariant-parts
 invariant-parts g l = record {
-  values : l.values ++ map (λ (part : Part). selected_in part.span part.value) l.rest ≡ map (λ (part : Part). selected_in part.span part.value) l.parts;
+  values : l.values ++ map (λ (part : CoverPiece). selected_in part.span part.value) l.rest ≡ map (λ (part : CoverPiece). selected_in part.span part.value) l.parts;
   done : l.done + sum_by part_work l.rest ≡ sum_by part_work l.parts;
   counted : l.steps ≡ l.fn.steps + l.done;
 }

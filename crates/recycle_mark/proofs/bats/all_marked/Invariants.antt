@@ -3,7 +3,7 @@ use Rattle.std.specs.List.{list_all}
 use Rattle.recycle_mark.specs.Marks as marks
 use Rattle.recycle_mark.proofs.bats.all_marked.Given as goal
 
--- what the rest tells is what all tell
+-- the answer for the rest is the answer for all
 abbrev pub invariant-args-2 : goal.invariant-args-2
 invariant-args-2 l = list_all (marks.is_marked l.marked) l.rest ≡ list_all (marks.is_marked l.marked) l.args
 

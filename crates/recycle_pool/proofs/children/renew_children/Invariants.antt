@@ -1,4 +1,4 @@
--- The first of them stand under their parents, and have their parents beside them.
+-- The first of them are under their parents, and have their parents beside them.
 use Rattle.std.proofs.Common.{◌≡◌, ◌≤◌, length, map, take}
 use Rattle.recycle_pool.specs.Indexed.{IsIndexed, kin_of}
 use Rattle.recycle_pool.proofs.children.renew_children.Given as goal

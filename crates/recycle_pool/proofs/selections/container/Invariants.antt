@@ -1,4 +1,4 @@
--- What is left gives, from the best so far, what the whole gives.
+-- What is left yields, from the best so far, what the whole yields.
 use Rattle.std.proofs.Common.{◌≡◌, None, length}
 use Rattle.std.specs.Prelude.{fold}
 use Rattle.recycle_pool.proofs.Contained.{weigh_light}

@@ -1,4 +1,4 @@
--- What was listed and what is left give the whole.
+-- What was listed and what is left are the whole.
 use Rattle.std.proofs.Common.{◌≡◌, ◌++◌, length, map}
 use Rattle.least_cover.specs.Chosen.{Selection}
 use Rattle.recycle_pool.proofs.selections.priced.Given as goal

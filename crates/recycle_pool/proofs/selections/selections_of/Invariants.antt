@@ -1,4 +1,4 @@
--- What was found and what is left give the whole.
+-- What was found and what is left are the whole.
 use Rattle.std.proofs.Common.{◌≡◌, ◌++◌, length}
 use Rattle.recycle_pool.specs.Indexed.{selections_at}
 use Rattle.recycle_pool.proofs.selections.selections_of.Given as goal

@@ -1,11 +1,12 @@
 -- What is left pays back, once the first has paid, what the whole pays back.
 use Rattle.std.proofs.Common.{◌-◌, ◌&&◌, ◌∙◌, subst, length, take, drop}
+use Rattle.cell_core.proofs.ListLemmas.{first_and_rest}
 use Rattle.evict_admit.specs.Runs.{is_one_of}
 use Rattle.pool_policy.specs.declared.entry.PoolEntry.{PoolEntry}
 use Rattle.pool_policy.specs.Looks.{ids_used, pays_back}
 use Rattle.pool_entries.specs.Usable.{IsOwed}
 use Rattle.recycle_pool.specs.Answers.{told}
-use Rattle.recycle_pool.proofs.Paying.{first_and_rest, owed_here, paid_on}
+use Rattle.recycle_pool.proofs.Paying.{owed_here, paid_on}
 use Rattle.recycle_pool.proofs.uses.pay_each.Goals as goal
 
 pub pay_back_if-requires-clause-owed : goal.pay_back_if-requires-clause-owed

@@ -1,9 +1,9 @@
 use Rattle.std.proofs.Common.{◌≡◌, ◌++◌, map, length}
 use Rattle.sql_tree.specs.Tree.{expr_tree}
-use Rattle.sql_semantics.specs.Values.{cell_over}
+use Rattle.sql_definitions.specs.Values.{cell_over}
 use Rattle.row_values.proofs.scope.cells_over.Given as goal
 
--- what is made so far, and what the rest gives, is what all give
+-- the cells made so far, followed by those of the rest, are all cells
 abbrev pub invariant-choices : goal.invariant-choices
 invariant-choices l =
     l.cells ++ map (λ choice. cell_over l.sources choice (expr_tree l.expr)) l.rest ≡ map (λ choice. cell_over l.sources choice (expr_tree l.expr)) l.group

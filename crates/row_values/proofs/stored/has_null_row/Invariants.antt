@@ -1,6 +1,6 @@
 use Rattle.std.proofs.Common.{◌≡◌, length}
 use Rattle.std.specs.List.{list_any}
-use Rattle.sql_semantics.specs.Effect.{is_null_row}
+use Rattle.sql_definitions.specs.Effect.{is_null_row}
 use Rattle.row_values.proofs.stored.has_null_row.Given as goal
 
 -- the rest decides as all do

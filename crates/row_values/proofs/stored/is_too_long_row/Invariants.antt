@@ -1,5 +1,5 @@
 use Rattle.std.proofs.Common.{◌≡◌, length}
-use Rattle.sql_semantics.specs.Effect.{is_too_long_row}
+use Rattle.sql_definitions.specs.Effect.{is_too_long_row}
 use Rattle.row_values.proofs.stored.is_too_long_row.Given as goal
 
 -- the rest decides as all do

@@ -1,5 +1,5 @@
 use Rattle.std.proofs.Common.{◌≡◌, ◌++◌, map, length}
-use Rattle.sql_semantics.specs.Sources.{from_name, called_sources}
+use Rattle.sql_definitions.specs.Sources.{from_name, called_sources}
 use Rattle.rows_to_mal.proofs.compile.called_in_from.Given as goal
 
 abbrev pub decreases-froms : goal.decreases-froms

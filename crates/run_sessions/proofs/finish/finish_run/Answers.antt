@@ -20,7 +20,7 @@ returns c =
     let work = c.in_ok-work.ensures ∙ ap (sum_by (λ (x : Session). x.work)) c.as_slice.ensures.value in
     record {
       log = c.finish-log.ensures.log;
-      sound = subst (λ (events : List Event). IsSoundAlong book.options (log_tree events)) (sym c.finish-log.ensures.log) (pools_stay_sound_holds.sound book.options log c.log.ensures.lawful);
+      sound = subst (λ (events : List Event). IsSoundAlong book.options (log_tree events)) (sym c.finish-log.ensures.log) (pools_stay_sound_holds.sound book.options log c.log_is_lawful.ensures.lawful);
       texts = subst (λ (texts : List (Vec ℕ Global)). AreTexts log 1 (scripts_of sessions) (map (λ (text : Vec ℕ Global). text.items) texts)) (sym c.in_ok-texts.ensures) (texts_are c.one_reading.ensures book.options log sessions c.requires.standing c.requires.over);
       totals = totals_are book.options log sessions c.requires.standing c.requires.sessions c.finish-log.result.1 c.in_ok-totals.totals c.in_ok-work.work c.finish-log.ensures.totals work c.in_ok-totals.ensures;
     }

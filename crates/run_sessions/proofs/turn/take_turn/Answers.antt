@@ -21,7 +21,7 @@ returns g c =
     let y = c.step.new.session in
     let here = slice_get_read sessions _ place x refl c.requires.inside c.index_mut.ensures.value in
     let told = c.in_ok-more.ensures in
-    let lawful = c.log.ensures.lawful in
+    let lawful = c.log_is_lawful.ensures.lawful in
     record {
       played = turn_played old new sessions place x y here c.requires.standing told.options told.number told.pieces lawful c.one_reading.ensures c.requires.in_plan told.wide c.in_ok-more.more told.turned;
       counts = turn_counts old new sessions place x y here c.requires.standing told.options told.number told.pieces lawful c.args.steps.now c.step.new.steps told.counts;

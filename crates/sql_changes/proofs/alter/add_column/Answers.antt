@@ -1,7 +1,8 @@
 use Rattle.std.proofs.Common.{[], false, ap, sym, ◌∙◌}
 use Rattle.std.proofs.lemmas.Result.{on_ok_weaker}
 use Rattle.cell_core.specs.declared.table.Table.{Table}
-use Rattle.sql_changes.specs.Plans.{grown, place_once}
+use Rattle.cell_core.specs.Tables.{grown}
+use Rattle.sql_changes.specs.Plans.{place_once}
 use Rattle.sql_changes.proofs.PlaceLemmas.{set_where}
 use Rattle.sql_changes.proofs.alter.add_column.Goals as goal
 

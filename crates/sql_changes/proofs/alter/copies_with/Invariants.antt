@@ -1,8 +1,8 @@
 use Rattle.std.proofs.Common.{◌≡◌, ◌++◌, map, length}
-use Rattle.sql_semantics.specs.Effect.{with_column}
+use Rattle.cell_core.specs.Tables.{with_column}
 use Rattle.sql_changes.proofs.alter.copies_with.Given as goal
 
--- what is made so far, and what the rest gives, is what all give
+-- what is made so far, followed by what the rest makes, is what all make
 abbrev pub invariant-tables : goal.invariant-tables
 invariant-tables l =
     l.copies ++ map (with_column l.name l.column) l.rest ≡ map (with_column l.name l.column) l.tables

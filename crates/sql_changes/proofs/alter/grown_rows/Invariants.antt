@@ -2,7 +2,7 @@ use Rattle.std.proofs.Common.{◌≡◌, List, [], ◌∷◌, ◌++◌, map, len
 use Rattle.cell_core.specs.declared.cell.Cell.{Cell}
 use Rattle.sql_changes.proofs.alter.grown_rows.Given as goal
 
--- what is made so far, and what the rest gives, is what all give
+-- what is made so far, followed by what the rest makes, is what all make
 abbrev pub invariant-rows : goal.invariant-rows
 invariant-rows l =
     l.out ++ map (λ (row : List Cell). row ++ l.cell ∷ []) l.rest ≡ map (λ (row : List Cell). row ++ l.cell ∷ []) l.rows

@@ -3,7 +3,7 @@ use Rattle.std.specs.Option.{option_map}
 use Rattle.sql_changes.specs.Plans.{place_once}
 use Rattle.sql_changes.proofs.carry.find_once.Given as goal
 
--- the place is that in what is left, as far on as what is behind
+-- the place among all is that in what is left, moved on by what comes before
 abbrev pub invariant-tables : goal.invariant-tables
 invariant-tables l =
     record {

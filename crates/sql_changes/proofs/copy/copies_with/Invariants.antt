@@ -1,8 +1,8 @@
 use Rattle.std.proofs.Common.{◌≡◌, ◌++◌, map, length}
-use Rattle.sql_semantics.specs.Effect.{with_new_rows}
+use Rattle.cell_core.specs.Tables.{with_new_rows}
 use Rattle.sql_changes.proofs.copy.copies_with.Given as goal
 
--- what is made so far, and what the rest gives, is what all give
+-- what is made so far, followed by what the rest makes, is what all make
 abbrev pub invariant-tables : goal.invariant-tables
 invariant-tables l =
     l.copies ++ map (with_new_rows l.name l.rows) l.rest ≡ map (with_new_rows l.name l.rows) l.tables

@@ -1,6 +1,6 @@
 use Rattle.std.proofs.Common.{◌≡◌, map, length}
 use Rattle.sql_tree.specs.Tree.{set_tree}
-use Rattle.sql_semantics.specs.Effect.{is_any_set}
+use Rattle.sql_definitions.specs.Effect.{is_any_set}
 use Rattle.sql_changes.specs.Faults.{has_fault}
 use Rattle.sql_changes.proofs.fault.has_any_fault.Given as goal
 

@@ -2,7 +2,7 @@ use Rattle.std.proofs.Common.{◌≡◌, length}
 use Rattle.std.specs.List.{list_any}
 use Rattle.std.specs.Prelude.{◌&&◌, bytes_eq}
 use Rattle.cell_core.specs.declared.table.Column.{Column}
-use Rattle.sql_semantics.specs.Effect.{is_too_long}
+use Rattle.sql_definitions.specs.Effect.{is_too_long}
 use Rattle.sql_changes.proofs.fault.is_too_long_for.Given as goal
 
 -- the rest decides as all do

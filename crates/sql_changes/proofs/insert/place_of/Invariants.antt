@@ -3,7 +3,7 @@ use Rattle.std.specs.Prelude.{bytes_eq}
 use Rattle.std.specs.List.{position_or_len}
 use Rattle.sql_changes.proofs.insert.place_of.Given as goal
 
--- the place is that in what is left, as far on as what is behind
+-- the place among all is that in what is left, moved on by what comes before
 abbrev pub invariant-names : goal.invariant-names
 invariant-names l =
     record {

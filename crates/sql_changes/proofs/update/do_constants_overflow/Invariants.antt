@@ -1,7 +1,7 @@
 use Rattle.std.proofs.Common.{◌≡◌, ℕ, List, map, length}
 use Rattle.std.specs.List.{list_any}
 use Rattle.sql_tree.specs.Tree.{ExprTree, set_tree}
-use Rattle.sql_semantics.specs.Values.{constant_overflows}
+use Rattle.sql_definitions.specs.Values.{constant_overflows}
 use Rattle.sql_changes.proofs.update.do_constants_overflow.Given as goal
 
 -- the rest decides as all do

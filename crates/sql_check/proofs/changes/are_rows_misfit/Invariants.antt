@@ -1,6 +1,6 @@
 use Rattle.std.proofs.Common.{◌≡◌, length}
 use Rattle.std.specs.List.{list_any}
-use Rattle.sql_semantics.specs.Check.{is_misfit_row}
+use Rattle.sql_definitions.specs.Check.{is_misfit_row}
 use Rattle.sql_check.proofs.changes.are_rows_misfit.Given as goal
 
 -- the rest decides as all do

@@ -1,7 +1,7 @@
 use Rattle.std.proofs.Common.{◌≡◌, map, length}
 use Rattle.std.specs.List.{list_any}
 use Rattle.sql_tree.specs.Tree.{set_tree}
-use Rattle.sql_semantics.specs.Check.{is_misfit_set}
+use Rattle.sql_definitions.specs.Check.{is_misfit_set}
 use Rattle.sql_check.proofs.changes.are_sets_misfit.Given as goal
 
 -- the rest decides as all do

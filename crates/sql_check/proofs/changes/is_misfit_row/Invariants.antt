@@ -1,5 +1,5 @@
 use Rattle.std.proofs.Common.{◌≡◌, length}
-use Rattle.sql_semantics.specs.Check.{is_misfit_row}
+use Rattle.sql_definitions.specs.Check.{is_misfit_row}
 use Rattle.sql_check.proofs.changes.is_misfit_row.Given as goal
 
 -- the rest decides as all do

@@ -1,7 +1,7 @@
 use Rattle.std.proofs.Common.{◌∙◌, ap, map, Option}
 use Rattle.std.specs.Option.{option_or, option_map}
 use Rattle.sql_tree.specs.Tree.{cond_tree, set_tree}
-use Rattle.sql_semantics.specs.declared.refusal.Refusal.{Refusal}
+use Rattle.sql_definitions.specs.declared.refusal.Refusal.{Refusal}
 use Rattle.sql_check.proofs.ChangeLemmas.{update_first}
 use Rattle.sql_check.proofs.changes.update_over.Goals as goal
 

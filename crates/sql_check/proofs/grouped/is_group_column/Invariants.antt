@@ -1,5 +1,5 @@
 use Rattle.std.proofs.Common.{◌≡◌, length}
-use Rattle.sql_semantics.specs.Check.{is_group_column}
+use Rattle.sql_definitions.specs.Check.{is_group_column}
 use Rattle.sql_check.proofs.grouped.is_group_column.Given as goal
 
 -- the rest decides as all do

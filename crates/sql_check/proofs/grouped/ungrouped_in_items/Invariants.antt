@@ -1,6 +1,6 @@
 use Rattle.std.proofs.Common.{◌≡◌, length}
 use Rattle.sql_check.specs.First.{first_by, ungrouped_expr}
-use Rattle.sql_semantics.specs.Exprs.{exprs_of}
+use Rattle.sql_definitions.specs.Exprs.{exprs_of}
 use Rattle.sql_check.proofs.grouped.ungrouped_in_items.Given as goal
 
 -- the rest decides as all do

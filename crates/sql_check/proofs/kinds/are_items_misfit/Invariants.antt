@@ -1,7 +1,7 @@
 use Rattle.std.proofs.Common.{◌≡◌, length}
 use Rattle.std.specs.List.{list_any}
-use Rattle.sql_semantics.specs.Kinds.{is_misfit}
-use Rattle.sql_semantics.specs.Exprs.{exprs_of}
+use Rattle.sql_definitions.specs.Kinds.{is_misfit}
+use Rattle.sql_definitions.specs.Exprs.{exprs_of}
 use Rattle.sql_check.proofs.kinds.are_items_misfit.Given as goal
 
 -- the rest decides as all do

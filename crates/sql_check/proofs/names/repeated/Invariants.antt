@@ -1,7 +1,7 @@
 use Rattle.std.proofs.Common.{◌≡◌, ℕ, List, ◌+◌, map, filter, take, length}
 use Rattle.std.specs.Prelude.{bytes_eq, slice_get}
 use Rattle.std.specs.List.{enumerate_from, list_any}
-use Rattle.sql_semantics.specs.Check.{repeated}
+use Rattle.sql_definitions.specs.Check.{repeated}
 use Rattle.sql_check.proofs.names.repeated.Given as goal
 
 -- the rest decides as all do

@@ -1,6 +1,6 @@
 use Rattle.std.proofs.Common.{◌≡◌, length}
 use Rattle.std.specs.Prelude.{find, bytes_eq}
-use Rattle.sql_semantics.specs.declared.source.Source.{Source}
+use Rattle.sql_definitions.specs.declared.source.Source.{Source}
 use Rattle.sql_check.proofs.names.source_named.Given as goal
 
 -- the rest decides as all do

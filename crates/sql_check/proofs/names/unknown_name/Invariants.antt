@@ -1,5 +1,5 @@
 use Rattle.std.proofs.Common.{◌≡◌, length}
-use Rattle.sql_semantics.specs.Check.{unknown_names}
+use Rattle.sql_definitions.specs.Check.{unknown_names}
 use Rattle.sql_check.specs.First.{first}
 use Rattle.sql_check.proofs.names.unknown_name.Given as goal
 

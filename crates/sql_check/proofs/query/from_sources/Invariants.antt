@@ -1,8 +1,8 @@
 use Rattle.std.proofs.Common.{◌≡◌, ◌++◌, length}
-use Rattle.sql_semantics.specs.Sources.{from_sources}
+use Rattle.sql_definitions.specs.Sources.{from_sources}
 use Rattle.sql_check.proofs.query.from_sources.Given as goal
 
--- what is made so far, and what the rest gives, is what all give
+-- what is made so far, followed by what the rest makes, is what all make
 abbrev pub invariant-froms : goal.invariant-froms
 invariant-froms l =
     l.sources.items ++ from_sources l.rest l.schema ≡ from_sources l.froms l.schema

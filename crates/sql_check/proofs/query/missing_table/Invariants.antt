@@ -1,5 +1,5 @@
 use Rattle.std.proofs.Common.{◌≡◌, length}
-use Rattle.sql_semantics.specs.Check.{missing_tables}
+use Rattle.sql_definitions.specs.Check.{missing_tables}
 use Rattle.sql_check.specs.First.{first}
 use Rattle.sql_check.proofs.query.missing_table.Given as goal
 

@@ -1,7 +1,7 @@
 use Rattle.std.proofs.Common.{◌∙◌, ap, Option}
 use Rattle.std.specs.Option.{option_or}
 use Rattle.sql_tree.specs.Tree.{query_tree}
-use Rattle.sql_semantics.specs.declared.refusal.Refusal.{Refusal}
+use Rattle.sql_definitions.specs.declared.refusal.Refusal.{Refusal}
 use Rattle.sql_check.proofs.QueryLemmas.{query_first}
 use Rattle.sql_check.proofs.query.query_refusal.Goals as goal
 

@@ -1,7 +1,7 @@
 use Rattle.std.proofs.Common.{map, ◌∙◌, ap, Option}
 use Rattle.std.specs.Option.{option_or}
 use Rattle.sql_tree.specs.Tree.{item_tree, query_tree}
-use Rattle.sql_semantics.specs.declared.refusal.Refusal.{Refusal}
+use Rattle.sql_definitions.specs.declared.refusal.Refusal.{Refusal}
 use Rattle.sql_check.proofs.QueryLemmas.{column_first}
 use Rattle.sql_check.proofs.query.refusal_with.Goals as goal
 

@@ -1,5 +1,5 @@
 use Rattle.std.proofs.Common.{◌≡◌, length}
-use Rattle.sql_semantics.specs.Check.{bad_references}
+use Rattle.sql_definitions.specs.Check.{bad_references}
 use Rattle.sql_check.specs.First.{first}
 use Rattle.sql_check.proofs.references.bad_references.Given as goal
 

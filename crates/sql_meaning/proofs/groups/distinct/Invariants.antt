@@ -1,9 +1,9 @@
 use Rattle.std.proofs.Common.{◌≡◌, length, take, drop}
 use Rattle.cell_core.specs.Groups.{distinct}
-use Rattle.sql_semantics.specs.Rows.{same_cells}
+use Rattle.sql_definitions.specs.Rows.{same_cells}
 use Rattle.sql_meaning.proofs.groups.distinct.Given as goal
 
--- the rest is the front of all, and what is made is what all behind it give
+-- the rest is the front of all rows, and what is made comes from those after it
 abbrev pub invariant-rows : goal.invariant-rows
 invariant-rows l =
     record {

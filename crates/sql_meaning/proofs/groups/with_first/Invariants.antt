@@ -1,5 +1,5 @@
 use Rattle.std.proofs.Common.{◌≡◌, ◌∷◌, filter, not}
-use Rattle.sql_semantics.specs.Rows.{same_cells}
+use Rattle.sql_definitions.specs.Rows.{same_cells}
 use Rattle.sql_meaning.proofs.groups.with_first.Given as goal
 
 -- the row, and what is left of the others so far

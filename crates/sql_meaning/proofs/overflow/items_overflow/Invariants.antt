@@ -1,7 +1,7 @@
 use Rattle.std.proofs.Common.{◌≡◌, length}
 use Rattle.std.specs.List.{list_any}
-use Rattle.sql_semantics.specs.Values.{constant_overflows}
-use Rattle.sql_semantics.specs.Exprs.{exprs_of}
+use Rattle.sql_definitions.specs.Values.{constant_overflows}
+use Rattle.sql_definitions.specs.Exprs.{exprs_of}
 use Rattle.sql_meaning.proofs.overflow.items_overflow.Given as goal
 
 -- the rest decides as all do

@@ -1,9 +1,9 @@
 use Rattle.std.proofs.Common.{◌≡◌, length}
 use Rattle.std.specs.List.{list_any}
 use Rattle.std.specs.Prelude.{flat_map}
-use Rattle.sql_semantics.specs.Values.{over_choices}
-use Rattle.sql_semantics.specs.Rows.{overflows_for}
-use Rattle.sql_semantics.specs.Exprs.{exprs_of}
+use Rattle.sql_definitions.specs.Values.{over_choices}
+use Rattle.sql_definitions.specs.Rows.{overflows_for}
+use Rattle.sql_definitions.specs.Exprs.{exprs_of}
 use Rattle.sql_meaning.proofs.overflow.items_overflow_over.Given as goal
 
 -- the rest decides as all do

@@ -1,6 +1,6 @@
 use Rattle.std.proofs.Common.{◌≡◌, length}
 use Rattle.sql_tree.specs.Tree.{expr_tree}
-use Rattle.sql_semantics.specs.Rows.{overflows_for}
+use Rattle.sql_definitions.specs.Rows.{overflows_for}
 use Rattle.sql_meaning.proofs.overflow.overflows.Given as goal
 
 -- the rest decides as all do

@@ -1,8 +1,8 @@
 use Rattle.std.proofs.Common.{◌≡◌, ◌++◌, length}
-use Rattle.sql_semantics.specs.Sources.{from_tables}
+use Rattle.sql_definitions.specs.Sources.{from_tables}
 use Rattle.sql_meaning.proofs.tables.from_tables.Given as goal
 
--- what is made so far, and what the rest gives, is what all give
+-- what is made so far, followed by what the rest makes, is what all make
 abbrev pub invariant-froms : goal.invariant-froms
 invariant-froms l = l.tables.items ++ from_tables l.rest l.db ≡ from_tables l.froms l.db
 

@@ -4,8 +4,8 @@ use Rattle.sql_grammar.specs.Refused.{IsFirstRule}
 use Rattle.read_laws.proofs.TextsRead.{by_rule}
 use Rattle.sql_parse.proofs.steps.check_rules.Goals as goal
 use Rattle.read_laws.specs.AnsweredTokens.{AreAnswered}
-use Rattle.sql_semantics.specs.declared.refusal.Refusal.{Refusal}
-use Rattle.sql_semantics.specs.declared.refusal.Refusal.TheVariants.{Unsupported}
+use Rattle.sql_definitions.specs.declared.refusal.Refusal.{Refusal}
+use Rattle.sql_definitions.specs.declared.refusal.Refusal.TheVariants.{Unsupported}
 
 pub returns-in-Some-clause-refused : goal.returns-in-Some-clause-refused
 returns-in-Some-clause-refused c = λ refusal is.

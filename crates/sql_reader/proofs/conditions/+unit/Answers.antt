@@ -1,4 +1,4 @@
--- Each turn of the two loops takes a step of its chain.
+-- Each pass of the two loops takes a step of its chain.
 use Rattle.std.proofs.Common.{◌≡◌, ◌≢◌, true, false, Some, None, IfOk, subst, ap, sym, ◌∙◌, arith, rules, ◌-◌}
 use Rattle.std.proofs.lemmas.Grind.{common_steps}
 use Rattle.std.proofs.lemmas.Result.{err_from_is_err_and}
@@ -55,7 +55,7 @@ pub conj_behind-returns-clause-found : goal.conj_behind-returns-clause-found
 conj_behind-returns-clause-found t c =
     c.units.invariant ∙ last_turn reader.and_in (reader.both_of bounded) (reader.unit bounded (reader.operand bounded c.args.aggregates) c.args.depth) c.len-turn-end.result c.units.turn (cond_tree c.units.left) (tokens_in c.units.tokens.rest.now) c.units-test.false
 
--- what inner parentheses enclose is gone on with
+-- reading goes on from what inner parentheses enclose
 pub enclosed-returns-in_err-first-clause-no_operand : goal.enclosed-returns-in_err-first-clause-no_operand
 enclosed-returns-in_err-first-clause-no_operand t c =
     let open_ : is_symbol symbol.Open (first_token (tokens_in c.args.tokens.now.rest.now)) ≡ true = first_of (search rules, cc, grind (arith, common_steps)) in

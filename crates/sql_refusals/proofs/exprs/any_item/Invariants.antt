@@ -4,7 +4,7 @@ use Rattle.sql_tree.specs.Tree.{ItemTree, item_tree}
 use Rattle.sql_refusals.specs.Searches.{is_sought}
 use Rattle.sql_refusals.proofs.exprs.any_item.Given as goal
 
--- what is left tells as all do
+-- the test of what is left has the result of the test of all
 abbrev pub invariant-items : goal.invariant-items
 invariant-items l = list_any (is_sought l.sought) (map (λ (item : ItemTree). item.expr) (map item_tree l.rest)) ≡ list_any (is_sought l.sought) (map (λ (item : ItemTree). item.expr) (map item_tree l.items))
 

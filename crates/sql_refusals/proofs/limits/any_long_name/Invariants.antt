@@ -4,7 +4,7 @@ use Rattle.sql_grammar.specs.Reads.{tokens_in}
 use Rattle.sql_grammar.specs.Refused.{is_long_name}
 use Rattle.sql_refusals.proofs.limits.any_long_name.Given as goal
 
--- what is left tells as all do
+-- the test of what is left has the result of the test of all
 abbrev pub invariant-tokens : goal.invariant-tokens
 invariant-tokens l = list_any is_long_name (tokens_in l.rest) ≡ list_any is_long_name (tokens_in l.tokens)
 

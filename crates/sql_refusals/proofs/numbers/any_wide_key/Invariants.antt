@@ -4,7 +4,7 @@ use Rattle.sql_tree.specs.declared.tree.SortKey.{SortKey}
 use Rattle.sql_grammar.specs.Refused.{is_wide_place}
 use Rattle.sql_refusals.proofs.numbers.any_wide_key.Given as goal
 
--- what is left tells as all do
+-- the test of what is left has the result of the test of all
 abbrev pub invariant-keys : goal.invariant-keys
 invariant-keys l = list_any (λ (key : SortKey). is_wide_place key.at) l.rest ≡ list_any (λ (key : SortKey). is_wide_place key.at) l.keys
 

@@ -2,7 +2,7 @@ use Rattle.std.proofs.Common.{◌≡◌, ℕ, ◌+◌, ◌-◌, List, take, Some
 use Rattle.std.specs.Prelude.{slice_get}
 use Rattle.sql_shell.specs.Failures.{at_of}
 use Rattle.sql_shell.specs.Scripts.{AreCut, CanBeRun}
-use Rattle.sql_shell.specs.declared.scripts.Script.{Script}
+use Rattle.sql_shell.specs.declared.scripts.CutScript.{CutScript}
 use Rattle.sql_shell.proofs.ScriptLemmas.{unfit_here, cut_next, can_be_run, name_at, place_by, place_at_fault}
 use Rattle.sql_shell.proofs.scripts.read_scripts.Goals as goal
 
@@ -31,7 +31,7 @@ returns-in-Err-clause-failed g c two =
 
 pub files-preserved : goal.files-preserved
 files-preserved g c =
-    let P : List Script → Type 0 = λ ss. AreCut (g.S.Scripts.bytes_of c.args.source.now) (take (c.files.i + 1) c.args.names.now) ss in (
+    let P : List CutScript → Type 0 = λ ss. AreCut (g.S.Scripts.bytes_of c.args.source.now) (take (c.files.i + 1) c.args.names.now) ss in (
       subst P (sym c.in_ok-push-in-Ok.ensures.items)
           (cut_next (g.S.Scripts.bytes_of c.args.source.now) (g.S.Scripts.bytes_of c.files.source) c.files.invariant.1 c.args.names.now c.files.i c.index-names-i.result c.files-test.true c.index-names-i.is c.files.read.items c.files.invariant.0 _ c.in-Ok.ensures.cut),
       (λ other. c.in-Ok.ensures.same other ∙ c.files.invariant.1 other),

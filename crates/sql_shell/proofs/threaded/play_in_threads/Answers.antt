@@ -14,7 +14,7 @@ use Rattle.run_sessions.specs.Tables.{AreTexts}
 use Rattle.sql_shell.specs.Ready.{IsServedBy}
 use Rattle.sql_shell.specs.Scripts.{names_of, pieces_in}
 use Rattle.sql_shell.specs.Served.{IsMade, texts_under}
-use Rattle.sql_shell.specs.declared.scripts.Script.{Script}
+use Rattle.sql_shell.specs.declared.scripts.CutScript.{CutScript}
 use Rattle.sql_shell.proofs.PrintLemmas.{all_items, served_of, texts_many}
 use Rattle.sql_shell.specs.declared.inputs.Course.TheVariants.{InThreads}
 use Rattle.sql_shell.proofs.threaded.play_in_threads.Goals as goal
@@ -31,8 +31,8 @@ print_run-requires-clause-each g c =
     let scripts = c.args.scripts.items in
     let many = texts_many (log_tree c.in_ok-run.run'.log.items) 1 c.in_ok-names.field-0.scripts.items (all_items texts) c.in_ok-run.ensures.texts in
     let items = length-map texts (λ (t : Vec ℕ Global). t.items) in
-    let pieces = ap length c.in_ok-names.ensures.scripts ∙ length-map scripts (λ (s : Script). s.pieces) in
-    let names = ap length (c.as_slice.ensures.value ∙ c.in_ok-names.ensures.names) ∙ length-map scripts (λ (s : Script). s.name) in
+    let pieces = ap length c.in_ok-names.ensures.scripts ∙ length-map scripts (λ (s : CutScript). s.pieces) in
+    let names = ap length (c.as_slice.ensures.value ∙ c.in_ok-names.ensures.names) ∙ length-map scripts (λ (s : CutScript). s.name) in
     omega (arith, many, items, pieces, names)
 
 pub returns : goal.returns
@@ -47,8 +47,8 @@ returns g c =
     let pool = c.pool_for-pool.ensures in
     let texts : AreTexts log 1 pieces (all_items run.texts.items) = subst (λ (split : List (List (List ℕ))). AreTexts log 1 split (all_items run.texts.items)) c.in_ok-names.ensures.scripts ran.texts in
     let many = texts_many log 1 pieces (all_items run.texts.items) texts in
-    let names = length-map scripts (λ (s : Script). s.name) in
-    let count = length-map scripts (λ (s : Script). s.pieces) in
+    let names = length-map scripts (λ (s : CutScript). s.name) in
+    let count = length-map scripts (λ (s : CutScript). s.pieces) in
     λ before after. subst (λ (events : List Event). IsServedBy options scripts course c.in_ok-text.text.items (log_tree events) run.totals.work before after) (sym c.from_vec.ensures) (
       served_of options (names_of scripts) pieces c.in_ok-text.text.items (all_items run.texts.items) log run.totals
           (omega (arith, many, names, count))

@@ -1,4 +1,4 @@
--- Each turn of the loop takes a step of the joins.
+-- Each pass of the loop takes a step of the joins.
 use Rattle.std.proofs.Common.{◌≡◌, None, ap, sym, ◌∙◌, arith, rules, ◌-◌}
 use Rattle.std.specs.Option.{option_map}
 use Rattle.std.proofs.lemmas.Grind.{common_steps}

@@ -7,5 +7,5 @@ use Rattle.sql_statements.proofs.part.listed.Given as goal
 
 abbrev pub invariant-parts : goal.invariant-parts
 invariant-parts g l =
-    reader.listed g.P.Part.reader (tokens_in l.fn.tokens.rest.now)
-    ≡ chain comma_in reader.one_more g.P.Part.reader (l.turn-end - l.turn) l.parts (tokens_in l.tokens.rest.now)
+    reader.listed g.P.ListItem.reader (tokens_in l.fn.tokens.rest.now)
+    ≡ chain comma_in reader.one_more g.P.ListItem.reader (l.turn-end - l.turn) l.parts (tokens_in l.tokens.rest.now)

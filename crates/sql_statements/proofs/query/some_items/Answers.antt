@@ -1,4 +1,4 @@
--- Each turn of the loop takes a step of its chain.
+-- Each pass of the loop takes a step of its chain.
 use Rattle.std.proofs.Common.{◌≡◌, None, map, ap, sym, ◌∙◌, arith, rules, ◌-◌}
 use Rattle.std.proofs.lemmas.Grind.{common_steps}
 use Rattle.std.proofs.lemmas.Result.{err_from_is_err_and}

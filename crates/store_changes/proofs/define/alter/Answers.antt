@@ -2,10 +2,10 @@ use Rattle.std.proofs.Common.{[], ◌∷◌, None, length, refl, ap, sym, ◌∙
 use Rattle.std.specs.Prelude.{find}
 use Rattle.std.specs.Option.{option_copied}
 use Rattle.cell_core.specs.declared.table.Column.{Column}
-use Rattle.sql_semantics.specs.Check.{alter_refusals}
+use Rattle.cell_core.specs.Tables.{row_count}
+use Rattle.sql_definitions.specs.Check.{alter_refusals}
 use Rattle.table_store.specs.declared.heading.Heading.{Heading}
 use Rattle.table_store.specs.Changes.{with_last_column}
-use Rattle.table_store.specs.Touches.{row_count}
 use Rattle.store_changes.proofs.DefineLemmas.{alter_comes, alter_refused}
 use Rattle.store_changes.proofs.NamedLemmas.{count_found, has_name, not_missing, there, told_heading}
 use Rattle.store_changes.proofs.define.alter.Goals as goal

@@ -1,6 +1,6 @@
 use Rattle.std.proofs.Common.{None, refl, sym, ◌∙◌}
+use Rattle.cell_core.specs.Tables.{names_in}
 use Rattle.table_store.specs.Changes.{with_table}
-use Rattle.table_store.specs.Touches.{names_in}
 use Rattle.store_changes.proofs.DefineLemmas.{create_comes}
 use Rattle.store_changes.proofs.define.create.Goals as goal
 

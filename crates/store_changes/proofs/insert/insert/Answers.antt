@@ -4,7 +4,7 @@ use Rattle.std.specs.Option.{option_copied}
 use Rattle.cell_core.specs.declared.cell.Cell.{Cell}
 use Rattle.cell_core.specs.declared.table.Table.{Table}
 use Rattle.cell_core.specs.Tables.{named_table}
-use Rattle.sql_semantics.specs.Check.{insert_refusals}
+use Rattle.sql_definitions.specs.Check.{insert_refusals}
 use Rattle.sql_changes.specs.Added.{added_to}
 use Rattle.table_columns.specs.Rows.{AreWide}
 use Rattle.table_store.specs.declared.heading.Heading.{Heading}

@@ -1,10 +1,10 @@
 use Rattle.std.proofs.Common.{◌≡◌, None, ap, sym, ◌∙◌}
 use Rattle.std.specs.Prelude.{Result, Ok, Err, IfOk}
 use Rattle.sql_tree.specs.Tree.{StmtTree, stmt_tree}
-use Rattle.sql_semantics.specs.declared.refusal.Refusal.{Refusal}
-use Rattle.sql_semantics.specs.declared.source.Schema.{Schema}
-use Rattle.sql_semantics.specs.declared.typed.Typed.{Typed}
-use Rattle.sql_semantics.specs.Check.{check_refusal}
+use Rattle.sql_definitions.specs.declared.refusal.Refusal.{Refusal}
+use Rattle.sql_definitions.specs.declared.source.Schema.{Schema}
+use Rattle.sql_definitions.specs.declared.typed.Typed.{Typed}
+use Rattle.sql_definitions.specs.Check.{check_refusal}
 use Rattle.store_changes.proofs.UnlessLemmas.{comes_unless, counted_unless, work_unless}
 use Rattle.store_changes.proofs.preparing.prepare_rewrite.Goals as goal
 

@@ -1,9 +1,9 @@
 use Rattle.std.proofs.Common.{ℕ, List, ap, sym, ◌∙◌, subst}
 use Rattle.cell_core.specs.declared.cell.Cell.{Cell}
+use Rattle.cell_core.specs.Tables.{row_count}
 use Rattle.sql_tree.specs.Tree.{stmt_tree}
 use Rattle.change_plans.specs.declared.decided.Decided.TheVariants.{Gone, Set}
 use Rattle.change_plans.specs.Decisions.{own_columns, rises}
-use Rattle.table_store.specs.Touches.{row_count}
 use Rattle.store_changes.specs.Rewrites.{Removes, Sets, are_placed}
 use Rattle.store_changes.proofs.RewriteLemmas.{count_here, decided_gone, decided_refused, decided_set, here, in_place_here}
 use Rattle.store_changes.proofs.rewrite.carry_out.Goals as goal

@@ -5,8 +5,8 @@ use Rattle.store_changes.specs.Rewrites.{flags_from}
 use Rattle.store_changes.proofs.FlagLemmas.{flags_long, removes_is}
 use Rattle.store_changes.proofs.rewrite.remove.Goals as goal
 
-pub keep_rows-requires-clause-flags : goal.keep_rows-requires-clause-flags
-keep_rows-requires-clause-flags c =
+pub drop_flagged_rows-requires-clause-flags : goal.drop_flagged_rows-requires-clause-flags
+drop_flagged_rows-requires-clause-flags c =
     ap (λ (flags : List Bool). length flags) (c.deref.ensures.value ∙ c.in_ok-flags.ensures) ∙ flags_long 0 c.row_count.result c.args.places.now ∙ c.row_count.ensures
 
 pub returns : goal.returns

@@ -1,8 +1,8 @@
 use Rattle.std.proofs.Common.{Bool, List, ℕ, None, length, map, refl, ap, ◌∙◌}
 use Rattle.cell_core.specs.declared.cell.Cell.{Cell}
+use Rattle.cell_core.specs.Tables.{row_count}
 use Rattle.table_columns.specs.Changed.{NewCells}
 use Rattle.table_store.specs.Changes.{with_rows}
-use Rattle.table_store.specs.Touches.{row_count}
 use Rattle.store_changes.specs.Rewrites.{flags_from}
 use Rattle.store_changes.proofs.FlagLemmas.{flags_long, sets_is, sets_named}
 use Rattle.store_changes.proofs.rewrite.set.Goals as goal

@@ -2,7 +2,7 @@ use Rattle.std.proofs.Common.{◌≡◌, ◌+◌, ◌++◌, length}
 use Rattle.table_columns.specs.Changed.{grown_columns}
 use Rattle.table_columns.proofs.grow.followed_columns.Given as goal
 
--- what is made so far, and what the rest gives
+-- what is made so far, followed by the result of the rest
 abbrev pub invariant-columns : goal.invariant-columns
 invariant-columns l = record {
   place : l.place + length l.rest ≡ length l.columns;

@@ -2,7 +2,7 @@ use Rattle.std.proofs.Common.{◌≡◌, ◌+◌, ◌≤◌, ◌++◌, drop, len
 use Rattle.table_columns.specs.Changed.{set_cells}
 use Rattle.table_columns.proofs.set.changed_cells.Given as goal
 
--- what is made so far, and what the rest gives
+-- what is made so far, followed by the result of the rest
 abbrev pub invariant-rows : goal.invariant-rows
 invariant-rows l = record {
   place : l.place + length l.rest ≡ length l.cells;

@@ -4,7 +4,7 @@ use Rattle.table_columns.specs.Rows.{IsColumn}
 use Rattle.table_columns.specs.Changed.{columns_set}
 use Rattle.table_columns.proofs.set.changed_columns.Given as goal
 
--- what is made so far, and what the rest gives
+-- what is made so far, followed by the result of the rest
 abbrev pub invariant-columns : goal.invariant-columns
 invariant-columns l = record {
   even : AllByRecursion (IsColumn (length l.hits)) l.rest;

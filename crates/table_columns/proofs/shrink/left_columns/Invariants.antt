@@ -4,7 +4,7 @@ use Rattle.table_columns.specs.Rows.{IsColumn}
 use Rattle.table_columns.specs.Changed.{columns_left}
 use Rattle.table_columns.proofs.shrink.left_columns.Given as goal
 
--- what is made so far, and what the rest gives
+-- what is made so far, followed by the result of the rest
 abbrev pub invariant-columns : goal.invariant-columns
 invariant-columns l = record {
   even : AllByRecursion (IsColumn (length l.gone)) l.rest;

@@ -3,7 +3,7 @@ use Rattle.std.specs.Option.{option_map}
 use Rattle.table_store.specs.Kept.{heading_place}
 use Rattle.table_store.proofs.tables.find_place.Given as goal
 
--- the place is that in what is left, as far on as what is behind
+-- the place is that in the headings left, plus the number of headings passed
 abbrev pub invariant-tables : goal.invariant-tables
 invariant-tables l = record {
   behind : length l.rest ≤ length l.headings;

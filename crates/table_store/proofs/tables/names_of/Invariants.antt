@@ -1,5 +1,5 @@
 use Rattle.std.proofs.Common.{◌≡◌, take}
-use Rattle.table_store.specs.Touches.{names_in}
+use Rattle.cell_core.specs.Tables.{names_in}
 use Rattle.table_store.proofs.tables.names_of.Given as goal
 
 -- the names so far

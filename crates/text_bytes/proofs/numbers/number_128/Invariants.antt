@@ -2,7 +2,7 @@ use Rattle.std.proofs.Common.{◌≡◌, length}
 use Rattle.std.specs.Str.Parse.{digits_value, digits_value_after}
 use Rattle.text_bytes.proofs.numbers.number_128.Given as goal
 
--- the rest of the digits behind the number so far write the whole
+-- the rest of the digits after the number so far write the whole
 abbrev pub invariant-digits : goal.invariant-digits
 invariant-digits l = digits_value 10 l.fn.digits ≡ digits_value_after 10 l.number l.rest
 

@@ -17,7 +17,7 @@ finish_run-requires c =
     let book = c.args.book in
     let sessions = c.args.sessions.items in
     record {
-      standing = all_stand book.options (log_tree book.log) sessions (all_at book.options book.log sessions c.log.ensures.lawful c.requires.seen);
+      standing = all_stand book.options (log_tree book.log) sessions (all_at book.options book.log sessions c.log_is_lawful.ensures.lawful c.requires.seen);
       over = c.requires.over;
       sessions = events_of (length sessions) book.log c.requires.none;
     }
@@ -28,7 +28,7 @@ returns c =
     let options = book.options in
     let sessions = c.args.sessions.items in
     let told = c.finish_run.ensures in
-    let at : AreAt options (log_tree book.log) sessions = all_at options book.log sessions c.log.ensures.lawful c.requires.seen in
+    let at : AreAt options (log_tree book.log) sessions = all_at options book.log sessions c.log_is_lawful.ensures.lawful c.requires.seen in
     let all : AllByRecursion (IsOfOne (length sessions)) (log_tree book.log) = events_of (length sessions) book.log c.requires.none in
     record {
       log = told.log;

@@ -12,15 +12,15 @@ use Rattle.thread_sessions.proofs.query.finish.Goals.{After-take_query-query}
 all : (g : _) (c : After-take_query-query g) → HasBefore c.take_query-query.result (length c.take_query-query.result.plan.instrs)
 all g c m low =
     let q = c.take_query-query.result in
-    let o = crew_out g.K.RunOptions.options c.args.crew.tools.hall.now c.args.crew.runner c.args.crew.tools.began.value c.args.crew.handed.items c.args.crew.finished.items q c.requires.sound c.take_query-query.ensures.query in
+    let o = crew_out g.K.HasOptions.options c.args.crew.tools.hall.now c.args.crew.runner c.args.crew.tools.began.value c.args.crew.handed.items c.args.crew.finished.items q c.requires.sound c.take_query-query.ensures.query in
     let same = ap (λ (b : Basis). length b.plan.instrs) o.basis in
     ap (λ (s : Stage). valued_in s m) (sym c.take_query-query.ensures.query) ∙ c.requires.all m (omega (arith, low, same))
 
 pub finish-requires-clause-under : goal.finish-requires-clause-under
 finish-requires-clause-under g c =
     let q = c.take_query-query.result in
-    crewed_sound g.K.RunOptions.options c.args.crew.tools.hall.now c.take_query-query.new.self c.args.crew.tools.began.value (step.Open q)
-    (crew_taken g.K.RunOptions.options c.args.crew.tools.hall.now c.args.crew.runner c.take_query-query.new.self c.args.crew.tools.began.value c.args.crew.handed.items c.args.crew.finished.items q c.requires.sound c.take_query-query.ensures.query c.take_query-query.ensures.rest)
+    crewed_sound g.K.HasOptions.options c.args.crew.tools.hall.now c.take_query-query.new.self c.args.crew.tools.began.value (step.Open q)
+    (crew_taken g.K.HasOptions.options c.args.crew.tools.hall.now c.args.crew.runner c.take_query-query.new.self c.args.crew.tools.began.value c.args.crew.handed.items c.args.crew.finished.items q c.requires.sound c.take_query-query.ensures.query c.take_query-query.ensures.rest)
 
 pub finish-requires-clause-all : goal.finish-requires-clause-all
 finish-requires-clause-all g c = all g (goal.at.finish-requires-clause-all g c).After-take_query-query
@@ -28,8 +28,8 @@ finish-requires-clause-all g c = all g (goal.at.finish-requires-clause-all g c).
 pub end-requires-clause-crewed : goal.end-requires-clause-crewed
 end-requires-clause-crewed g c =
     let q = c.take_query-query.result in
-    let taken = crew_taken g.K.RunOptions.options c.args.crew.tools.hall.now c.args.crew.runner c.take_query-query.new.self c.args.crew.tools.began.value c.args.crew.handed.items c.args.crew.finished.items q c.requires.sound c.take_query-query.ensures.query c.take_query-query.ensures.rest in
-    crewed_moves g.K.RunOptions.options c.args.crew.tools.hall.now c.take_query-query.new.self c.args.crew.tools.began.value (step.Open q) c.in_ok-ending.ending taken
+    let taken = crew_taken g.K.HasOptions.options c.args.crew.tools.hall.now c.args.crew.runner c.take_query-query.new.self c.args.crew.tools.began.value c.args.crew.handed.items c.args.crew.finished.items q c.requires.sound c.take_query-query.ensures.query c.take_query-query.ensures.rest in
+    crewed_moves g.K.HasOptions.options c.args.crew.tools.hall.now c.take_query-query.new.self c.args.crew.tools.began.value (step.Open q) c.in_ok-ending.ending taken
     (finish_moves q c.in_ok-ending.ending (all g (goal.at.end-requires-clause-crewed g c).After-take_query-query) c.in_ok-ending.ensures.step).0
 
 pub end-requires-clause-aside : goal.end-requires-clause-aside

@@ -9,7 +9,7 @@ use Rattle.thread_sessions.proofs.query.open_crew.Goals as goal
 
 pub returns-clause-sound : goal.returns-clause-sound
 returns-clause-sound g c =
-    let options = g.K.RunOptions.options in
+    let options = g.K.HasOptions.options in
     let hall = c.args.hall.now in
     let q = c.in-Querying-Begun.query in
     let to = c.in_ok-query-in-Querying-Begun.query in

@@ -10,4 +10,4 @@ pub returns-in-Ok : goal.returns-in-Ok
 returns-in-Ok g c =
     let fixed = c.in-Ok.ensures.fixed in
     let was = c.in_ok-crew.ensures in
-    IfOk-weaker c.finish.result _ _ (λ after e. ended_on g.K.RunOptions.options c.args.hall.now c.flow.new.jobs.tools.hall.now c.flow.new.jobs.tools.began.value c.args.runner after e ((λ i. (fixed i).1.now) ∙ was.hall) ((λ i. (fixed i).0.value.number) ∙ was.number) ((λ i. (fixed i).0.value.pieces) ∙ was.pieces) c.requires.wide) c.finish.ensures
+    IfOk-weaker c.finish.result _ _ (λ after e. ended_on g.K.HasOptions.options c.args.hall.now c.flow.new.jobs.tools.hall.now c.flow.new.jobs.tools.began.value c.args.runner after e ((λ i. (fixed i).1.now) ∙ was.hall) ((λ i. (fixed i).0.value.number) ∙ was.number) ((λ i. (fixed i).0.value.pieces) ∙ was.pieces) c.requires.wide) c.finish.ensures

@@ -8,6 +8,6 @@ use Rattle.thread_sessions.proofs.runner.run_counted.Goals.{then-workers-gt1+in_
 pub take_turn-requires-clause-stands : goal.take_turn-requires-clause-stands
 take_turn-requires-clause-stands g c =
     elim c.if-workers-gt1.branch [
-      | then-workers-gt1+in_ok-runner w ↦ subst (λ (r : Runner _ Event). IsWith g.K.RunOptions.options r.pass r.session) (sym w.runner-is) w.in_ok-runner.ensures.runner.stands
-      | else-workers-gt1 w ↦ subst (λ (r : Runner _ Event). IsWith g.K.RunOptions.options r.pass r.session) (sym w.runner-is) c.turns.invariant.stands
+      | then-workers-gt1+in_ok-runner w ↦ subst (λ (r : Runner _ Event). IsWith g.K.HasOptions.options r.pass r.session) (sym w.runner-is) w.in_ok-runner.ensures.runner.stands
+      | else-workers-gt1 w ↦ subst (λ (r : Runner _ Event). IsWith g.K.HasOptions.options r.pass r.session) (sym w.runner-is) c.turns.invariant.stands
     ]

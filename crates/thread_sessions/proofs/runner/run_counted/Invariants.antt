@@ -4,7 +4,7 @@ use Rattle.turn_hall.specs.Passes.{IsPassOf}
 use Rattle.thread_sessions.specs.Runners.{IsWith}
 use Rattle.thread_sessions.proofs.runner.run_counted.Given as goal
 
--- the session stands where all says that its pass has seen, and no query is under way in its plan where it is run by workers
+-- the session agrees with all that its pass has seen, and no query is under way in its plan where it is run by workers
 abbrev pub invariant-turns : goal.invariant-turns
 invariant-turns g l = record {
   ours : IsPassOf l.hall l.runner.pass;
@@ -12,5 +12,5 @@ invariant-turns g l = record {
   pieces : l.runner.session.pieces ≡ l.fn.runner.session.pieces;
   wide : l.runner.session.wide ≡ l.fn.runner.session.wide;
   begins : l.runner.session.wide ≡ true → MayBegin l.runner.session.stage;
-  stands : IsWith g.K.RunOptions.options l.runner.pass l.runner.session;
+  stands : IsWith g.K.HasOptions.options l.runner.pass l.runner.session;
 }

@@ -12,13 +12,13 @@ join-requires g c =
     let first = c.runners.invariant.first in
     let here : c.runners.yielded ++ c.in-Some.runner ∷ c.next.new.self.rest.items ≡ c.args.runners.items = ap (λ l. c.runners.yielded ++ l) (sym c.in-Some.ensures.steps.0) ∙ c.runners.invariant.rest in
     let there : slice_get c.args.runners.items (length c.runners.yielded) ≡ Some c.in-Some.runner = ap (λ l. slice_get l (length c.runners.yielded)) (sym here) ∙ get_seam c.runners.yielded c.in-Some.runner c.next.new.self.rest.items in
-    let is = subst (λ parts. IsRunner g.K.RunOptions.options c.args.hall.now (record { pass = parts.0; session = parts.1 })) (sym c.into_parts-other.ensures)
+    let is = subst (λ parts. IsRunner g.K.HasOptions.options c.args.hall.now (record { pass = parts.0; session = parts.1 })) (sym c.into_parts-other.ensures)
     (c.requires.runners (length c.runners.yielded) c.in-Some.runner there).1 in
     record { hall = (first.ours, is.ours); free = (first.free, is.stands.free); first = first.number }
 
 pub runners-preserved : goal.runners-preserved
 runners-preserved g c =
-    let options = g.K.RunOptions.options in
+    let options = g.K.HasOptions.options in
     let hall = c.args.hall.now in
     let yielded = c.runners.yielded in
     let runner = c.in-Some.runner in

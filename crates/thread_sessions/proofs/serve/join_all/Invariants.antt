@@ -6,7 +6,7 @@ use Rattle.thread_sessions.proofs.serve.join_all.Given as goal
 abbrev pub invariant-runners : goal.invariant-runners
 invariant-runners g l = record {
   sessions : l.sessions.items ≡ sessions_of l.yielded;
-  joined : AreJoined g.K.RunOptions.options l.pass l.sessions.items;
+  joined : AreJoined g.K.HasOptions.options l.pass l.sessions.items;
   first : IsFirst l.hall l.pass (length l.fn.runners.items) (length l.sessions.items);
   rest : l.yielded ++ l.runner-iterator.rest.items ≡ l.fn.runners.items;
 }

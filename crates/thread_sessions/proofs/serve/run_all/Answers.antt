@@ -11,12 +11,12 @@ pub run_each-requires-clause-runners : goal.run_each-requires-clause-runners
 run_each-requires-clause-runners g c κs within place runner low =
     let runners = c.args.runners.items in
     let there = slice_get-get_or runners place runner low in
-    let set = c.requires.set place (get_or runners place runner).session (session_there g.K.RunOptions.options c.args.hall.now runners place (get_or runners place runner) there) in
+    let set = c.requires.set place (get_or runners place runner).session (session_there g.K.HasOptions.options c.args.hall.now runners place (get_or runners place runner) there) in
     ((c.requires.runners place (get_or runners place runner) there).1, set.0, set.1)
 
 pub returns : goal.returns
 returns g c =
-    let options = g.K.RunOptions.options in
+    let options = g.K.HasOptions.options in
     let hall = c.args.hall.now in
     let told = c.in_ok-ended.ensures in
     let back : (after : List (Runner _ Event)) → map Ok after ≡ c.in_ok-ended.ended.items → AreBack options hall (nat_lt 1 c.args.workers) c.args.runners.items after = λ after all. are_back options hall (nat_lt 1 c.args.workers) c.args.runners.items after c.in_ok-ended.ended.items c.requires.runners c.requires.set told.length told.each all in

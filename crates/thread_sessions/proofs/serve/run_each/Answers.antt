@@ -15,7 +15,7 @@ use Rattle.run_log.specs.contracts.event.Event as EventRow
 use Rattle.turn_hall.specs.contracts.hall.Hall as HallRow
 use Rattle.turn_hall.proofs.hall.Hall.TheSendSync as Hall
 use Rattle.turn_hall.proofs.hall.Pass.TheSendSync as Pass
-use Rattle.thread_sessions.specs.contracts.kept.Kept as KeptRow
+use Rattle.thread_sessions.specs.contracts.kept.SharedBook as KeptRow
 use Rattle.thread_sessions.specs.contracts.runner.Runner as RunnerRow
 use Rattle.thread_sessions.specs.contracts.serve.run_each.dyn-1.{slots}
 use Rattle.thread_sessions.proofs.SendLemmas.{kept_send}
@@ -38,14 +38,14 @@ lent_sync g =
     scorer_sync (Vt table g.dyn-1.0) (ghosts_of table g.dyn-1.0 g.dyn-1.1) (held_fn g.dyn-1.0) g.dyn-1.3 (search (code_sync, sendable))
 
 pub map_vec-requires-send-J : goal.map_vec-requires-send-J
-map_vec-requires-send-J g c κs within = param_send 1 _ (arg_send _ denote.Exit.no _ (runner_send g.row.K g.K.RunOptions))
+map_vec-requires-send-J g c κs within = param_send 1 _ (arg_send _ denote.Exit.no _ (runner_send g.row.K g.K.HasOptions))
 
 pub map_vec-requires-send-X : goal.map_vec-requires-send-X
 map_vec-requires-send-X g c κs within =
-    param_send 2 _ (arg_send _ denote.Exit.no _ (Result.the_send (RunnerRow.the_row (KeptRow.the_row (param 0 g.row.K) g.K.RunOptions) EventRow.the_row) MemoryRow.the_row (runner_send g.row.K g.K.RunOptions) Memory.the_send))
+    param_send 2 _ (arg_send _ denote.Exit.no _ (Result.the_send (RunnerRow.the_row (KeptRow.the_row (param 0 g.row.K) g.K.HasOptions) EventRow.the_row) MemoryRow.the_row (runner_send g.row.K g.K.HasOptions) Memory.the_send))
 
 pub map_vec-requires-sync-F : goal.map_vec-requires-sync-F
 map_vec-requires-sync-F g c κs within =
     let table = slots g.row.K g.row.R g.row.E in
     param_sync 4 _ (arg_sync _ denote.Exit.no _ (six_sync (codes "thread_sessions::serve::fn::run_each::run+Self") _ _ _ _ _ _ (param 1 g.row.R) GlobalRow.the_row _ (ScorerRow.the_row (Vt table g.dyn-1.0) (ghosts_of table g.dyn-1.0 g.dyn-1.1) (held_fn g.dyn-1.0)) (param 2 g.row.E) denote.Builtin.u32 tt tt tt tt tt tt
-    (param_sync 1 g.row.R (record { shared = c.type_bounds.sync-R.shared })) Global.the_sync (hall_sync g.row.K g.K.RunOptions _) (lent_sync g) (param_sync 2 g.row.E (record { shared = c.type_bounds.sync-E.shared })) (search sendable)))
+    (param_sync 1 g.row.R (record { shared = c.type_bounds.sync-R.shared })) Global.the_sync (hall_sync g.row.K g.K.HasOptions _) (lent_sync g) (param_sync 2 g.row.E (record { shared = c.type_bounds.sync-E.shared })) (search sendable)))

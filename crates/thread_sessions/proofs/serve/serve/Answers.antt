@@ -27,8 +27,8 @@ end_run-requires g c =
     let ended = c.in_ok-ended.ensures in
     record {
       seen = subst (λ (o : PoolOptions). HaveSeen o (c.into_book-book.result.log) sessions) (sym book.options)
-          (subst (λ (log : List Event). HaveSeen g.K.RunOptions.options log sessions) (sym book.log)
-          (have_seen hall pass (length sessions) joined.first c.close.result.book.log c.close.ensures.each g.K.RunOptions.options sessions joined.joined c.close.ensures.begins));
+          (subst (λ (log : List Event). HaveSeen g.K.HasOptions.options log sessions) (sym book.log)
+          (have_seen hall pass (length sessions) joined.first c.close.result.book.log c.close.ensures.each g.K.HasOptions.options sessions joined.joined c.close.ensures.begins));
       none = subst (λ (log : List Event). HasNoneBeside (length sessions) log) (sym book.log) (none_beside hall pass (length sessions) joined.first c.close.result.book.log c.close.ensures.each);
       over = subst (λ (them : List Session). AreOver (length them) them) (sym joined.sessions)
           (subst (λ n. AreOver n (sessions_of c.in_ok-ended.ended.items)) (sym (length-map c.in_ok-ended.ended.items (λ r. r.session))) ended.over);

@@ -28,7 +28,7 @@ new-session-requires g c =
 
 pub scripts-preserved : goal.scripts-preserved
 scripts-preserved g c =
-    let options = g.K.RunOptions.options in
+    let options = g.K.HasOptions.options in
     let hall = c.args.hall.now in
     let yielded = c.scripts.yielded in
     let pieces = c.in-Some.pieces in

@@ -8,7 +8,7 @@ use Rattle.thread_sessions.proofs.serve.start_all.Given as goal
 abbrev pub invariant-scripts : goal.invariant-scripts
 invariant-scripts g l = record {
   scripts : scripts_of (sessions_of l.runners.items) ≡ l.yielded;
-  runners : AreRunners g.K.RunOptions.options l.hall l.runners.items;
+  runners : AreRunners g.K.HasOptions.options l.hall l.runners.items;
   set : AreSet l.wide (sessions_of l.runners.items);
   first : IsFirst l.hall l.pass (length l.runners.items) 0;
   seen : seen_by l.pass ≡ [];

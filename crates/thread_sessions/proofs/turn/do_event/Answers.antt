@@ -8,14 +8,14 @@ use Rattle.thread_sessions.proofs.turn.do_event.Goals as goal
 
 pub catch_up-requires : goal.catch_up-requires
 catch_up-requires g c =
-    let options = g.K.RunOptions.options in
+    let options = g.K.HasOptions.options in
     let shows = sym c.value-kept.ensures.shows in
     subst (λ (l : List Event). HasSeen options l c.args.session.now) (λ i. (shows i).book.log)
     (turn_seen options c.args.pass.now c.args.session.now _ c.requires.stands c.turn-turn.ensures.begins c.turn-turn.ensures.own)
 
 pub returns-in-Ok-clause-stands : goal.returns-in-Ok-clause-stands
 returns-in-Ok-clause-stands g c =
-    let options = g.K.RunOptions.options in
+    let options = g.K.HasOptions.options in
     let at : IsAt options (log_tree (seen_by c.leave.new.pass)) c.next.new.session = search rules in
     let number : c.next.new.session.number ≡ c.args.session.now.number = search rules in
     added_with options c.args.pass.now c.turn-turn.new.pass c.leave.new.pass c.args.session.now c.next.new.session _ _ c.leave.ensures.free c.turn-turn.ensures.kept_place c.leave.ensures.kept_place c.turn-turn.ensures.seen

@@ -9,14 +9,14 @@ use Rattle.thread_sessions.proofs.AsideLemmas.{computed_aside, event_aside, may_
 use Rattle.thread_sessions.proofs.turn.take_turn.Goals as goal
 
 pub outside-requires : goal.outside-requires
-outside-requires g c = stage_sound g.K.RunOptions.options (log_tree (seen_by c.args.pass.now)) c.args.session.now c.requires.stands.at.stands
+outside-requires g c = stage_sound g.K.HasOptions.options (log_tree (seen_by c.args.pass.now)) c.args.session.now c.requires.stands.at.stands
 
 not_more : false ≡ true → ⊥
 not_more e = cc
 
 pub returns-then-done : goal.returns-then-done
 returns-then-done g c =
-    let options = g.K.RunOptions.options in
+    let options = g.K.HasOptions.options in
     let computed = c.in_ok-outside.ensures.computed in
     let all : length c.outside.new.self.pieces ≤ c.outside.new.self.ended = leb-true (length c.outside.new.self.pieces) c.outside.new.self.ended (sym c.done.ensures ∙ c.if-done.true) in
     let over = computed_over options (log_tree (seen_by c.args.pass.now)) c.args.session.now c.outside.new.self c.requires.in_plan c.requires.stands.at.stands computed all in
@@ -34,7 +34,7 @@ returns-then-done g c =
 
 pub do_event-requires : goal.do_event-requires
 do_event-requires g c =
-    let options = g.K.RunOptions.options in
+    let options = g.K.HasOptions.options in
     let computed = c.in_ok-outside.ensures.computed in
     let more : c.outside.new.self.ended < length c.outside.new.self.pieces = leb-false (length c.outside.new.self.pieces) c.outside.new.self.ended (sym c.done.ensures ∙ c.if-done.false) in
     record {

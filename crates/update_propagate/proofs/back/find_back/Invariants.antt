@@ -1,4 +1,4 @@
--- What is left answers as the whole.
+-- The answer for what is left is the answer for the whole.
 use Rattle.std.proofs.Common.{◌≡◌, length}
 use Rattle.pool_policy.specs.Writes.{return_of}
 use Rattle.update_propagate.specs.Views.{returns_in}

@@ -1,4 +1,4 @@
--- What is left answers as the whole.
+-- The answer for what is left is the answer for the whole.
 use Rattle.std.proofs.Common.{◌≡◌, ℕ, List, length}
 use Rattle.std.specs.List.{find}
 use Rattle.std.specs.Str.{bytes_eq}

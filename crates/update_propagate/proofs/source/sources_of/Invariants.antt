@@ -1,4 +1,4 @@
--- What was found and what is left give the whole.
+-- What was found and what is left are the whole.
 use Rattle.std.proofs.Common.{◌≡◌, ◌++◌, length, map}
 use Rattle.std.specs.Option.{option_map}
 use Rattle.cell_core.specs.Calc.{all_or_none}

@@ -2,6 +2,7 @@ use Rattle.std.proofs.Common.{◌≡◌, ◌+◌, ◌<◌, ◌≤◌, ◌^◌, �
 use Rattle.std.specs.Prelude.{Ok, Some}
 use Rattle.std.specs.List.{AllByRecursion}
 use Rattle.sql_tree.specs.Tree.{stmt_tree}
+use Rattle.sql_definitions.specs.declared.refusal.Reply.{Reply}
 use Rattle.pool_policy.specs.declared.entry.PoolEntry.{PoolEntry}
 use Rattle.pool_policy.specs.declared.touched.Touched.{Touched}
 use Rattle.pool_policy.specs.WriteLaws.{IsWrite}
@@ -15,7 +16,8 @@ use Rattle.run_log.specs.Totals.{AreSmall, with_pool}
 use Rattle.book_core.specs.declared.book.Book.TheInside.{Inside}
 use Rattle.book_core.specs.BookView.{BookView, event_of, state_of}
 use Rattle.book_core.specs.Kept.{book_shown}
-use Rattle.book_core.specs.Writes.{IsOutcome, reply_code, reply_count, written_by}
+use Rattle.reply_layout.specs.Doings.{code_of, count_of, shown_reply}
+use Rattle.book_core.specs.Writes.{IsOutcome, written_by}
 use Rattle.book_core.proofs.BookLemmas.{small_of}
 use Rattle.book_core.proofs.WriteBook.{back_is, carried_work, change_early, change_fits, change_later, change_prepared, commit_book, few_change, outcome_inside, small_change}
 use Rattle.book_core.proofs.WriteLemmas.{done_code}
@@ -30,11 +32,11 @@ moment g c =
     let n = c.len.ensures in
     omega (arith, n, same)
 
--- what the statement comes to over what the book keeps
+-- the outcome of the statement over the state that the book keeps
 comes : (g : Given.Over) (c : After-len g) → IsOutcome (stmt_tree c.args.stmt) (Ok c.args.ready) c.args.load (state_of (book_shown c.self.inside))
 comes g c = outcome_inside c.self.inside (stmt_tree c.args.stmt) (Ok c.args.ready) c.args.load c.self.view_is c.requires.outcome
 
--- what comes back, over the touched of the change
+-- the entries that come back, over the touched of the change
 brings : (g : Given.Over) (c : After-read_lengths g) → IsCarried c.args.ready.change.touched (c.len.result + 1) c.self.inside.pool c.in_ok-carried.carried
 brings g c = subst (λ (t : Touched). IsCarried t (c.len.result + 1) c.self.inside.pool c.in_ok-carried.carried) c.touched-touched.ensures c.in_ok-carried.ensures.carried
 
@@ -59,7 +61,7 @@ back g c =
     omega (arith, n, many, c.in_ok-carried.carried.ids.ok.0)
 
 -- the event that it adds
-logged : (g : Given.Over) (c : After-push_event g) → c.push_event.new.log.items ≡ c.self.inside.log.items ++ event_of c.args.who (act.Write (Some c.args.stmt) (reply_code c.reply_to-reply.result) (reply_count c.reply_to-reply.result)) ∷ []
+logged : (g : Given.Over) (c : After-push_event g) → c.push_event.new.log.items ≡ c.self.inside.log.items ++ event_of c.args.who (act.Write (Some c.args.stmt) (code_of (shown_reply c.reply_to-reply.result)) (count_of (shown_reply c.reply_to-reply.result))) ∷ []
 logged g c = c.push_event.ensures.items ∙ (λ i. c.in_ok-make_room.ensures.items i ++ c.event.ensures i ∷ []) ∙ ap (λ (a : Act). c.self.inside.log.items ++ event_of c.args.who a ∷ []) c.written.ensures
 
 pub put_carried-dropped-requires-clause-later : goal.put_carried-dropped-requires-clause-later
@@ -113,8 +115,8 @@ invariant_of-self-2 g c =
     let b : Inside = c.self.inside in
     let same = ap (λ (es : List Event). length es) c.in_ok-make_room.ensures.items in
     let new : Inside = record { store = c.apply.new.self; pool = c.put_carried-dropped.new.self; log = c.push_event.new.log; totals = c.count_event.new.totals; begun = b.begun } in
-    commit_book b c.self.invariant c.args.stmt c.args.ready c.args.load (comes g a) (c.len.result + 1) (moment g a) c.in_ok-carried.carried (brings g r) (short g r) new c.args.who (reply_code c.reply_to-reply.result) (reply_count c.reply_to-reply.result) c.put_carried-dropped.result.0 c.len-back.result c.put_carried-dropped.result.1
-    (ap reply_code c.reply_to-reply.ensures ∙ done_code c.args.ready.rows)
+    commit_book b c.self.invariant c.args.stmt c.args.ready c.args.load (comes g a) (c.len.result + 1) (moment g a) c.in_ok-carried.carried (brings g r) (short g r) new c.args.who (code_of (shown_reply c.reply_to-reply.result)) (count_of (shown_reply c.reply_to-reply.result)) c.put_carried-dropped.result.0 c.len-back.result c.put_carried-dropped.result.1
+    (ap (λ (r : Reply). code_of (shown_reply r)) c.reply_to-reply.ensures ∙ done_code c.args.ready.rows)
     (logged g (goal.at.invariant_of-self-2 g c).After-push_event)
     c.put_carried-dropped.ensures.options refl
     (let room = c.in_ok-make_room.ensures.room in let kept = c.push_event.ensures.room in omega (arith, room, kept, same))

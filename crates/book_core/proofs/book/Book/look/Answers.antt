@@ -3,7 +3,7 @@ use Rattle.pool_policy.specs.Looks.{after_look, look_of}
 use Rattle.pool_policy.specs.Pool.{PoolState}
 use Rattle.run_log.specs.declared.event.Event.{Event}
 use Rattle.run_log.specs.declared.event.Act.TheVariants as act
-use Rattle.run_log.specs.declared.event.Looked.{Looked}
+use Rattle.run_log.specs.declared.event.FoundLog.{FoundLog}
 use Rattle.run_log.specs.declared.event.Totals.{Totals}
 use Rattle.run_log.specs.Events.{looked_of}
 use Rattle.run_log.specs.Totals.{AreSmall, with_pool}
@@ -50,5 +50,5 @@ returns-clause-logged c =
     c.looked-looked.ensures ∙ looked_is _ c.in_ok-found.found c.look.new.parts.items c.in_ok-found.ensures.values ∙ ap looked_of c.in_ok-found.ensures.found
     ∙ ap (λ (p : PoolState). looked_of (look_of p c.args.key)) (sym c.self.invariant.state.pool) in
     c.push_event.ensures.items ∙ (λ i. c.in_ok-make_room.ensures.items i ++ c.event.ensures i ∷ [])
-    ∙ ap (λ (found : Looked). c.self.inside.log.items ++ event_of c.args.who (act.Look c.args.instr c.args.key found) ∷ []) finding
+    ∙ ap (λ (found : FoundLog). c.self.inside.log.items ++ event_of c.args.who (act.Look c.args.instr c.args.key found) ∷ []) finding
     ∙ ap (λ (v : BookView). v.log ++ event_of c.args.who (act.Look c.args.instr c.args.key (looked_of (look_of (state_of v).pool c.args.key))) ∷ []) c.self.view_is

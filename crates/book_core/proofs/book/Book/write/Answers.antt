@@ -3,8 +3,8 @@ use Rattle.std.specs.Prelude.{IfOk, OnOk}
 use Rattle.std.proofs.lemmas.Result.{on_ok_weaker}
 use Rattle.sql_tree.specs.declared.tree.Stmt.{Stmt}
 use Rattle.sql_tree.specs.Tree.{stmt_tree}
-use Rattle.sql_semantics.specs.Effect.{effect}
-use Rattle.sql_semantics.specs.declared.refusal.Reply.{Reply}
+use Rattle.sql_definitions.specs.Effect.{effect}
+use Rattle.sql_definitions.specs.declared.refusal.Reply.{Reply}
 use Rattle.book_core.specs.BookView.{state_of}
 use Rattle.book_core.specs.Writes.{IsOutcome, return_work, written_by}
 use Rattle.book_core.proofs.WriteBook.{both_ok, outcome_of, refused_keeps, work_added, write_counted}

@@ -12,9 +12,9 @@ first_missing-requires c = rising c.self.inside c.as_slice.result.now c.self.inv
 pub invariant_of-self : goal.invariant_of-self
 invariant_of-self c =
     let later : c.self.inside.moment < c.args.now = let m = ap (λ (p : PoolState). p.moment) c.self.view_is in omega (arith, m, c.requires.later) in
-    kept_on c.self.inside _ c.self.invariant (moment_keeps c.args.now (pool_shown c.self.inside) later c.self.invariant.pool) refl refl c.requires.early (omega (arith, later, c.self.invariant.next)) (omega (arith, later, c.self.invariant.shapes)) (omega arith) c.self.invariant.lists c.self.invariant.keys (omega arith) c.self.invariant.bytes c.self.invariant.children (omega arith) c.self.invariant.kin (omega arith)
+    kept_on c.self.inside _ c.self.invariant (moment_keeps c.args.now (pool_shown c.self.inside) later c.self.invariant.pool) refl refl c.requires.early (omega (arith, later, c.self.invariant.next)) (omega (arith, later, c.self.invariant.shapes)) c.self.invariant.room c.self.invariant.lists c.self.invariant.found c.self.invariant.bytes
 
 pub invariant_of-self-in-Some : goal.invariant_of-self-in-Some
 invariant_of-self-in-Some c =
     let later : c.self.inside.moment < c.args.now = let m = ap (λ (p : PoolState). p.moment) c.self.view_is in omega (arith, m, c.requires.later) in
-    kept_on c.self.inside _ c.self.invariant (moment_keeps c.args.now (pool_shown c.self.inside) later c.self.invariant.pool) refl refl c.requires.early (omega (arith, later, c.self.invariant.next)) (omega (arith, later, c.self.invariant.shapes)) (omega arith) c.self.invariant.lists c.self.invariant.keys (omega arith) c.self.invariant.bytes c.self.invariant.children (omega arith) c.self.invariant.kin (omega arith)
+    kept_on c.self.inside _ c.self.invariant (moment_keeps c.args.now (pool_shown c.self.inside) later c.self.invariant.pool) refl refl c.requires.early (omega (arith, later, c.self.invariant.next)) (omega (arith, later, c.self.invariant.shapes)) c.self.invariant.room c.self.invariant.lists c.self.invariant.found c.self.invariant.bytes

@@ -10,7 +10,7 @@ use Rattle.session_run.proofs.session.Session.offer.Goals as goal
 pub offer-requires-clause-offer : goal.offer-requires-clause-offer
 offer-requires-clause-offer g c =
     can_offer c.args.book.now c.args.book.now c.who-who.result (at_stage c.args.self.now (stage.Querying (step.Offering c.args.query c.args.n c.args.offer))) c.args.self.now c.requires.stands c.who-who.ensures refl
-    c.args.query c.args.n c.args.offer refl c.log.ensures.lawful
+    c.args.query c.args.n c.args.offer refl c.log_is_lawful.ensures.lawful
 
 pub offer-requires-clause-under : goal.offer-requires-clause-under
 offer-requires-clause-under g c =
@@ -24,14 +24,14 @@ pub returns-clause-does : goal.returns-clause-does
 returns-clause-does g c =
     let sum : c.in_ok-work.work ≡ c.args.self.now.work + c.args.offer.done = search rules in
     (offer_does c.args.book.now c.offer.new.book c.who-who.result (at_stage c.args.self.now (stage.Querying (step.Offering c.args.query c.args.n c.args.offer))) _ c.requires.stands c.who-who.ensures c.offer.ensures.options
-    c.requires.worked c.args.query c.args.n c.args.offer c.in_ok-next.next refl c.log.ensures.lawful c.log-2.ensures.lawful c.in_ok-next.ensures.logged c.in_ok-next.ensures.step.0 c.in_ok-next.ensures.step.1 c.in_ok-next.ensures.step.2
+    c.requires.worked c.args.query c.args.n c.args.offer c.in_ok-next.next refl c.log_is_lawful.ensures.lawful c.log_is_lawful-2.ensures.lawful c.in_ok-next.ensures.logged c.in_ok-next.ensures.step.0 c.in_ok-next.ensures.step.1 c.in_ok-next.ensures.step.2
     (ap (λ work. restaged c.args.self.now work (stage.Querying c.in_ok-next.next)) sum)).0
 
 pub returns-clause-counts : goal.returns-clause-counts
 returns-clause-counts g c =
     let sum : c.in_ok-work.work ≡ c.args.self.now.work + c.args.offer.done = search rules in
     (offer_does c.args.book.now c.offer.new.book c.who-who.result (at_stage c.args.self.now (stage.Querying (step.Offering c.args.query c.args.n c.args.offer))) _ c.requires.stands c.who-who.ensures c.offer.ensures.options
-    c.requires.worked c.args.query c.args.n c.args.offer c.in_ok-next.next refl c.log.ensures.lawful c.log-2.ensures.lawful c.in_ok-next.ensures.logged c.in_ok-next.ensures.step.0 c.in_ok-next.ensures.step.1 c.in_ok-next.ensures.step.2
+    c.requires.worked c.args.query c.args.n c.args.offer c.in_ok-next.next refl c.log_is_lawful.ensures.lawful c.log_is_lawful-2.ensures.lawful c.in_ok-next.ensures.logged c.in_ok-next.ensures.step.0 c.in_ok-next.ensures.step.1 c.in_ok-next.ensures.step.2
     (ap (λ work. restaged c.args.self.now work (stage.Querying c.in_ok-next.next)) sum)).1
 
 pub returns-clause-follows : goal.returns-clause-follows

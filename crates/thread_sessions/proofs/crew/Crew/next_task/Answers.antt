@@ -17,7 +17,7 @@ pub returns-in_default-clause-idle : goal.returns-in_default-clause-idle
 returns-in_default-clause-idle g c =
     let i = c.ready.invariant in
     let q = c.ready.query in
-    let under : IsUnderWay q = crewed_sound g.K.RunOptions.options c.ready.self.tools.hall.now c.ready.self.runner c.ready.self.tools.began.value (step.Open q) i.crewed in
+    let under : IsUnderWay q = crewed_sound g.K.HasOptions.options c.ready.self.tools.hall.now c.ready.self.runner c.ready.self.tools.began.value (step.Open q) i.crewed in
     let none : (n : ℕ) → IsReady q n → ⊥ = search rules in
     subst (λ (b : Basis). IsIdle b (has_result q) (needs q) c.ready.self.handed.items c.ready.self.finished.items) (λ j. basis_of (i.tools j).began.value.stage)
     (idle c.instrs_run.ensures (basis_of c.ready.self.tools.began.value.stage) q c.ready.self.handed.items c.ready.self.finished.items under i.out none)
@@ -26,12 +26,12 @@ pub returns-in-Out-clause-sound : goal.returns-in-Out-clause-sound
 returns-in-Out-clause-sound g c =
     let i = c.ready.invariant in
     let lent : c.as_slice.result.now ≡ c.ready.self.finished.items = search rules in
-    let gone = subst (λ (l : List ℕ). IsGone g.K.RunOptions.options c.ready.self.tools.hall.now c.go_on.new.runner c.ready.self.tools.began.value c.ready.query c.ready.self.handed.items c.go_on.new.handed.items l (Out c.in-Out.next c.in-Out.task)) lent (subst (λ (o : Gone). IsGone g.K.RunOptions.options c.ready.self.tools.hall.now c.go_on.new.runner c.ready.self.tools.began.value c.ready.query c.ready.self.handed.items c.go_on.new.handed.items c.as_slice.result.now o) c.in-Out.is c.in_ok-next.ensures) in
-    record { does = i.does; crew = crew_back g.K.RunOptions.options c.ready.self.tools.hall.now c.go_on.new.runner c.ready.self.tools.began.value c.go_on.new.handed.items c.ready.self.finished.items c.in-Out.next gone.0 gone.1 }
+    let gone = subst (λ (l : List ℕ). IsGone g.K.HasOptions.options c.ready.self.tools.hall.now c.go_on.new.runner c.ready.self.tools.began.value c.ready.query c.ready.self.handed.items c.go_on.new.handed.items l (Out c.in-Out.next c.in-Out.task)) lent (subst (λ (o : Gone). IsGone g.K.HasOptions.options c.ready.self.tools.hall.now c.go_on.new.runner c.ready.self.tools.began.value c.ready.query c.ready.self.handed.items c.go_on.new.handed.items c.as_slice.result.now o) c.in-Out.is c.in_ok-next.ensures) in
+    record { does = i.does; crew = crew_back g.K.HasOptions.options c.ready.self.tools.hall.now c.go_on.new.runner c.ready.self.tools.began.value c.go_on.new.handed.items c.ready.self.finished.items c.in-Out.next gone.0 gone.1 }
 
 pub returns-in-Out-clause-grows : goal.returns-in-Out-clause-grows
 returns-in-Out-clause-grows g c m there =
-    let gone = subst (λ (o : Gone). IsGone g.K.RunOptions.options c.ready.self.tools.hall.now c.go_on.new.runner c.ready.self.tools.began.value c.ready.query c.ready.self.handed.items c.go_on.new.handed.items c.as_slice.result.now o) c.in-Out.is c.in_ok-next.ensures in
+    let gone = subst (λ (o : Gone). IsGone g.K.HasOptions.options c.ready.self.tools.hall.now c.go_on.new.runner c.ready.self.tools.began.value c.ready.query c.ready.self.handed.items c.go_on.new.handed.items c.as_slice.result.now o) c.in-Out.is c.in_ok-next.ensures in
     gone.2 m (c.ready.invariant.grows m there)
 
 pub returns-in-Out-clause-some : goal.returns-in-Out-clause-some
@@ -39,7 +39,7 @@ returns-in-Out-clause-some g c =
     let i = c.ready.invariant in
     let task = c.in-Out.task in
     let lent : c.as_slice.result.now ≡ c.ready.self.finished.items = search rules in
-    let gone = subst (λ (l : List ℕ). IsGone g.K.RunOptions.options c.ready.self.tools.hall.now c.go_on.new.runner c.ready.self.tools.began.value c.ready.query c.ready.self.handed.items c.go_on.new.handed.items l (Out c.in-Out.next task)) lent (subst (λ (o : Gone). IsGone g.K.RunOptions.options c.ready.self.tools.hall.now c.go_on.new.runner c.ready.self.tools.began.value c.ready.query c.ready.self.handed.items c.go_on.new.handed.items c.as_slice.result.now o) c.in-Out.is c.in_ok-next.ensures) in
+    let gone = subst (λ (l : List ℕ). IsGone g.K.HasOptions.options c.ready.self.tools.hall.now c.go_on.new.runner c.ready.self.tools.began.value c.ready.query c.ready.self.handed.items c.go_on.new.handed.items l (Out c.in-Out.next task)) lent (subst (λ (o : Gone). IsGone g.K.HasOptions.options c.ready.self.tools.hall.now c.go_on.new.runner c.ready.self.tools.began.value c.ready.query c.ready.self.handed.items c.go_on.new.handed.items c.as_slice.result.now o) c.in-Out.is c.in_ok-next.ensures) in
     let new = gone.4 in
     let same : basis_of c.ready.self.tools.began.value.stage ≡ basis_of c.args.self.now.tools.began.value.stage = λ j. basis_of (i.tools j).began.value.stage in
     record {

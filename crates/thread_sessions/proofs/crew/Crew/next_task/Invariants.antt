@@ -8,8 +8,8 @@ use Rattle.thread_sessions.proofs.crew.Crew.next_task.Given as goal
 -- the query may go on, no result is lost, and nothing more is handed out
 abbrev pub invariant-ready : goal.invariant-ready
 invariant-ready g l = record {
-  does : DoesEvents g.F.Fn g.K.RunOptions.options l.self.tools.hall.now l.self.tools.event;
-  crewed : IsCrewed g.K.RunOptions.options l.self.tools.hall.now l.self.runner l.self.tools.began.value (step.Open l.query);
+  does : DoesEvents g.F.Fn g.K.HasOptions.options l.self.tools.hall.now l.self.tools.event;
+  crewed : IsCrewed g.K.HasOptions.options l.self.tools.hall.now l.self.runner l.self.tools.began.value (step.Open l.query);
   out : IsOut (basis_of l.self.tools.began.value.stage) l.query l.self.handed.items l.self.finished.items (λ m. ⊥);
   grows : Grows (valued_in l.fn.self.runner.session.stage) (has_result l.query);
   handed : l.self.handed.items ≡ l.fn.self.handed.items;

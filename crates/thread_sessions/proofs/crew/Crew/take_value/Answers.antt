@@ -12,14 +12,14 @@ use Rattle.thread_sessions.proofs.crew.Crew.take_value.Goals.{After-take_query-q
 
 -- what is out, of the query that it takes out
 out : (g : _) (c : After-take_query-query g) → IsOut (basis_of c.args.self.now.tools.began.value.stage) c.take_query-query.result c.args.self.now.handed.items c.args.self.now.finished.items (λ m. ⊥)
-out g c = crew_out g.K.RunOptions.options c.args.self.now.tools.hall.now c.args.self.now.runner c.args.self.now.tools.began.value c.args.self.now.handed.items c.args.self.now.finished.items c.take_query-query.result c.requires.sound.crew c.take_query-query.ensures.query
+out g c = crew_out g.K.HasOptions.options c.args.self.now.tools.hall.now c.args.self.now.runner c.args.self.now.tools.began.value c.args.self.now.handed.items c.args.self.now.finished.items c.take_query-query.result c.requires.sound.crew c.take_query-query.ensures.query
 
 under : (g : _) (c : After-take_query-query g) → IsUnderWay c.take_query-query.result
-under g c = crewed_sound g.K.RunOptions.options c.args.self.now.tools.hall.now c.args.self.now.runner c.args.self.now.tools.began.value (step.Open c.take_query-query.result) (crew_stands g.K.RunOptions.options c.args.self.now.tools.hall.now c.args.self.now.runner c.args.self.now.tools.began.value c.args.self.now.handed.items c.args.self.now.finished.items c.take_query-query.result c.requires.sound.crew c.take_query-query.ensures.query)
+under g c = crewed_sound g.K.HasOptions.options c.args.self.now.tools.hall.now c.args.self.now.runner c.args.self.now.tools.began.value (step.Open c.take_query-query.result) (crew_stands g.K.HasOptions.options c.args.self.now.tools.hall.now c.args.self.now.runner c.args.self.now.tools.began.value c.args.self.now.handed.items c.args.self.now.finished.items c.take_query-query.result c.requires.sound.crew c.take_query-query.ensures.query)
 
 pub give-requires-clause-crewed : goal.give-requires-clause-crewed
 give-requires-clause-crewed g c =
-    crew_taken g.K.RunOptions.options c.args.self.now.tools.hall.now c.args.self.now.runner c.take_query-query.new.self c.args.self.now.tools.began.value c.args.self.now.handed.items c.args.self.now.finished.items c.take_query-query.result c.requires.sound.crew c.take_query-query.ensures.query c.take_query-query.ensures.rest
+    crew_taken g.K.HasOptions.options c.args.self.now.tools.hall.now c.args.self.now.runner c.take_query-query.new.self c.args.self.now.tools.began.value c.args.self.now.handed.items c.args.self.now.finished.items c.take_query-query.result c.requires.sound.crew c.take_query-query.ensures.query c.take_query-query.ensures.rest
 
 pub give-requires-clause-asked : goal.give-requires-clause-asked
 give-requires-clause-asked g c = out_asked_is (basis_of c.args.self.now.tools.began.value.stage) c.take_query-query.result c.args.instr c.args.self.now.handed.items c.args.self.now.finished.items c.requires.out c.requires.due (out g (goal.at.give-requires-clause-asked g c).After-take_query-query)
@@ -45,7 +45,7 @@ returns-clause-sound g c =
     let pushed : c.push.new.self.items ≡ c.args.self.now.finished.items ++ c.args.instr ∷ [] = search rules in
     record {
       does = c.requires.sound.does;
-      crew = crew_back g.K.RunOptions.options c.args.self.now.tools.hall.now c.give.new.runner c.args.self.now.tools.began.value c.args.self.now.handed.items c.push.new.self.items to c.in_ok-query.ensures.crewed (subst (λ (l : List ℕ). IsOut (basis_of c.args.self.now.tools.began.value.stage) to c.args.self.now.handed.items l (λ m. ⊥)) (sym pushed) later);
+      crew = crew_back g.K.HasOptions.options c.args.self.now.tools.hall.now c.give.new.runner c.args.self.now.tools.began.value c.args.self.now.handed.items c.push.new.self.items to c.in_ok-query.ensures.crewed (subst (λ (l : List ℕ). IsOut (basis_of c.args.self.now.tools.began.value.stage) to c.args.self.now.handed.items l (λ m. ⊥)) (sym pushed) later);
     }
 
 pub returns-clause-grows : goal.returns-clause-grows

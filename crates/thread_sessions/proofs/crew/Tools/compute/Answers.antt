@@ -33,7 +33,7 @@ returns-then-is_bind g c =
     let q = c.args.query in
     let to = c.in_ok-query.query in
     let a = c.requires.args in
-    let under : IsUnderWay q = crewed_sound g.K.RunOptions.options c.args.self.now.hall.now c.args.runner.now c.args.self.now.began.value (step.Open q) c.requires.crewed in
+    let under : IsUnderWay q = crewed_sound g.K.HasOptions.options c.args.self.now.hall.now c.args.runner.now c.args.self.now.began.value (step.Open q) c.requires.crewed in
     let now = c.in_ok-query.ensures.gained in (
       c.in_ok-query.ensures.crewed,
       out_gained (basis_of c.args.self.now.began.value.stage) q to c.args.n a.0 c.args.handed.now.items c.args.finished.now under a.1 now (λ m is. is) c.requires.new c.requires.out,

@@ -8,14 +8,14 @@ use Rattle.thread_sessions.proofs.crew.Tools.found.Goals as goal
 
 pub compute-requires-clause-crewed : goal.compute-requires-clause-crewed
 compute-requires-clause-crewed g c =
-    crewed_moves g.K.RunOptions.options c.args.self.now.hall.now c.args.runner.now c.args.self.now.began.value (step.Found c.args.query c.args.n c.args.found c.args.parts) (step.Open c.args.query) c.requires.crewed (c.in-Miss.is, refl)
+    crewed_moves g.K.HasOptions.options c.args.self.now.hall.now c.args.runner.now c.args.self.now.began.value (step.Found c.args.query c.args.n c.args.found c.args.parts) (step.Open c.args.query) c.requires.crewed (c.in-Miss.is, refl)
 
 pub returns-in_ok-query-in_default : goal.returns-in_ok-query-in_default
 returns-in_ok-query-in_default g c =
     let q = c.args.query in
     let to = c.in_ok-query-in_default.query in
     let from = step.Found q c.args.n c.args.found c.args.parts in
-    let sound : IsSoundStep from = crewed_sound g.K.RunOptions.options c.args.self.now.hall.now c.args.runner.now c.args.self.now.began.value from c.requires.crewed in
+    let sound : IsSoundStep from = crewed_sound g.K.HasOptions.options c.args.self.now.hall.now c.args.runner.now c.args.self.now.began.value from c.requires.crewed in
     let at = sound.1 in
     let now = c.in_ok-query-in_default.ensures.gained in (
       c.in_ok-query-in_default.ensures.crewed,

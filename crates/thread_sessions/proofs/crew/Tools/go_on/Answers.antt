@@ -16,7 +16,7 @@ use Rattle.thread_sessions.proofs.crew.Tools.go_on.Goals as goal
 pub index-requires : goal.index-requires
 index-requires g c =
     let q = c.args.query in
-    let under : IsUnderWay q = crewed_sound g.K.RunOptions.options c.args.self.now.hall.now c.args.runner.now c.args.self.now.began.value (step.Open q) c.requires.crewed in
+    let under : IsUnderWay q = crewed_sound g.K.HasOptions.options c.args.self.now.hall.now c.args.runner.now c.args.self.now.began.value (step.Open q) c.requires.crewed in
     let same = ap (λ (bs : List Bool). length bs) under.marks in
     let many = as_many_marks q.plan in
     let inside = slice_get_within q.plan.instrs c.args.n c.requires.ready.instr c.requires.ready.here in
@@ -25,7 +25,7 @@ index-requires g c =
 pub look-requires-clause-marked : goal.look-requires-clause-marked
 look-requires-clause-marked g c =
     let q = c.args.query in
-    let under : IsUnderWay q = crewed_sound g.K.RunOptions.options c.args.self.now.hall.now c.args.runner.now c.args.self.now.began.value (step.Open q) c.requires.crewed in
+    let under : IsUnderWay q = crewed_sound g.K.HasOptions.options c.args.self.now.hall.now c.args.runner.now c.args.self.now.began.value (step.Open q) c.requires.crewed in
     let inside = slice_get_within q.plan.instrs c.args.n c.requires.ready.instr c.requires.ready.here in
     has_mark q c.args.n c.index.result.now under inside c.index.ensures ∙ ap Some c.if-index.true
 
@@ -35,9 +35,9 @@ hand_out-requires-clause-inside g c = slice_get_within c.args.query.plan.instrs 
 pub compute-requires-clause-crewed : goal.compute-requires-clause-crewed
 compute-requires-clause-crewed g c =
     let q = c.args.query in
-    let under : IsUnderWay q = crewed_sound g.K.RunOptions.options c.args.self.now.hall.now c.args.runner.now c.args.self.now.began.value (step.Open q) c.requires.crewed in
+    let under : IsUnderWay q = crewed_sound g.K.HasOptions.options c.args.self.now.hall.now c.args.runner.now c.args.self.now.began.value (step.Open q) c.requires.crewed in
     let inside = slice_get_within q.plan.instrs c.args.n c.requires.ready.instr c.requires.ready.here in
-    crewed_moves g.K.RunOptions.options c.args.self.now.hall.now c.args.runner.now c.args.self.now.began.value (step.Open q) (step.Open c.hand_out.new.self) c.requires.crewed
+    crewed_moves g.K.HasOptions.options c.args.self.now.hall.now c.args.runner.now c.args.self.now.began.value (step.Open q) (step.Open c.hand_out.new.self) c.requires.crewed
     (HandsOut c.args.n (has_mark q c.args.n c.index.result.now under inside c.index.ensures ∙ ap Some c.if-index.false) c.hand_out.ensures)
 
 pub compute-requires-clause-out : goal.compute-requires-clause-out
@@ -46,7 +46,7 @@ compute-requires-clause-out g c = out_asked (basis_of c.args.self.now.began.valu
 pub compute-requires-clause-asked : goal.compute-requires-clause-asked
 compute-requires-clause-asked g c =
     let q = c.args.query in
-    let under : IsUnderWay q = crewed_sound g.K.RunOptions.options c.args.self.now.hall.now c.args.runner.now c.args.self.now.began.value (step.Open q) c.requires.crewed in
+    let under : IsUnderWay q = crewed_sound g.K.HasOptions.options c.args.self.now.hall.now c.args.runner.now c.args.self.now.began.value (step.Open q) c.requires.crewed in
     asked_is q c.hand_out.new.self c.args.n c.requires.ready.instr under c.requires.ready.here c.hand_out.ensures
 
 pub compute-requires-clause-open : goal.compute-requires-clause-open
@@ -63,4 +63,4 @@ compute-requires-clause-new g c = ready_new (basis_of c.args.self.now.began.valu
 
 pub returns : goal.returns
 returns g c =
-    IfOk-weaker c.compute.result _ _ (λ gone is. gone_from g.K.RunOptions.options c.args.self.now.hall.now c.compute.new.runner c.args.self.now.began.value c.args.query c.hand_out.new.self c.args.handed.now.items c.compute.new.handed.items c.args.finished.now gone (asked_keeps c.args.query c.hand_out.new.self c.args.n c.hand_out.ensures) is) c.compute.ensures
+    IfOk-weaker c.compute.result _ _ (λ gone is. gone_from g.K.HasOptions.options c.args.self.now.hall.now c.compute.new.runner c.args.self.now.began.value c.args.query c.hand_out.new.self c.args.handed.now.items c.compute.new.handed.items c.args.finished.now gone (asked_keeps c.args.query c.hand_out.new.self c.args.n c.hand_out.ensures) is) c.compute.ensures

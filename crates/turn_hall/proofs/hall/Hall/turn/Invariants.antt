@@ -1,6 +1,6 @@
 -- While it waits, the pass holds the ticket that it drew.
 use Rattle.std.proofs.Common.{◌≡◌, ℕ, ◌%◌, ◌^◌, []}
-use Rattle.turn_hall.specs.declared.view.Stage.TheVariants.{Waiting}
+use Rattle.turn_hall.specs.declared.view.PassStage.TheVariants.{Waiting}
 use Rattle.turn_hall.specs.Views.{at_stage}
 use Rattle.turn_hall.specs.Passes.{IsPassOf}
 use Rattle.turn_hall.proofs.hall.Hall.turn.Given as goal

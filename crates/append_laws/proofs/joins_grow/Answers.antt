@@ -1,5 +1,0 @@
-use Rattle.append_laws.proofs.Appends.{joined_append, joined_grown, joined_both}
-use Rattle.append_laws.proofs.joins_grow.Goals as goal
-
-pub returns : goal.returns
-returns c = record { left = joined_append; right = joined_grown; both = joined_both }

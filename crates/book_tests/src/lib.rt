@@ -1,0 +1,13 @@
+//! Tests of the book and of its store: changes compared with the plain program, a snapshot that is
+//! held while rows come, a table of the most rows, pooled results and counted events. Each call that
+//! can return `Memory` is also made once with enough memory.
+#![tactic(auto)]
+
+#[cfg(test)]
+mod ample;
+#[cfg(test)]
+mod beside;
+#[cfg(test)]
+mod full_table;
+#[cfg(test)]
+mod tests;

@@ -1,6 +1,0 @@
-use Rattle.std.proofs.Common.{◌≡◌, true, take}
-use Rattle.flow_rows.specs.Sound.{are_known}
-use Rattle.flow_rows.proofs.run.are_known.Given as goal
-
-abbrev pub invariant-instrs : goal.invariant-instrs
-invariant-instrs l = are_known (take l.i l.instrs) ≡ true

@@ -1,6 +1,0 @@
-use Rattle.query_run.proofs.ReadyLemmas.{NoneBefore}
-use Rattle.query_run.proofs.step.Query.first_ready.Given as goal
-
--- none before the next instruction is ready
-abbrev pub invariant-instrs : goal.invariant-instrs
-invariant-instrs l = NoneBefore l.self l.n

@@ -1,5 +1,0 @@
-use Rattle.sql_printed.proofs.StmtTold.{read_is_printable_of}
-use Rattle.sql_printed.proofs.laws.read_is_printable.Goals as goal
-
-pub returns : goal.returns
-returns c = read_is_printable_of
