@@ -10,7 +10,8 @@ use Rattle.cell_core.specs.Order.{cell_cmp_total}
 use Rattle.cell_core.specs.Pairs.{Pairs, heads_of}
 use Rattle.cell_core.specs.Sorted.{insert_sorted, sorted_by}
 use Rattle.chunk_core.specs.Facts.{neighbours_from, is_below, rises}
-use Rattle.bat_algebra.specs.Merged.{by_head, merged_by_heads, Ascends, is_second}
+use Rattle.bat_algebra.specs.Ascending.{Ascends, is_second}
+use Rattle.cell_core.specs.Merged.{by_head, merged}
 
 pub head_order : IsStrictWeakOrder by_head
 head_order = ranks_by cell_cmp_total (λ (p : Cell × Cell). p.0)
@@ -194,9 +195,9 @@ flat_both [] ys = refl
 flat_both (x ∷ xs) ys = ap (λ zs. x ++ zs) (flat_both xs ys) ∙ sym (append_assoc x (flat_map (λ (part : Pairs). part) xs) (flat_map (λ (part : Pairs). part) ys))
 
 -- the merge of two merges is the merge of all
-merged_halves : (xs ys : List Pairs) → sort (merged_by_heads xs ++ merged_by_heads ys) ≡ merged_by_heads (xs ++ ys)
+merged_halves : (xs ys : List Pairs) → sort (merged xs ++ merged ys) ≡ merged (xs ++ ys)
 merged_halves xs ys =
-    sort_front (flat_map (λ (part : Pairs). part) xs) (merged_by_heads ys)
+    sort_front (flat_map (λ (part : Pairs). part) xs) (merged ys)
     ∙ sort_back (flat_map (λ (part : Pairs). part) xs) (flat_map (λ (part : Pairs). part) ys)
     ∙ ap sort (sym (flat_both xs ys))
 
@@ -230,7 +231,7 @@ nothing_behind : (ys : Pairs) → ys ++ [] ≡ ys
 nothing_behind [] = refl
 nothing_behind (y ∷ ys) = ap (λ zs. y ∷ zs) (nothing_behind ys)
 
-one_merged : (b : Pairs) → rises (heads_of b) ≡ true → b ≡ merged_by_heads (b ∷ [])
+one_merged : (b : Pairs) → rises (heads_of b) ≡ true → b ≡ merged (b ∷ [])
 one_merged [] e = refl
 one_merged (x ∷ xs) e = sym (ap sort (nothing_behind (x ∷ xs)) ∙ (rising_sorted x xs e).0)
 
@@ -248,13 +249,13 @@ all_taken (suc n) [] few = refl
 all_taken (suc n) (x ∷ xs) few = ap (λ ys. x ∷ ys) (all_taken n xs (omega arith))
 
 -- of both halves
-pub of_halves : (parts : List Pairs) (k : ℕ) (low high out : Pairs) → low ≡ merged_by_heads (take k parts) → high ≡ merged_by_heads (take (length parts - k) (drop k parts)) → out ≡ sort (low ++ high) → out ≡ merged_by_heads parts
+pub of_halves : (parts : List Pairs) (k : ℕ) (low high out : Pairs) → low ≡ merged (take k parts) → high ≡ merged (take (length parts - k) (drop k parts)) → out ≡ sort (low ++ high) → out ≡ merged parts
 of_halves parts k low high out low_is high_is is =
     let rest = all_taken (length parts - k) (drop k parts) (let l = length-drop k parts in omega (arith, l)) in
-    is ∙ (λ i. sort (low_is i ++ (high_is ∙ ap merged_by_heads rest) i)) ∙ merged_halves (take k parts) (drop k parts) ∙ ap merged_by_heads (take_drop k parts)
+    is ∙ (λ i. sort (low_is i ++ (high_is ∙ ap merged rest) i)) ∙ merged_halves (take k parts) (drop k parts) ∙ ap merged (take_drop k parts)
 
 -- of one part
-pub of_one : (parts : List Pairs) (only out : Pairs) → 1 ≤ length parts → length parts < 2 → only ≡ slice_index_or parts 0 only → AllByRecursion (λ part. rises (heads_of part) ≡ true) parts → out ≡ only → out ≡ merged_by_heads parts
+pub of_one : (parts : List Pairs) (only out : Pairs) → 1 ≤ length parts → length parts < 2 → only ≡ slice_index_or parts 0 only → AllByRecursion (λ part. rises (heads_of part) ≡ true) parts → out ≡ only → out ≡ merged parts
 of_one [] only out some few first up is = absurd (omega arith)
 of_one (p ∷ []) only out some few first up is = is ∙ first ∙ one_merged p up.0
 of_one (p ∷ q ∷ parts) only out some few first up is = absurd (omega arith)

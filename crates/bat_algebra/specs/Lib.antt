@@ -1,5 +1,5 @@
 pub mod Flags
 pub mod Heads
 pub mod Places
-pub mod Merged
+pub mod Ascending
 pub mod Spans

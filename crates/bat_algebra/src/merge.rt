@@ -5,7 +5,8 @@ ghost use Rattle.cell_core.specs.declared.cell.Cell.{Cell as CellSeen};
 ghost use Rattle.cell_core.specs.Pairs.{heads_of};
 ghost use Rattle.cell_core.specs.Sorted.{sorted_by};
 ghost use Rattle.chunk_core.specs.Facts.{rises};
-ghost use Rattle.bat_algebra.specs.Merged.{Ascends, by_head, is_second, merged_by_heads};
+ghost use Rattle.bat_algebra.specs.Ascending.{Ascends, is_second};
+ghost use Rattle.cell_core.specs.Merged.{by_head, merged};
 
 use bat_core::{Bat, BatBuilder, Shared};
 use cell_core::{Memory, Steps, compare};
@@ -23,7 +24,7 @@ pub fn merge_by_heads<L: Ledger>(
     steps: &mut Steps<L>,
 ) -> Result<Bat, Memory>
     requires { AllByRecursion (λ part. rises (heads_of part) ≡ true) parts.now }
-    ensures value { IfOk result (λ out. out ≡ merged_by_heads parts.now) }
+    ensures value { IfOk result (λ out. out ≡ merged parts.now) }
     ensures work { IfOk result (λ out. steps.new ≡ steps.old + length out) }
     ensures unchanged { OnErr result (steps.new ≡ steps.old) }
 {
@@ -35,7 +36,7 @@ pub fn merge_by_heads<L: Ledger>(
 /// The parts, merged half by half.
 fn merge_all(alloc: Global, parts: &[Shared]) -> Result<Bat, Memory>
     requires { AllByRecursion (λ part. rises (heads_of part) ≡ true) parts.now }
-    ensures value { IfOk result (λ out. out ≡ merged_by_heads parts.now) }
+    ensures value { IfOk result (λ out. out ≡ merged parts.now) }
     ensures up { IfOk result (λ out. Ascends out) }
 {
     match parts {

@@ -8,6 +8,7 @@ pub mod Groups
 pub mod Keys
 pub mod Kinds
 pub mod Operators
+pub mod Merged
 pub mod Order
 pub mod Pairs
 pub mod Places

@@ -1,5 +1,5 @@
 -- Tables and columns by their names, and tables that change.
-use Rattle.std.specs.Prelude.{ℕ, suc, List, [], ◌∷◌, ◌++◌, length, map, Bool, false, if◌then◌else◌, bytes_eq, Option, Some, None}
+use Rattle.std.specs.Prelude.{ℕ, suc, List, [], ◌∷◌, ◌++◌, length, map, Bool, true, false, not, ◌&&◌, if◌then◌else◌, bytes_eq, Option, Some, None}
 use Rattle.std.specs.List.{list_any}
 use Rattle.std.specs.Option.{option_map, option_map_or}
 use Rattle.cell_core.specs.declared.cell.Cell.{Cell}
@@ -19,6 +19,11 @@ named_table name db = first_named name db.tables
 abbrev pub column_place : List ℕ → List Column → Option ℕ
 column_place name [] = None
 column_place name (column ∷ columns) = if bytes_eq column.name name then Some 0 else option_map suc (column_place name columns)
+
+-- no name occurs twice
+abbrev pub names_differ : List (List ℕ) → Bool
+names_differ [] = true
+names_differ (name ∷ names) = not (list_any (bytes_eq name) names) && names_differ names
 
 -- ## What there is of a table
 

@@ -1,7 +1,6 @@
 -- In a plan without a fault each variable names an earlier instruction.
-use Rattle.std.proofs.Common.{◌≡◌, ℕ, zero, suc, ◌+◌, ◌<◌, List, [], ◌∷◌, ◌++◌, length, true, Option, Some, None, Result, Ok, Err, refl, ap, subst, ◌∙◌, arith, length-append}
+use Rattle.std.proofs.Common.{◌≡◌, ℕ, zero, suc, ◌+◌, ◌<◌, List, [], ◌∷◌, ◌++◌, length, true, Some, None, Result, Ok, Err, refl, ap, subst, ◌∙◌, arith, length-append}
 use Rattle.std.specs.Prelude.{nat_lt, slice_get}
-use Rattle.std.specs.Option.{option_map, option_and_then}
 use Rattle.std.proofs.lemmas.Option.{slice_get_within}
 use Rattle.std.proofs.lemmas.Bool.Decides.{nat_tests}
 use Rattle.std.proofs.lemmas.Bool.{and_from}
@@ -10,6 +9,7 @@ use Rattle.cell_core.specs.declared.operator.Arg.TheVariants.{Const, Var}
 use Rattle.cell_core.specs.declared.operator.Instr.{Instr}
 use Rattle.cell_core.specs.Kinds.{ValueType}
 use Rattle.mal_meaning.specs.declared.plan.Plan.{Plan}
+use Rattle.cell_core.proofs.ListLemmas.{both_found}
 use Rattle.mal_check.specs.declared.error.PlanError.{PlanError}
 use Rattle.mal_check.specs.Checked.{arg_type, arg_types, instr_type, fault_or_else, types_from, instr_types, fault_with, plan_fault}
 use Rattle.mal_check.proofs.ListTests.{some_is}
@@ -17,17 +17,11 @@ use Rattle.mal_check.proofs.RunLemmas.{types_given}
 use Rattle.dataflow.specs.Plans.{has_all}
 use Rattle.dataflow.proofs.TaskLemmas.{none_is}
 
-parts_of : {X : Type 0} (first : Option X) (rest : Option (List X)) (all : List X) → option_and_then (λ y. option_map (λ ys. y ∷ ys) rest) first ≡ Some all
-    → (x : X) × (xs : List X) × (first ≡ Some x) × (rest ≡ Some xs)
-parts_of None rest all e = absurd (none_is all e)
-parts_of (Some x) None all e = absurd (none_is all e)
-parts_of (Some x) (Some xs) all e = (x, xs, refl, refl)
-
 args_below : (types : List ValueType) (args : List Arg) (ts : List ValueType) → arg_types types args ≡ Some ts → has_all (λ n. nat_lt n (length types)) args ≡ true
 args_below types [] ts e = refl
-args_below types (Const c ∷ args) ts e = let parts = parts_of (arg_type types (Const c)) (arg_types types args) ts e in args_below types args parts.1 parts.3
+args_below types (Const c ∷ args) ts e = let parts = both_found (arg_type types (Const c)) (arg_types types args) ts e in args_below types args parts.1 parts.3
 args_below types (Var n ∷ args) ts e =
-    let parts = parts_of (arg_type types (Var n)) (arg_types types args) ts e in
+    let parts = both_found (arg_type types (Var n)) (arg_types types args) ts e in
     let low : n < length types = slice_get_within types n parts.0 parts.2 in
     and_from (nat_lt n (length types)) (has_all (λ n. nat_lt n (length types)) args) (grind (arith, nat_tests)) (args_below types args parts.1 parts.3)
 

@@ -29,6 +29,7 @@ use Rattle.mal_check.specs.declared.error.PlanError.{PlanError}
 use Rattle.mal_check.specs.declared.error.PlanError.TheVariants.{KindsDiffer, WrongCount}
 use Rattle.mal_check.specs.Checked.{arg_type, arg_types, type_over, type_at, instr_type, fault_or_else, types_from, instr_types, fault_with, plan_fault}
 use Rattle.mal_check.specs.Runnable.{fits_column, fits_columns_of, FitsDb}
+use Rattle.cell_core.proofs.ListLemmas.{both_found}
 use Rattle.mal_check.proofs.ListTests.{some_is}
 use Rattle.mal_check.proofs.TypedResults.{typed_result}
 
@@ -75,20 +76,12 @@ values_more found rest t ts first others = (
   and_from (is_of_type first.0 t) (are_of_types others.0 ts) first.2 others.2,
 )
 
--- the parts of types that are all found
-types_split : (first : Option ValueType) (rest : Option (List ValueType)) (all : List ValueType)
-    → option_and_then (λ y. option_map (λ ys. y ∷ ys) rest) first ≡ Some all
-    → (t : ValueType) × (ts : List ValueType) × (first ≡ Some t) × (rest ≡ Some ts) × (t ∷ ts ≡ all)
-types_split None rest all e = absurd (cc)
-types_split (Some t) None all e = absurd (cc)
-types_split (Some t) (Some ts) all e = (t, ts, refl, refl, some_is (t ∷ ts) all e)
-
 values_of_args : (values : List Value) (types : List ValueType) (args : List Arg) (found : List ValueType) → are_of_types values types ≡ true
     → arg_types types args ≡ Some found → TypedValues (arg_values (map Some values) args) found
 values_of_args values types [] [] ok e = ([], refl, refl)
 values_of_args values types [] (t ∷ ts) ok e = absurd (cc)
 values_of_args values types (arg ∷ args) found ok e =
-    let parts : (t : ValueType) × (ts : List ValueType) × (arg_type types arg ≡ Some t) × (arg_types types args ≡ Some ts) × (t ∷ ts ≡ found) = types_split (arg_type types arg) (arg_types types args) found e in
+    let parts : (t : ValueType) × (ts : List ValueType) × (arg_type types arg ≡ Some t) × (arg_types types args ≡ Some ts) × (t ∷ ts ≡ found) = both_found (arg_type types arg) (arg_types types args) found e in
     let P : List ValueType → Type 0 = λ ts. TypedValues (arg_values (map Some values) (arg ∷ args)) ts in
     subst P parts.4 (values_more (arg_value (map Some values) arg) (arg_values (map Some values) args) parts.0 parts.1
     (value_of_arg values types arg parts.0 ok parts.2) (values_of_args values types args parts.1 ok parts.3))

@@ -24,7 +24,8 @@ use Rattle.subsume.proofs.Members.{In, in_from_contains, in_map, map_in, filter_
 use Rattle.least_cover.specs.Chosen.{Selection, entry_of, cheapest_of}
 use Rattle.least_cover.proofs.Pieces.{cheapest_cuts_up_holds}
 use Rattle.evict_admit.specs.Runs.{is_one_of}
-use Rattle.reuse_laws.specs.Reuse.{picked, merged, span_for, is_askable, selected_in, Rises}
+use Rattle.reuse_laws.specs.Reuse.{picked, span_for, is_askable, selected_in, Rises}
+use Rattle.cell_core.specs.Merged.{merged}
 use Rattle.reuse_laws.proofs.Bridge.{selected_is, spans_ask}
 use Rattle.reuse_laws.proofs.Within.{picked_within}
 use Rattle.reuse_laws.proofs.Reused.{reused_across, pieces_serve}

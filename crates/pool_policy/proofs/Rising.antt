@@ -5,7 +5,8 @@ use Rattle.std.specs.Cmp.{first_so, second_so}
 use Rattle.cell_core.specs.declared.cell.Cell.{Cell}
 use Rattle.cell_core.specs.Pairs.{Pairs, heads_of}
 use Rattle.chunk_core.specs.Facts.{is_below, neighbours_from, rises}
-use Rattle.reuse_laws.specs.Reuse.{by_head, Rises}
+use Rattle.reuse_laws.specs.Reuse.{Rises}
+use Rattle.cell_core.specs.Merged.{by_head}
 use Rattle.reuse_laws.proofs.Across.{head_order}
 
 on : (p q r : Cell × Cell) → by_head p q ≡ true → by_head q r ≡ true → by_head p r ≡ true

@@ -10,7 +10,8 @@ use Rattle.cell_core.specs.Relations.{selected}
 use Rattle.lineage_key.specs.declared.key.KeyArg.TheVariants.{Const, Id}
 use Rattle.lineage_key.specs.Parents.{is_bind}
 use Rattle.subsume.specs.Cutting.{Entry}
-use Rattle.reuse_laws.specs.Reuse.{merged, selected_in}
+use Rattle.reuse_laws.specs.Reuse.{selected_in}
+use Rattle.cell_core.specs.Merged.{merged}
 use Rattle.lineage_key.specs.declared.key.Key.{Key}
 use Rattle.pool_policy.specs.declared.entry.Who.{Who}
 use Rattle.pool_policy.specs.declared.options.PoolOptions.{PoolOptions}

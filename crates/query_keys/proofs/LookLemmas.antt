@@ -27,7 +27,8 @@ use Rattle.subsume.proofs.Members.{In, in_from_contains, in_map, map_in, filter_
 use Rattle.least_cover.specs.Chosen.{Selection, entry_of, cheapest_of}
 use Rattle.least_cover.proofs.Pieces.{cheapest_cuts_up_holds}
 use Rattle.evict_admit.specs.Runs.{is_one_of}
-use Rattle.reuse_laws.specs.Reuse.{by_head, selected_in, Rises}
+use Rattle.reuse_laws.specs.Reuse.{selected_in, Rises}
+use Rattle.cell_core.specs.Merged.{by_head}
 use Rattle.pool_policy.specs.declared.entry.PoolEntry.{PoolEntry}
 use Rattle.pool_policy.specs.Pool.{PoolState}
 use Rattle.pool_policy.specs.Keyed.{has_key, first_parent, entry_of_id, entry_of_key}

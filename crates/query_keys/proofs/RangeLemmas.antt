@@ -19,7 +19,8 @@ use Rattle.lineage_key.specs.Keys.{arg_for}
 use Rattle.lineage_key.specs.Parents.{is_bind, parents_of}
 use Rattle.evict_admit.specs.Runs.{is_one_of}
 use Rattle.subsume.specs.Cutting.{Entry}
-use Rattle.reuse_laws.specs.Reuse.{merged, selected_in}
+use Rattle.reuse_laws.specs.Reuse.{selected_in}
+use Rattle.cell_core.specs.Merged.{merged}
 use Rattle.pool_policy.specs.Keeps.{faces, value_in, arg_value}
 use Rattle.pool_policy.specs.Keyed.{first_parent}
 use Rattle.pool_policy.specs.Laws.{value_of, selection_key}

@@ -1,5 +1,5 @@
 -- What a query's instruction finds in the pool, and what it may offer.
-use Rattle.std.specs.Prelude.{◌≡◌, ℕ, ◌+◌, ◌<◌, ◌≤◌, List, [], ◌∷◌, map, take, length, true, false, Option, Some, None, All, slice_get}
+use Rattle.std.specs.Prelude.{◌≡◌, ℕ, ◌+◌, ◌<◌, ◌≤◌, List, [], ◌∷◌, map, length, true, false, Option, Some, None, All, slice_get}
 use Rattle.std.specs.List.{AllByRecursion}
 use Rattle.cell_core.specs.declared.cell.Cell.{Cell}
 use Rattle.cell_core.specs.declared.cell.Cell.TheVariants.{Text}
@@ -24,7 +24,8 @@ use Rattle.lineage_key.specs.declared.key.KeyArg.TheVariants.{Const}
 use Rattle.lineage_key.specs.Keys.{IsNumbered}
 use Rattle.lineage_key.specs.Parents.{is_bind, parents_of}
 use Rattle.subsume.specs.Cutting.{Entry}
-use Rattle.reuse_laws.specs.Reuse.{merged, selected_in}
+use Rattle.reuse_laws.specs.Reuse.{selected_in}
+use Rattle.cell_core.specs.Merged.{merged}
 use Rattle.pool_policy.specs.declared.entry.Who.{Who}
 use Rattle.pool_policy.specs.declared.options.Admitted.{Admitted}
 use Rattle.pool_policy.specs.declared.options.Admitted.TheVariants.{Taken, There}

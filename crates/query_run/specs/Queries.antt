@@ -18,7 +18,8 @@ use Rattle.mal_meaning.specs.Meaning.{arg_values, instr_load, plan_rows, plan_va
 use Rattle.mal_check.specs.Checked.{plan_fault}
 use Rattle.mal_check.specs.Runnable.{FitsDb}
 use Rattle.recycle_mark.specs.Marks.{marks_of}
-use Rattle.reuse_laws.specs.Reuse.{merged, selected_in}
+use Rattle.reuse_laws.specs.Reuse.{selected_in}
+use Rattle.cell_core.specs.Merged.{merged}
 use Rattle.sql_definitions.specs.declared.refusal.Refusal.TheVariants.{Overflow}
 use Rattle.reply_layout.specs.declared.shown.Shown.{Shown}
 use Rattle.reply_layout.specs.declared.shown.Shown.TheVariants as shown

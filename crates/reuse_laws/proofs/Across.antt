@@ -13,7 +13,8 @@ use Rattle.cell_core.specs.Pairs.{Pairs, is_nil}
 use Rattle.cell_core.specs.Sorted.{sorted_by}
 use Rattle.subsume.specs.Cutting.{Entry, IsPartition}
 use Rattle.subsume.proofs.CutOrder.{cut_order, up_to_is, below_up_to, up_to_below, unnot}
-use Rattle.reuse_laws.specs.Reuse.{holds, picked, by_head, merged, Rises}
+use Rattle.reuse_laws.specs.Reuse.{holds, picked, Rises}
+use Rattle.cell_core.specs.Merged.{by_head, merged}
 use Rattle.reuse_laws.proofs.Merge.{IsFirst, first_left, first_out}
 
 pub head_order : IsStrictWeakOrder by_head

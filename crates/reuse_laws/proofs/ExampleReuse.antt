@@ -6,7 +6,8 @@ use Rattle.cell_core.specs.declared.cut.Cut.TheVariants.{Before, After}
 use Rattle.cell_core.specs.declared.cut.Span.{Span}
 use Rattle.cell_core.specs.Pairs.{Pairs}
 use Rattle.cell_core.specs.Relations.{selected}
-use Rattle.reuse_laws.specs.Reuse.{merged, selected_in}
+use Rattle.reuse_laws.specs.Reuse.{selected_in}
+use Rattle.cell_core.specs.Merged.{merged}
 
 abbrev int : ℕ → Cell
 int n = Int (pos n)

@@ -13,7 +13,8 @@ use Rattle.cell_core.specs.Pairs.{Pairs, is_true}
 use Rattle.cell_core.specs.Relations.{selected}
 use Rattle.subsume.specs.Cutting.{Entry, is_contained, least_cut, IsCutUp, IsOfEntry}
 use Rattle.subsume.proofs.Cuttings.{cut_up, parts_follow, parts_within}
-use Rattle.reuse_laws.specs.Reuse.{picked, merged, span_for, selected_in, is_low_end, is_high_end, is_askable}
+use Rattle.reuse_laws.specs.Reuse.{picked, span_for, selected_in, is_low_end, is_high_end, is_askable}
+use Rattle.cell_core.specs.Merged.{merged}
 use Rattle.reuse_laws.specs.Laws.{SelectionsAcross, CuttingsServe, PiecesServe}
 use Rattle.reuse_laws.proofs.Bridge.{selected_is, selected_in_is}
 use Rattle.reuse_laws.proofs.Within.{picked_within}

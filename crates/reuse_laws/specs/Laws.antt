@@ -6,7 +6,8 @@ use Rattle.cell_core.specs.declared.cut.Span.{Span}
 use Rattle.cell_core.specs.Pairs.{Pairs, is_true}
 use Rattle.cell_core.specs.Relations.{selected}
 use Rattle.subsume.specs.Cutting.{Entry, is_contained, IsCutting, IsCutUp, IsPartition, IsOfEntry}
-use Rattle.reuse_laws.specs.Reuse.{picked, merged, Rises, span_for, low_bound, high_bound, is_askable, selected_in}
+use Rattle.reuse_laws.specs.Reuse.{picked, Rises, span_for, low_bound, high_bound, is_askable, selected_in}
+use Rattle.cell_core.specs.Merged.{merged}
 
 -- a selection keeps the pairs whose tails lie in the span of its bounds; and each span that some selection asks for, as all that bounds make, is that of its bounds
 pub record BoundsAreSpans : Type 0 where

@@ -1,17 +1,15 @@
 -- What a selection keeps by cuts, and how the plain selection comes back from results that are reused.
-use Rattle.std.specs.Prelude.{◌≡◌, List, [], ◌∷◌, Bool, true, false, not, ◌&&◌, filter, flat_map}
+use Rattle.std.specs.Prelude.{◌≡◌, [], ◌∷◌, Bool, true, false, not, ◌&&◌, filter}
 use Rattle.std.specs.List.{AllByRecursion}
-use Rattle.std.specs.Ordering.{is_lt}
 use Rattle.cell_core.specs.declared.cell.Cell.{Cell}
 use Rattle.cell_core.specs.declared.cell.Cell.TheVariants.{Nil, Bit}
 use Rattle.cell_core.specs.declared.cut.Cut.{Cut}
 use Rattle.cell_core.specs.declared.cut.Cut.TheVariants.{Low, Before, After, High}
 use Rattle.cell_core.specs.declared.cut.Span.{Span}
-use Rattle.cell_core.specs.Order.{cell_cmp}
 use Rattle.cell_core.specs.Cuts.{lies_in}
 use Rattle.cell_core.specs.Pairs.{Pairs, is_nil, is_true}
 use Rattle.cell_core.specs.Relations.{selected}
-use Rattle.cell_core.specs.Sorted.{sorted_by}
+use Rattle.cell_core.specs.Merged.{by_head}
 use Rattle.lineage_key.specs.Spans.{low_cut, high_cut}
 
 -- a cell lies in a span where it is no Nil and the cut before it lies there
@@ -21,14 +19,6 @@ holds span cell = not (is_nil cell) && lies_in span (Before cell)
 -- the pairs whose tail lies in a span
 abbrev pub picked : Span → Pairs → Pairs
 picked span b = filter (λ p. holds span p.1) b
-
--- a pair's head is before that of another
-abbrev pub by_head : Cell × Cell → Cell × Cell → Bool
-by_head p q = is_lt (cell_cmp p.0 q.0)
-
--- all pairs of the parts in the order of their heads, where ties keep their order
-abbrev pub merged : List Pairs → Pairs
-merged parts = sorted_by by_head (flat_map (λ part. part) parts)
 
 -- the heads rise strictly
 abbrev pub Rises : Pairs → Type 0

@@ -10,14 +10,14 @@ use Rattle.cell_core.specs.declared.table.Table.{Table}
 use Rattle.cell_core.specs.declared.table.Db.{Db}
 use Rattle.cell_core.specs.Pairs.{numbered}
 use Rattle.cell_core.specs.Relations.{column_cells}
-use Rattle.cell_core.specs.Tables.{first_named, named_table, column_place}
+use Rattle.cell_core.specs.Tables.{first_named, named_table, column_place, names_differ}
 use Rattle.sql_definitions.specs.declared.source.Source.{Source}
 use Rattle.rows_to_mal.specs.Candidates.{no_column, column_name}
 use Rattle.rows_to_mal.specs.Laws.{rows_in}
 use Rattle.rows_to_mal.proofs.CandidateLemmas.{Binds}
 use Rattle.sql_definitions.specs.Sources.{source_named, schema_of}
 use Rattle.sql_definitions.specs.Check.{sources_named}
-use Rattle.sql_definitions.specs.Valid.{names_differ, column_names, are_valid_columns, fits_columns, is_valid_table, IsValid}
+use Rattle.sql_definitions.specs.Valid.{column_names, are_valid_columns, fits_columns, is_valid_table, IsValid}
 use Rattle.sql_kinds.proofs.NameLemmas.{same_name, own_name}
 use Rattle.sql_kinds.proofs.RowLemmas.{columns_differ}
 use Rattle.sql_kinds.proofs.TableLemmas.{as_source, source_is, found_holds}

@@ -21,7 +21,8 @@ use Rattle.mal_check.specs.Runnable.{FitsDb}
 use Rattle.recycle_mark.specs.Marks.{marks_of}
 use Rattle.lineage_key.specs.declared.key.Key.{Key}
 use Rattle.subsume.specs.Cutting.{Entry}
-use Rattle.reuse_laws.specs.Reuse.{merged, selected_in}
+use Rattle.reuse_laws.specs.Reuse.{selected_in}
+use Rattle.cell_core.specs.Merged.{merged}
 use Rattle.pool_policy.specs.declared.entry.Who.{Who}
 use Rattle.pool_policy.specs.declared.options.Admitted.{Admitted}
 use Rattle.pool_policy.specs.declared.options.PoolOptions.{PoolOptions}

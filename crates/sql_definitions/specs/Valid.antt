@@ -1,6 +1,6 @@
 -- Which databases are valid: those that statements lead to.
-use Rattle.std.specs.Prelude.{ℕ, List, [], ◌∷◌, length, map, Bool, true, false, not, ◌&&◌, ◌==◌, bytes_eq, Some, IsTrue}
-use Rattle.std.specs.List.{list_any, list_all}
+use Rattle.std.specs.Prelude.{ℕ, List, [], ◌∷◌, length, map, Bool, true, false, not, ◌&&◌, ◌==◌, Some, IsTrue}
+use Rattle.std.specs.List.{list_all}
 use Rattle.cell_core.specs.declared.cell.Cell.{Cell}
 use Rattle.cell_core.specs.declared.cell.Kind.{Kind}
 use Rattle.cell_core.specs.declared.cell.Kind.TheVariants as kind
@@ -8,13 +8,9 @@ use Rattle.cell_core.specs.declared.table.Column.{Column}
 use Rattle.cell_core.specs.declared.table.Table.{Table}
 use Rattle.cell_core.specs.declared.table.Db.{Db}
 use Rattle.cell_core.specs.Kinds.{is_of_kind}
+use Rattle.cell_core.specs.Tables.{names_differ}
 
 -- ## Columns
-
--- no name occurs twice
-abbrev pub names_differ : List (List ℕ) → Bool
-names_differ [] = true
-names_differ (name ∷ names) = not (list_any (bytes_eq name) names) && names_differ names
 
 abbrev pub column_names : List Column → List (List ℕ)
 column_names columns = map (λ (column : Column). column.name) columns

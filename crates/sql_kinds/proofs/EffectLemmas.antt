@@ -12,7 +12,7 @@ use Rattle.cell_core.specs.declared.cell.Kind.TheVariants as kind
 use Rattle.cell_core.specs.declared.table.Column.{Column}
 use Rattle.cell_core.specs.declared.table.Table.{Table}
 use Rattle.cell_core.specs.declared.table.Db.{Db}
-use Rattle.cell_core.specs.Tables.{first_named, grown, named_table, with_column}
+use Rattle.cell_core.specs.Tables.{first_named, grown, named_table, with_column, names_differ}
 use Rattle.sql_tree.specs.Names.{name_text}
 use Rattle.sql_tree.specs.Tree.{ExprTree, CondTree, StmtTree}
 use Rattle.sql_tree.specs.Tree.StmtTree.{CreateTable, DropTable, AlterTable, InsertInto, DeleteFrom, UpdateTable, Select, ExplainSelect}
@@ -23,7 +23,7 @@ use Rattle.sql_tree.specs.Exprs.{exprs_of_cond}
 use Rattle.sql_definitions.specs.Sources.{source_named, schema_of}
 use Rattle.sql_definitions.specs.Check.{refused_if, names_twice, unknown_names, column_named, targets, is_wrong_count, is_misfit_row, is_misfit_set, is_misfit_cond, is_misfit_default, bad_in_exprs, create_refusals, alter_refusals, insert_refusals, update_refusals, over_table, check_refusal}
 use Rattle.sql_definitions.specs.Effect.{Change, unless_refused, placed, inserted, own_table, is_hit, deleted, updated_row, updated, changed_by, changed, done_by, is_long_default, column_refused, created, dropped, altered, accepted, effect_unless, effect, replay_from}
-use Rattle.sql_definitions.specs.Valid.{names_differ, column_names, is_stored, is_valid_column, are_valid_columns, fits_columns, is_valid_table, IsValid}
+use Rattle.sql_definitions.specs.Valid.{column_names, is_stored, is_valid_column, are_valid_columns, fits_columns, is_valid_table, IsValid}
 use Rattle.sql_grammar.specs.Formed.{IsColumnKind, IsShapedColumn, IsShaped, IsFormed}
 use Rattle.sql_kinds.proofs.NameLemmas.{map_empty, left_empty, right_empty, differ, names_more, not_there}
 use Rattle.sql_kinds.proofs.CellLemmas.{cell_agrees}

@@ -8,7 +8,8 @@ use Rattle.std.proofs.lemmas.List.Folds.{list_any-append}
 use Rattle.std.proofs.lemmas.Slice.Eq.{bytes_eq-Decides}
 use Rattle.cell_core.specs.declared.table.Column.{Column}
 use Rattle.sql_definitions.specs.Check.{names_twice, column_named}
-use Rattle.sql_definitions.specs.Valid.{names_differ, column_names}
+use Rattle.sql_definitions.specs.Valid.{column_names}
+use Rattle.cell_core.specs.Tables.{names_differ}
 
 -- ## Equal names
 

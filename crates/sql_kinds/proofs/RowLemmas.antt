@@ -13,7 +13,8 @@ use Rattle.sql_tree.specs.Tree.{ExprTree}
 use Rattle.sql_definitions.specs.Check.{column_named, targets, is_misfit_row, is_misfit_set, own_source}
 use Rattle.sql_definitions.specs.Effect.{placed, own_table, set_cell, updated_row}
 use Rattle.sql_definitions.specs.Kinds.{kind_of_expr, is_misfit}
-use Rattle.sql_definitions.specs.Valid.{names_differ, column_names, fits_columns, is_valid_column, are_valid_columns}
+use Rattle.sql_definitions.specs.Valid.{column_names, fits_columns, is_valid_column, are_valid_columns}
+use Rattle.cell_core.specs.Tables.{names_differ}
 use Rattle.sql_kinds.proofs.NameLemmas.{same_name, still_named, first_named, none_left}
 use Rattle.sql_kinds.proofs.CellLemmas.{cell_agrees, value_fits}
 

@@ -7,9 +7,9 @@ use Rattle.std.proofs.lemmas.Bool.{and_parts, and_from, or_parts, or_from, not-t
 use Rattle.std.proofs.lemmas.List.{map-append}
 use Rattle.std.proofs.lemmas.List.Folds.{list_any-append}
 use Rattle.cell_core.specs.declared.table.Table.{Table}
-use Rattle.cell_core.specs.Tables.{first_named}
+use Rattle.cell_core.specs.Tables.{first_named, names_differ}
 use Rattle.sql_definitions.specs.declared.source.Source.{Source}
-use Rattle.sql_definitions.specs.Valid.{names_differ, table_names, is_valid_table}
+use Rattle.sql_definitions.specs.Valid.{table_names, is_valid_table}
 use Rattle.sql_kinds.proofs.NameLemmas.{same_name, other_name}
 
 -- ## Lists

@@ -11,7 +11,7 @@ use Rattle.cell_core.specs.declared.table.Table.{Table}
 use Rattle.cell_core.specs.declared.table.Db.{Db}
 use Rattle.cell_core.specs.Pairs.{Pairs, numbered}
 use Rattle.cell_core.specs.Relations.{column_cells}
-use Rattle.cell_core.specs.Tables.{all_columns, column_place, named_table, row_count}
+use Rattle.cell_core.specs.Tables.{all_columns, column_place, named_table, row_count, names_differ}
 use Rattle.sql_tree.specs.Tree.{StmtTree}
 use Rattle.sql_tree.specs.Tree.StmtTree.{InsertInto}
 use Rattle.sql_grammar.specs.Formed.{IsFormed}
@@ -21,7 +21,7 @@ use Rattle.sql_definitions.specs.declared.refusal.Reply.TheVariants.{Rows}
 use Rattle.sql_definitions.specs.Check.{check_refusal}
 use Rattle.sql_definitions.specs.Effect.{Change, changed, changed_by, effect, inserted}
 use Rattle.sql_definitions.specs.Sources.{schema_of}
-use Rattle.sql_definitions.specs.Valid.{IsValid, are_valid_columns, column_names, fits_columns, is_valid_table, names_differ}
+use Rattle.sql_definitions.specs.Valid.{IsValid, are_valid_columns, column_names, fits_columns, is_valid_table}
 use Rattle.sql_changes.specs.Added.{added_rows, added_to}
 use Rattle.sql_changes.specs.declared.insert.AddedRows.{AddedRows}
 use Rattle.sql_kinds.specs.Laws.{StatementsKeepValid}

@@ -6,7 +6,7 @@ use Rattle.std.specs.Option.{option_map, option_map_or}
 use Rattle.cell_core.specs.declared.table.Column.{Column}
 use Rattle.cell_core.specs.declared.table.Table.{Table}
 use Rattle.cell_core.specs.declared.table.Db.{Db}
-use Rattle.cell_core.specs.Tables.{first_named, named_table, row_count}
+use Rattle.cell_core.specs.Tables.{first_named, named_table, row_count, names_differ}
 use Rattle.sql_definitions.specs.declared.refusal.Refusal.{Refusal}
 use Rattle.sql_definitions.specs.declared.refusal.Refusal.TheVariants.{KindsDiffer, TableExists}
 use Rattle.sql_definitions.specs.declared.source.Source.{Source}
@@ -17,7 +17,7 @@ use Rattle.sql_definitions.specs.Valid as valid
 use Rattle.sql_tree.specs.Names.{name_text}
 use Rattle.sql_kinds.proofs.TableLemmas.{as_source, source_is}
 use Rattle.table_store.specs.declared.heading.Heading.{Heading}
-use Rattle.table_store.specs.Changes.{NamesDiffer, columns_of, names_differ, rows_of}
+use Rattle.table_store.specs.Changes.{NamesDiffer, columns_of, rows_of}
 use Rattle.table_store.specs.Headings.{headings_of}
 
 abbrev pub as_heading : Table → Heading

@@ -8,10 +8,9 @@ use Rattle.std.proofs.lemmas.Slice.Eq.{bytes_eq-Decides}
 use Rattle.cell_core.specs.declared.cell.Cell.{Cell}
 use Rattle.cell_core.specs.declared.table.Column.{Column}
 use Rattle.cell_core.specs.declared.table.Table.{Table}
-use Rattle.cell_core.specs.Tables.{first_named}
+use Rattle.cell_core.specs.Tables.{first_named, names_differ}
 use Rattle.table_columns.specs.Rows.{KeptTable}
 use Rattle.table_store.specs.declared.heading.Heading.{Heading}
-use Rattle.table_store.specs.Changes.{names_differ}
 use Rattle.table_store.specs.Content.{Content, column_version, version_in}
 use Rattle.table_store.specs.Kept.{AreKept, IsKept, content_from, heading_at, heading_place, kept_at, rows_at, table_from, table_place, tables_from}
 use Rattle.table_store.proofs.TableLemmas.{tables_long}

@@ -5,9 +5,9 @@ use Rattle.std.specs.Option.{option_map_or}
 use Rattle.cell_core.specs.declared.cell.Cell.{Cell}
 use Rattle.cell_core.specs.declared.table.Table.{Table}
 use Rattle.cell_core.specs.declared.table.Db.{Db}
-use Rattle.cell_core.specs.Tables.{first_named, with_new_rows}
+use Rattle.cell_core.specs.Tables.{first_named, with_new_rows, names_differ}
 use Rattle.table_columns.specs.Rows.{AreWide}
-use Rattle.table_store.specs.Changes.{NamesDiffer, columns_of, names_differ, with_rows}
+use Rattle.table_store.specs.Changes.{NamesDiffer, columns_of, with_rows}
 
 module _ (name : List ℕ) (rows : List (List Cell)) where
   names_stay : (tables : List Table) → map (λ (t : Table). t.name) (map (with_new_rows name rows) tables) ≡ map (λ (t : Table). t.name) tables

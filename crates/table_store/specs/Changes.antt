@@ -1,12 +1,11 @@
 -- Prepared changes, and the content after them.
-use Rattle.std.specs.Prelude.{◌≡◌, ℕ, List, ◌++◌, [], ◌∷◌, map, filter, Bool, not, ◌&&◌, bytes_eq, true, false, IsTrue}
-use Rattle.std.specs.List.{list_any}
+use Rattle.std.specs.Prelude.{◌≡◌, ℕ, List, ◌++◌, [], ◌∷◌, map, filter, not, bytes_eq, false, IsTrue}
 use Rattle.std.specs.Option.{option_map_or}
 use Rattle.cell_core.specs.declared.cell.Cell.{Cell}
 use Rattle.cell_core.specs.declared.table.Column.{Column}
 use Rattle.cell_core.specs.declared.table.Table.{Table}
 use Rattle.cell_core.specs.declared.table.Db.{Db}
-use Rattle.cell_core.specs.Tables.{named_table, with_column, with_new_rows}
+use Rattle.cell_core.specs.Tables.{named_table, names_differ, with_column, with_new_rows}
 use Rattle.pool_policy.specs.declared.touched.Touched.{Touched}
 use Rattle.table_store.specs.Content.{Content, version_of}
 use Rattle.pool_policy.specs.Versions.{is_of}
@@ -29,11 +28,6 @@ abbrev pub without_table : List ℕ → Db → Db
 without_table name db = record { tables = filter (λ (table : Table). not (bytes_eq table.name name)) db.tables }
 
 -- ## A table that changes
-
--- no name occurs twice
-abbrev pub names_differ : List (List ℕ) → Bool
-names_differ [] = true
-names_differ (name ∷ names) = not (list_any (bytes_eq name) names) && names_differ names
 
 abbrev pub NamesDiffer : Db → Type 0
 NamesDiffer db = IsTrue (names_differ (map (λ (table : Table). table.name) db.tables))

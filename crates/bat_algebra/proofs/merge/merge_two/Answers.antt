@@ -3,7 +3,7 @@ use Rattle.cell_core.specs.declared.cell.Cell.{Cell}
 use Rattle.cell_core.specs.declared.cell.Cell.TheVariants.{Nil}
 use Rattle.cell_core.specs.Sorted.{sorted_by}
 use Rattle.std.specs.Prelude.{slice_index_or}
-use Rattle.bat_algebra.specs.Merged.{by_head}
+use Rattle.cell_core.specs.Merged.{by_head}
 use Rattle.std.proofs.lemmas.Result.{IfOk-weaker}
 use Rattle.bat_algebra.proofs.MergeLemmas.{all_out, first_step, none_rest, pushed, second_step, sorted_ascends}
 use Rattle.bat_algebra.proofs.merge.merge_two.Goals as goal

@@ -1,7 +1,7 @@
 -- What is merged, and what is left of both in order, is the whole.
 use Rattle.std.proofs.Common.{◌≡◌, ◌+◌, ◌-◌, ◌≤◌, ◌++◌, length, drop}
 use Rattle.cell_core.specs.Sorted.{sorted_by}
-use Rattle.bat_algebra.specs.Merged.{by_head}
+use Rattle.cell_core.specs.Merged.{by_head}
 use Rattle.bat_algebra.proofs.merge.merge_two.Given as goal
 
 abbrev pub invariant-pairs : goal.invariant-pairs
