@@ -113,7 +113,7 @@ with_none (first ∷ second ∷ third ∷ acts) = refl
 are_statements : (log : List EventTree) (session k : ℕ) (readings : List (Result StmtTree Refusal)) → AreStatements log session k readings (acts_from log session k readings)
 are_statements log session k [] = refl
 are_statements log session k (reading ∷ readings) =
-    (acts_over (tables_met log session k) reading, acts_from log session (k + 1) readings, refl, ([], tt, with_none (acts_over (tables_met log session k) reading)), are_statements log session (k + 1) readings)
+    (acts_over (tables_met log session k) reading, acts_from log session (k + 1) readings, refl, ([], tt, (λ none. refl), with_none (acts_over (tables_met log session k) reading)), are_statements log session (k + 1) readings)
 
 acts : acts_from log 1 1 script ≡ logged_of 1 log
 unfolding keyword_of keywords is_unsupported_word unsupported_words

@@ -1,5 +1,5 @@
 -- The place of a statement in a log, what it shows, and which events a run logs.
-use Rattle.std.specs.Prelude.{◌≡◌, ℕ, suc, ◌+◌, ◌≤◌, ◌==◌, List, [], ◌∷◌, ◌++◌, length, map, filter, Bool, true, false, ◌&&◌, if◌then◌else◌, Some, Result, slice_get}
+use Rattle.std.specs.Prelude.{◌≡◌, ℕ, suc, ◌+◌, ◌≤◌, ◌==◌, List, [], ◌∷◌, ◌++◌, length, map, filter, Bool, true, false, ◌&&◌, if◌then◌else◌, Some, None, Result, slice_get}
 use Rattle.std.specs.List.{AllByRecursion}
 use Rattle.cell_core.specs.declared.table.Db.{Db}
 use Rattle.sql_tree.specs.Tree.{StmtTree}
@@ -67,9 +67,17 @@ abbrev pub with_between : List ActTree → List ActTree → List ActTree
 with_between between (first ∷ last ∷ []) = first ∷ (between ++ last ∷ [])
 with_between between acts = acts
 
--- acts of a statement that meets these tables: its own, with looks and admissions between the Begin and the End of a query
+-- a plan is run: for an EXPLAIN or a query that is refused there is none
+abbrev pub runs_plan : Doing Plan → Bool
+runs_plan (Beginning (Some plan) shown) = true
+runs_plan (Beginning None shown) = false
+runs_plan (Writing statement shown) = false
+
+-- acts of a statement that meets these tables: its own, and where a plan is run, looks and admissions between its Begin and its End
 abbrev pub AreActs : Db → Said → List ActTree → Type 0
-AreActs db reading acts = (between : List ActTree) × AllByRecursion (λ act. is_of_pool act ≡ true) between × (acts ≡ with_between between (acts_over db reading))
+AreActs db reading acts =
+    (between : List ActTree) × AllByRecursion (λ act. is_of_pool act ≡ true) between × (runs_plan (doing_over db reading) ≡ false → between ≡ [])
+    × (acts ≡ with_between between (acts_over db reading))
 
 -- numbered acts are exactly those of a session's statements from k on, in their order, each once
 abbrev pub AreStatements : List EventTree → ℕ → ℕ → List Said → List (ℕ × ActTree) → Type 0

@@ -6,3 +6,4 @@ pub mod AdmitLemmas
 pub mod GoneLemmas
 pub mod AdmitBook
 pub mod WriteBook
+pub mod LawfulLemmas

@@ -2,6 +2,7 @@ ghost use Rattle.std.specs.Prelude.{◌≡◌, ◌<◌, ◌^◌, [], ◌∷◌, 
 ghost use Rattle.lineage_key.specs.Parents.{column_of, is_bind, table_of};
 ghost use Rattle.table_store.specs.Content.{version_of};
 ghost use Rattle.pool_policy.specs.Admits.{admit_of};
+ghost use Rattle.pool_policy.specs.Scorers.{IsScorerOf};
 ghost use Rattle.run_log.specs.declared.event.Act.TheVariants as act;
 ghost use Rattle.run_log.specs.Fold.{key_offer};
 ghost use Rattle.book_core.specs.BookView.{event_of, now_of, state_of};
@@ -50,8 +51,7 @@ impl Book {
         value: Shared,
         work: u64,
     ) -> Result<Admitted, Memory>
-        requires kind { scorer.now.kind ≡ self.old.options.evict }
-        requires weights { scorer.now.weights.items ≡ self.old.options.weights }
+        requires scorer { IsScorerOf scorer.now self.old.options }
         requires session { who.session < 17 }
         requires offer { CanOffer key value work (state_of self.old) }
         ensures options { self.new.options ≡ self.old.options }

@@ -2,6 +2,7 @@
 ghost use Rattle.std.specs.Prelude.{◌≡◌, ◌+◌, ◌<◌, ◌≤◌, ◌^◌, [], ◌∷◌, ◌++◌, length, true, Some, None, Ok, Err, IfOk, OnOk, OnErr};
 ghost use Rattle.std.specs.List.{AllByRecursion};
 ghost use Rattle.pool_policy.specs.Writes.{write_of};
+ghost use Rattle.pool_policy.specs.Scorers.{IsScorerOf};
 ghost use Rattle.reply_layout.specs.Doings.{code_of as code_shown, count_of as count_shown, shown_reply};
 ghost use Rattle.run_log.specs.declared.event.Act.TheVariants as act;
 ghost use Rattle.run_log.specs.Totals.{AreSmall, with_work, with_written};
@@ -129,8 +130,7 @@ impl Book {
         kernel: &E,
         steps: &mut Steps<L>,
     ) -> Result<Reply, Memory>
-        requires kind { scorer.now.kind ≡ self.old.options.evict }
-        requires weights { scorer.now.weights.items ≡ self.old.options.weights }
+        requires scorer { IsScorerOf scorer.now self.old.options }
         requires session { who.session < 17 }
         requires change { is_change (stmt_tree stmt.now) ≡ true }
         requires formed { IsFormed (stmt_tree stmt.now) }
@@ -157,8 +157,7 @@ impl Book {
         outcome: Outcome,
         steps: &mut Steps<L>,
     ) -> Result<Reply, Memory>
-        requires kind { scorer.now.kind ≡ self.old.options.evict }
-        requires weights { scorer.now.weights.items ≡ self.old.options.weights }
+        requires scorer { IsScorerOf scorer.now self.old.options }
         requires outcome { IsOutcome (stmt_tree stmt) outcome.ready outcome.work (state_of self.old) }
         ensures options { self.new.options ≡ self.old.options }
         ensures reply { IfOk result (λ reply. reply ≡ (effect (stmt_tree stmt) (state_of self.old).db).1) }
@@ -207,8 +206,7 @@ impl Book {
         load: u128,
         steps: &mut Steps<L>,
     ) -> Result<Reply, Memory>
-        requires kind { scorer.now.kind ≡ self.old.options.evict }
-        requires weights { scorer.now.weights.items ≡ self.old.options.weights }
+        requires scorer { IsScorerOf scorer.now self.old.options }
         requires outcome { IsOutcome (stmt_tree stmt) (Ok ready) load (state_of self.old) }
         ensures options { self.new.options ≡ self.old.options }
         ensures reply { IfOk result (λ reply. reply ≡ reply_with ready.rows) }

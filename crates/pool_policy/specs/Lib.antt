@@ -10,3 +10,4 @@ pub mod WriteLaws
 pub mod Versions
 pub mod Columns
 pub mod Fits
+pub mod Scorers

@@ -31,7 +31,7 @@ use Rattle.run_log.proofs.LogLemmas.{each_log, logs_tell_holds, run_more, tells_
 use Rattle.run_log.proofs.TouchLemmas.{touched_adds, touched_moves}
 use Rattle.book_core.specs.Lawful.{IsLawful}
 use Rattle.pool_sound.specs.Laws.{IsColumnOf}
-use Rattle.pool_sound.proofs.LawfulLemmas.{lawful_before, lawful_formed, lawful_next, lawful_sound}
+use Rattle.book_core.proofs.LawfulLemmas.{lawful_before, lawful_formed, lawful_next, lawful_sound}
 
 -- ## The entries that an event adds
 

@@ -1,4 +1,3 @@
-pub mod LawfulLemmas
 pub mod OptionLemmas
 pub mod BindLemmas
 pub mod LineageLemmas

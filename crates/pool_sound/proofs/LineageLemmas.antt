@@ -24,7 +24,7 @@ use Rattle.run_log.specs.Fold.{run_of}
 use Rattle.book_core.specs.Lawful.{IsLawful}
 use Rattle.pool_sound.specs.Lineage.{arg_evaluated, evaluated, key_given, tables_after, lineage_value, value_within}
 use Rattle.pool_sound.proofs.BindLemmas.{binds_told}
-use Rattle.pool_sound.proofs.LawfulLemmas.{lawful_sound}
+use Rattle.book_core.proofs.LawfulLemmas.{lawful_sound}
 
 -- ## Keys by ids
 

@@ -20,7 +20,7 @@ use Rattle.pool_sound.specs.Laws.{PoolsStaySound}
 use Rattle.pool_sound.specs.Sound.{IsSoundAfter}
 use Rattle.pool_sound.specs.Lineage.{lineage_value}
 use Rattle.pool_sound.proofs.BindLemmas.{binds_told}
-use Rattle.pool_sound.proofs.LawfulLemmas.{lawful_front, lawful_sound, lawful_taken, worths_later}
+use Rattle.book_core.proofs.LawfulLemmas.{lawful_front, lawful_sound, lawful_taken, worths_later}
 use Rattle.pool_sound.proofs.OptionLemmas.{options_stay}
 use Rattle.pool_sound.proofs.LineageLemmas.{noted_value}
 

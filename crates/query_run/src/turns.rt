@@ -3,6 +3,7 @@ ghost use Rattle.std.specs.Prelude.{◌≡◌, ◌+◌, ◌<◌, [], ◌∷◌, 
 ghost use Rattle.bat_core.specs.declared.shared.Obj.TheVariants as obj;
 ghost use Rattle.pool_policy.specs.Admits.{admit_of};
 ghost use Rattle.pool_policy.specs.Looks.{look_of};
+ghost use Rattle.pool_policy.specs.Scorers.{IsScorerOf};
 ghost use Rattle.run_log.specs.declared.event.Act.TheVariants as act;
 ghost use Rattle.run_log.specs.Events.{looked_of};
 ghost use Rattle.run_log.specs.Fold.{key_offer};
@@ -65,8 +66,7 @@ impl RunningQuery {
         n: usize,
         offer: Offer,
     ) -> Result<Step, Memory>
-        requires kind { scorer.now.kind ≡ book.old.options.evict }
-        requires weights { scorer.now.weights.items ≡ book.old.options.weights }
+        requires scorer { IsScorerOf scorer.now book.old.options }
         requires session { who.session < 17 }
         requires under { IsUnderWay self }
         requires inside { n < length self.plan.instrs }

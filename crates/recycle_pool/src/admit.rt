@@ -3,6 +3,7 @@ ghost use Rattle.pool_policy.specs.declared.entry.Who.{Who as WhoValue};
 ghost use Rattle.pool_policy.specs.Keyed.{entry_of_key};
 ghost use Rattle.pool_policy.specs.Admits.{admit_of};
 ghost use Rattle.pool_policy.specs.Keeps.{IsOffer};
+ghost use Rattle.pool_policy.specs.Scorers.{IsScorerOf};
 ghost use Rattle.recycle_pool.specs.Answers.{offer_in};
 ghost use Rattle.recycle_pool.specs.Usable.{IsNew};
 
@@ -32,8 +33,7 @@ impl Pool {
         now: u64,
         offered: Offered,
     ) -> Result<Admitted, Memory>
-        requires kind { scorer.now.kind ≡ self.old.options.evict }
-        requires weights { scorer.now.weights.items ≡ self.old.options.weights }
+        requires scorer { IsScorerOf scorer.now self.old.options }
         requires session { who.session < 17 }
         requires later { self.old.moment < now }
         requires early { now < 2 ^ 30 }
@@ -107,8 +107,7 @@ impl Pool {
         now: u64,
         offered: Offered,
     ) -> Result<Admitted, Memory>
-        requires kind { scorer.now.kind ≡ self.old.options.evict }
-        requires weights { scorer.now.weights.items ≡ self.old.options.weights }
+        requires scorer { IsScorerOf scorer.now self.old.options }
         requires session { who.session < 17 }
         requires later { self.old.moment < now }
         requires early { now < 2 ^ 30 }

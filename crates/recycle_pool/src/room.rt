@@ -7,6 +7,7 @@ ghost use Rattle.evict_admit.specs.Runs.{given_up, is_one_of};
 ghost use Rattle.pool_policy.specs.Pool.{pool_bytes, score_at};
 ghost use Rattle.pool_policy.specs.Looks.{paid_back};
 ghost use Rattle.pool_policy.specs.Admits.{left_without, pays_at_end, row_of, rows_of};
+ghost use Rattle.pool_policy.specs.Scorers.{IsScorerOf};
 ghost use Rattle.pool_entries.specs.Usable.{IsOwed};
 ghost use Rattle.recycle_pool.specs.Indexed.{AreBeside, kin_of};
 ghost use Rattle.recycle_pool.specs.Placed.{HaveRoom};
@@ -100,8 +101,7 @@ impl Entries {
         key: &Key,
         bytes: u64,
     ) -> (bool, u64)
-        requires kind { scorer.now.kind ≡ options.now.evict }
-        requires weights { scorer.now.weights.items ≡ options.now.weights }
+        requires scorer { IsScorerOf scorer.now options.now }
         requires plan { IsWeighable now self.now.all.items }
         requires room { HaveRoom (length self.now.all.items) lists.old }
         requires beside { AreBeside self.now.parents self.now.all.items }
@@ -140,8 +140,7 @@ impl Entries {
         key: &Key,
         want: (u128, u64),
     ) -> bool
-        requires kind { scorer.now.kind ≡ options.now.evict }
-        requires weights { scorer.now.weights.items ≡ options.now.weights }
+        requires scorer { IsScorerOf scorer.now options.now }
         requires plan { IsWeighable now self.now.all.items }
         requires room { HaveRoom (length self.now.all.items) lists.old }
         requires beside { AreBeside self.now.parents self.now.all.items }

@@ -1,6 +1,7 @@
 ghost use Rattle.std.specs.Prelude.{◌≡◌, ◌<◌, ◌^◌};
 ghost use Rattle.pool_policy.specs.Writes.{forget_of, write_of};
 ghost use Rattle.pool_policy.specs.WriteLaws.{IsWrite};
+ghost use Rattle.pool_policy.specs.Scorers.{IsScorerOf};
 ghost use Rattle.recycle_pool.specs.Carries.{IsCarried};
 
 use crate::carried::Carried;
@@ -37,8 +38,7 @@ impl Pool {
         carried: Carried,
         now: u64,
     ) -> (u64, u64)
-        requires kind { scorer.now.kind ≡ self.old.options.evict }
-        requires weights { scorer.now.weights.items ≡ self.old.options.weights }
+        requires scorer { IsScorerOf scorer.now self.old.options }
         requires later { self.old.moment < now }
         requires early { now < 2 ^ 30 }
         requires write { IsWrite touched.now now self.old }

@@ -5,6 +5,7 @@ ghost use Rattle.evict_admit.specs.Runs.{given_up, is_one_of};
 ghost use Rattle.pool_policy.specs.Pool.{pool_bytes, score_at};
 ghost use Rattle.pool_policy.specs.Looks.{paid_back};
 ghost use Rattle.pool_policy.specs.Admits.{left_without, pays_at_end, rows_of};
+ghost use Rattle.pool_policy.specs.Scorers.{IsScorerOf};
 ghost use Rattle.pool_entries.specs.Usable.{IsOwed};
 ghost use Rattle.recycle_pool.specs.Placed.{HaveRoom};
 ghost use Rattle.recycle_pool.specs.Usable.{IsWeighable};
@@ -100,8 +101,7 @@ impl Entries {
         scorer: &Scorer,
         now: u64,
     )
-        requires kind { scorer.now.kind ≡ options.now.evict }
-        requires weights { scorer.now.weights.items ≡ options.now.weights }
+        requires scorer { IsScorerOf scorer.now options.now }
         requires plan { IsWeighable now self.now.all.items }
         requires room { HaveRoom (length self.now.all.items) lists.old }
         ensures gone { lists.new.gone.items ≡ (given_up (score_at options.now now) (rows_of [] self.now.all.items) (pool_bytes self.now.all.items - options.now.budget) 0).0 }

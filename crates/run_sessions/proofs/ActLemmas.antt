@@ -1,5 +1,5 @@
 -- Which act comes next of a statement that begins, and of one that has begun.
-use Rattle.std.proofs.Common.{◌≡◌, ℕ, [], ◌∷◌, true, Option, Some, None, refl, ap, sym, ◌∙◌, subst}
+use Rattle.std.proofs.Common.{◌≡◌, ℕ, [], ◌∷◌, Bool, true, false, Option, Some, None, refl, ap, sym, ◌∙◌, subst}
 use Rattle.std.proofs.lemmas.Option.{same_Some}
 use Rattle.cell_core.specs.declared.table.Db.{Db}
 use Rattle.mal_meaning.specs.declared.plan.Plan.{Plan}
@@ -9,7 +9,7 @@ use Rattle.sql_tree.specs.Tree.{StmtTree}
 use Rattle.run_log.specs.Events.{ActTree, Begins, Looks, Admits, Writes, Ends}
 use Rattle.run_log.specs.Fold.{LogState}
 use Rattle.reply_layout.specs.Doings.{Doing, Writing, Beginning, begin_code, code_of, count_of, shown_in}
-use Rattle.answer_text.specs.Log.{Said, acts_in, acts_over, doing_over, is_of_pool, shown_over}
+use Rattle.answer_text.specs.Log.{Said, acts_in, acts_over, doing_over, is_of_pool, runs_plan, shown_over}
 use Rattle.session_run.specs.Progress.{Got, Progress, progress_by}
 use Rattle.session_run.specs.Turns.{AsReady, Asks, Faults, Finishes, InPlan, IsFirstAct, IsLaterAct, IsQueryAct, MayAsk, MayDo, MayFinish, MayOffer, MayOverflow, Next, Offers, Order, act_of_next, admit_at, look_at, overflow_code}
 
@@ -33,38 +33,38 @@ starts_as db said act first = go (doing_over db said) refl first
 
 -- ## A statement goes on
 
--- it looks or offers, or ends
-pub data GoesOnAs (act : ActTree) : Type 0 where
-  Pooled : is_of_pool act ≡ true → GoesOnAs act
-  Closes : (code : ℕ) → act ≡ Ends code → GoesOnAs act
+-- where its plan is run it looks or offers; or it ends
+pub data GoesOnAs (runs : Bool) (act : ActTree) : Type 0 where
+  Pooled : is_of_pool act ≡ true → runs ≡ true → GoesOnAs runs act
+  Closes : (code : ℕ) → act ≡ Ends code → GoesOnAs runs act
 
-closes_as : (act : ActTree) (code : ℕ) → act ≡ Ends code → GoesOnAs act
-closes_as act code is = Closes code is
+closes_as : (runs : Bool) (act : ActTree) (code : ℕ) → act ≡ Ends code → GoesOnAs runs act
+closes_as runs act code is = Closes code is
 
-pooled_as : (act goes : ActTree) → is_of_pool goes ≡ true → act ≡ goes → GoesOnAs act
-pooled_as act goes pool is = Pooled (ap is_of_pool is ∙ pool)
+pooled_as : (act goes : ActTree) → is_of_pool goes ≡ true → act ≡ goes → GoesOnAs true act
+pooled_as act goes pool is = Pooled (ap is_of_pool is ∙ pool) refl
 
-next_goes : (s : LogState) (who : Who) (versions : Versions) (results : ℕ → Got) (next : Next) → GoesOnAs (act_of_next s who versions results next)
-next_goes s who versions results (Asks n instr) = Pooled refl
-next_goes s who versions results (Offers n instr (Some value)) = Pooled refl
+next_goes : (s : LogState) (who : Who) (versions : Versions) (results : ℕ → Got) (next : Next) → GoesOnAs true (act_of_next s who versions results next)
+next_goes s who versions results (Asks n instr) = Pooled refl refl
+next_goes s who versions results (Offers n instr (Some value)) = Pooled refl refl
 next_goes s who versions results (Offers n instr None) = Closes _ refl
 next_goes s who versions results Faults = Closes _ refl
 next_goes s who versions results Finishes = Closes _ refl
 
-may_goes : (s : LogState) (who : Who) (seen : LogState) (plan : Plan) (results : ℕ → Got) (act : ActTree) → MayDo s who seen plan results act → GoesOnAs act
+may_goes : (s : LogState) (who : Who) (seen : LogState) (plan : Plan) (results : ℕ → Got) (act : ActTree) → MayDo s who seen plan results act → GoesOnAs true act
 may_goes s who seen plan results act (MayAsk n instr here marked unasked known is) = pooled_as act (look_at s seen.versions results n instr) refl is
 may_goes s who seen plan results act (MayOffer n at instr value here asked there is) = pooled_as act (admit_at s who seen.versions results n instr) refl is
-may_goes s who seen plan results act (MayOverflow none is) = closes_as act overflow_code is
-may_goes s who seen plan results act (MayFinish all some is) = closes_as act 0 is
+may_goes s who seen plan results act (MayOverflow none is) = closes_as true act overflow_code is
+may_goes s who seen plan results act (MayFinish all some is) = closes_as true act 0 is
 
-query_goes : (order : Order) (s : LogState) (who : Who) (seen : LogState) (plan : Plan) (results : ℕ → Got) (act : ActTree) → IsQueryAct order s who seen plan results act → GoesOnAs act
-query_goes InPlan s who seen plan results act is = subst GoesOnAs (sym is) (next_goes s who seen.versions results _)
+query_goes : (order : Order) (s : LogState) (who : Who) (seen : LogState) (plan : Plan) (results : ℕ → Got) (act : ActTree) → IsQueryAct order s who seen plan results act → GoesOnAs true act
+query_goes InPlan s who seen plan results act is = subst (GoesOnAs true) (sym is) (next_goes s who seen.versions results _)
 query_goes AsReady s who seen plan results act may = may_goes s who seen plan results act may
 
 -- the same of whatever a statement does
-pub goes_on_as : (order : Order) (s : LogState) (who : Who) (seen : LogState) (results : ℕ → Got) (doing : Doing Plan) (act : ActTree) → IsLaterAct order s who seen results doing act → GoesOnAs act
-goes_on_as order s who seen results (Writing statement shows) act is = closes_as act (code_of shows) is
-goes_on_as order s who seen results (Beginning None shows) act is = closes_as act (code_of shows) is
+pub goes_on_as : (order : Order) (s : LogState) (who : Who) (seen : LogState) (results : ℕ → Got) (doing : Doing Plan) (act : ActTree) → IsLaterAct order s who seen results doing act → GoesOnAs (runs_plan doing) act
+goes_on_as order s who seen results (Writing statement shows) act is = closes_as false act (code_of shows) is
+goes_on_as order s who seen results (Beginning None shows) act is = closes_as false act (code_of shows) is
 goes_on_as order s who seen results (Beginning (Some plan) shows) act is = query_goes order s who seen plan results act is
 
 -- ## Progress

@@ -1,5 +1,5 @@
 -- The events of a session stay in order, whatever event comes next.
-use Rattle.std.proofs.Common.{◌≡◌, ℕ, ◌+◌, ◌≤◌, List, [], ◌∷◌, ◌++◌, map, take, length, false, true, Option, Some, None, refl, ap, sym, ◌∙◌, subst, arith}
+use Rattle.std.proofs.Common.{◌≡◌, ℕ, ◌+◌, ◌≤◌, List, [], ◌∷◌, ◌++◌, map, take, length, Bool, false, true, Option, Some, None, refl, ap, sym, ◌∙◌, subst, arith}
 use Rattle.std.specs.Prelude.{slice_get, ◌==◌}
 use Rattle.std.proofs.lemmas.List.{append_assoc, append-nil, length-take-le, map-append}
 use Rattle.std.proofs.lemmas.Option.{same_Some}
@@ -10,13 +10,16 @@ use Rattle.read_laws.specs.Answered.{EachReadsAsOne, Reads}
 use Rattle.run_log.specs.Events.{ActTree, Ends, EventTree}
 use Rattle.run_log.specs.Fold.{run_of}
 use Rattle.reply_layout.specs.Doings.{code_of}
-use Rattle.answer_text.specs.Log.{AreActs, AreStatements, Said, acts_over, doing_over, is_of_pool, is_opening, logged_of, shown_over, tables_met, with_between}
+use Rattle.answer_text.specs.Log.{AreActs, AreStatements, Said, acts_over, doing_over, is_of_pool, is_opening, logged_of, runs_plan, shown_over, tables_met, with_between}
 use Rattle.session_run.specs.declared.session.Session.{Session}
 use Rattle.session_run.specs.Progress.{Progress, progress_by, progress_of}
 use Rattle.read_laws.specs.Readings.{AreReadings}
-use Rattle.session_run.specs.Kept.{Stands, opened as placed_now}
+use Rattle.session_run.specs.declared.stage.Stage.{Stage}
+use Rattle.session_run.specs.declared.stage.Stage.TheVariants as stage
+use Rattle.session_run.specs.Kept.{HasBegun, IsStage, Stands, opened as placed_now}
 use Rattle.session_run.specs.Turns.{IsNext, IsNextAct, Order, state_before, who_at}
 use Rattle.session_run.proofs.LogLemmas.{ArePlaced, other_progress, own_progress, place_next, tables_next, tables_stay}
+use Rattle.session_run.proofs.OwnLemmas.{begun_met}
 use Rattle.session_run.proofs.OtherLemmas.{opened_above, readings_count, stands_placed}
 use Rattle.run_sessions.specs.Ordered.{HasOpened, IsInOrder, IsOpenedAs}
 use Rattle.run_sessions.proofs.ActLemmas.{Closes, GoesOnAs, Opens, Pooled, StartsAs, Whole, goes_on_as, pooled_begun, pooled_ended, starts_as}
@@ -38,6 +41,14 @@ new_ordered options x s = record {
   open_ = refl;
 }
 
+not_both : (o : Option ℕ) (at : ℕ) → o ≡ None → o ≡ Some at → ⊥
+not_both None at none some = cc
+not_both (Some n) at none some = cc
+
+true_not_false : (b : Bool) → b ≡ true → b ≡ false → ⊥
+true_not_false true is none = cc
+true_not_false false is none = cc
+
 -- ## The session under other names
 
 module _ (log : List EventTree) (x y : Session) where
@@ -55,6 +66,7 @@ module _ (log : List EventTree) (x y : Session) where
     opens = is.opens;
     between = is.between;
     pool = is.pool;
+    planned = is.planned;
     acts_are = is.acts_are;
   }
 
@@ -107,6 +119,25 @@ module _ (options : PoolOptions) (log : List EventTree) (x : Session) (s : Stand
   opens_later at begun reading first opens =
       subst (λ (db : Db). acts_over db reading ≡ first ∷ Ends (code_of (shown_over db reading)) ∷ []) (sym (met_now at begun)) opens
 
+  -- by the same tables it has a plan, or none
+  planned_later : (at : ℕ) → p.begun ≡ Some at → (reading : Said) (between : List ActTree) → (runs_plan (doing_over (tables_met log x.number (x.ended + 1)) reading) ≡ false → between ≡ [])
+      → runs_plan (doing_over (tables_met later x.number (x.ended + 1)) reading) ≡ false → between ≡ []
+  planned_later at begun reading between planned none = planned (ap (λ (db : Db). runs_plan (doing_over db reading)) (sym (met_now at begun)) ∙ none)
+
+  -- these are the tables by which it began
+  met_begun : (at : ℕ) → p.begun ≡ Some at → tables_met log x.number (x.ended + 1) ≡ (state_before options log at).db
+  met_begun at begun = go x.stage s.stage
+    where
+      by_begin : HasBegun options log x p → tables_met log x.number (x.ended + 1) ≡ (state_before options log at).db
+      by_begin has = begun_met options log x s has ∙ ap (λ n. (state_before options log n).db) (same_Some has.at at (sym has.begun ∙ begun))
+
+      go : (now : Stage) → IsStage options log x p now → tables_met log x.number (x.ended + 1) ≡ (state_before options log at).db
+      go stage.Between none = absurd (not_both p.begun at none begun)
+      go (stage.Reading read) is = absurd (not_both p.begun at is.0 begun)
+      go (stage.Telling reply) is = absurd (not_both p.begun at is.0 begun)
+      go (stage.Querying step) has = by_begin has
+      go (stage.Explaining plan) has = by_begin has
+
   -- ## Of another session
 
   others_opened : (begun : Option ℕ) → p.begun ≡ begun → (acts : List (ℕ × ActTree)) → IsOpenedAs log x begun acts → IsOpenedAs later x begun acts
@@ -120,6 +151,7 @@ module _ (options : PoolOptions) (log : List EventTree) (x : Session) (s : Stand
     opens = opens_later at is has.reading has.first has.opens;
     between = has.between;
     pool = has.pool;
+    planned = planned_later at is has.reading has.between has.planned;
     acts_are = has.acts_are;
   }
 
@@ -215,7 +247,7 @@ module _ (options : PoolOptions) (log : List EventTree) (x : Session) (s : Stand
             let acts : event.act ∷ [] ≡ with_between [] (acts_over (tables_met later x.number (x.ended + 1)) next.reading) = sym (ap (with_between []) (ap (λ (db : Db). acts_over db next.reading) met ∙ over)) in
             let many : x.ended + 1 ≡ y.ended = sym (ended_is ∙ ap (λ a. (progress_by (length log + 1) a p).ended) is ∙ ap (λ n. n + 1) s.ended) in
             ordered_as later (ended_at (x.ended + 1)) y (sym number) (sym pieces) many
-            (finishes (event.act ∷ []) next.reading next.read ([], tt, acts) (ap (λ before. before ++ entry ∷ []) nothing_opened) (ap (λ a. (progress_by (length log + 1) a p).begun) is ∙ none))
+            (finishes (event.act ∷ []) next.reading next.read ([], tt, (λ none. refl), acts) (ap (λ before. before ++ entry ∷ []) nothing_opened) (ap (λ a. (progress_by (length log + 1) a p).begun) is ∙ none))
         starts (Opens code plan is over) =
             let met = met_next (ap is_opening is) in
             let many : x.ended ≡ y.ended = sym (ended_is ∙ ap (λ a. (progress_by (length log + 1) a p).ended) is ∙ s.ended) in
@@ -228,6 +260,7 @@ module _ (options : PoolOptions) (log : List EventTree) (x : Session) (s : Stand
               opens = subst (λ (db : Db). acts_over db next.reading ≡ event.act ∷ Ends (code_of (shown_over db next.reading)) ∷ []) (sym met) over;
               between = [];
               pool = tt;
+              planned = λ none. refl;
               acts_are = refl;
             } in
             ordered_as later x y (sym number) (sym pieces) many
@@ -241,8 +274,23 @@ module _ (options : PoolOptions) (log : List EventTree) (x : Session) (s : Stand
         acts_then : o.opened ++ entry ∷ [] ≡ map with_number (under.first ∷ (under.between ++ event.act ∷ []))
         acts_then = ap (λ before. before ++ entry ∷ []) under.acts_are ∙ sym (map-append with_number (under.first ∷ under.between) (event.act ∷ []))
 
-        goes_on : GoesOnAs event.act → IsInOrder later y
-        goes_on (Pooled is) =
+        text_same : under.piece ≡ next.piece
+        text_same = same_Some under.piece next.piece (sym under.here ∙ text_here)
+
+        read_under : Reads next.piece under.reading
+        read_under = subst (λ piece. Reads piece under.reading) text_same under.read
+
+        reading_same : next.reading ≡ under.reading
+        reading_same = each next.piece next.reading under.reading next.read read_under
+
+        -- where the plan of one reading is run by the state at the Begin, so is that of the other by the tables that it meets
+        runs_later : runs_plan (doing_over (state_before options log at).db next.reading) ≡ true → runs_plan (doing_over (tables_met later x.number (x.ended + 1)) under.reading) ≡ true
+        runs_later runs =
+            ap (λ (db : Db). runs_plan (doing_over db under.reading)) (met_now at is_begun ∙ met_begun at is_begun)
+            ∙ ap (λ (r : Said). runs_plan (doing_over (state_before options log at).db r)) (sym reading_same) ∙ runs
+
+        goes_on : GoesOnAs (runs_plan (doing_over (state_before options log at).db next.reading)) event.act → IsInOrder later y
+        goes_on (Pooled is runs) =
             let many : x.ended ≡ y.ended = sym (ended_is ∙ pooled_ended (length log + 1) event.act p is ∙ s.ended) in
             let has : HasOpened later x (o.opened ++ entry ∷ []) = record {
               piece = under.piece;
@@ -253,20 +301,18 @@ module _ (options : PoolOptions) (log : List EventTree) (x : Session) (s : Stand
               opens = opens_later at is_begun under.reading under.first under.opens;
               between = under.between ++ event.act ∷ [];
               pool = all_append (λ act. is_of_pool act ≡ true) under.between (event.act ∷ []) under.pool (is, tt);
+              planned = λ none. absurd (true_not_false _ (runs_later runs) none);
               acts_are = acts_then;
             } in
             ordered_as later x y (sym number) (sym pieces) many (stays_open at (pooled_begun (length log + 1) event.act p is ∙ is_begun) (o.opened ++ entry ∷ []) has refl)
         goes_on (Closes code is) =
             let many : x.ended + 1 ≡ y.ended = sym (ended_is ∙ ap (λ a. (progress_by (length log + 1) a p).ended) is ∙ ap (λ n. n + 1) s.ended) in
-            let text = same_Some under.piece next.piece (sym under.here ∙ text_here) in
-            let read = subst (λ piece. Reads piece under.reading) text under.read in
-            let reading = each next.piece next.reading under.reading next.read read in
             let last : event.act ≡ Ends (code_of (shown_over (tables_met later x.number (x.ended + 1)) under.reading)) =
-            is ∙ ap Ends (ends code is ∙ (λ i. code_of (shown_over (tables_met log (own i) (numbered i)) (reading i))) ∙ ap (λ (db : Db). code_of (shown_over db under.reading)) (sym (met_now at is_begun))) in
+            is ∙ ap Ends (ends code is ∙ (λ i. code_of (shown_over (tables_met log (own i) (numbered i)) (reading_same i))) ∙ ap (λ (db : Db). code_of (shown_over db under.reading)) (sym (met_now at is_begun))) in
             let acts : under.first ∷ (under.between ++ event.act ∷ []) ≡ with_between under.between (acts_over (tables_met later x.number (x.ended + 1)) under.reading) =
             ap (λ a. under.first ∷ (under.between ++ a ∷ [])) last ∙ sym (ap (with_between under.between) (opens_later at is_begun under.reading under.first under.opens)) in
             ordered_as later (ended_at (x.ended + 1)) y (sym number) (sym pieces) many
-            (finishes (under.first ∷ (under.between ++ event.act ∷ [])) under.reading read (under.between, under.pool, acts) acts_then (ap (λ a. (progress_by (length log + 1) a p).begun) is))
+            (finishes (under.first ∷ (under.between ++ event.act ∷ [])) under.reading read_under (under.between, under.pool, planned_later at is_begun under.reading under.between under.planned, acts) acts_then (ap (λ a. (progress_by (length log + 1) a p).begun) is))
 
       -- they stay in order after an event of its own
       pub own_ordered : IsInOrder later y

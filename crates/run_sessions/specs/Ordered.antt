@@ -1,10 +1,10 @@
 -- The events of a session, in the order of its statements.
-use Rattle.std.specs.Prelude.{◌≡◌, ℕ, ◌+◌, List, [], ◌∷◌, ◌++◌, map, take, true, Option, Some, None, slice_get}
+use Rattle.std.specs.Prelude.{◌≡◌, ℕ, ◌+◌, List, [], ◌∷◌, ◌++◌, map, take, true, false, Option, Some, None, slice_get}
 use Rattle.std.specs.List.{AllByRecursion}
 use Rattle.read_laws.specs.Answered.{Reads}
 use Rattle.run_log.specs.Events.{ActTree, Ends, EventTree}
 use Rattle.reply_layout.specs.Doings.{code_of}
-use Rattle.answer_text.specs.Log.{AreStatements, Said, acts_over, is_of_pool, logged_of, shown_over, tables_met}
+use Rattle.answer_text.specs.Log.{AreStatements, Said, acts_over, doing_over, is_of_pool, logged_of, runs_plan, shown_over, tables_met}
 use Rattle.session_run.specs.declared.session.Session.{Session}
 use Rattle.session_run.specs.Progress.{progress_of}
 use Rattle.read_laws.specs.Readings.{AreReadings}
@@ -19,6 +19,7 @@ pub record HasOpened (log : List EventTree) (x : Session) (acts : List (ℕ × A
   pub opens : acts_over (tables_met log x.number (x.ended + 1)) reading ≡ first ∷ Ends (code_of (shown_over (tables_met log x.number (x.ended + 1)) reading)) ∷ []
   pub between : List ActTree
   pub pool : AllByRecursion (λ act. is_of_pool act ≡ true) between
+  pub planned : runs_plan (doing_over (tables_met log x.number (x.ended + 1)) reading) ≡ false → between ≡ []
   pub acts_are : acts ≡ map {B = ℕ × ActTree} (λ act. (x.ended + 1, act)) (first ∷ between)
 
 abbrev pub IsOpenedAs : List EventTree → Session → Option ℕ → List (ℕ × ActTree) → Type 0

@@ -4,6 +4,7 @@ ghost use Rattle.std.specs.List.{AllByRecursion};
 ghost use Rattle.std.specs.declared.vec.Vec.{Vec as VecSeen};
 ghost use Rattle.std.specs.declared.alloc.Global.{Global as GlobalSeen};
 ghost use Rattle.pool_policy.specs.declared.options.PoolOptions.{PoolOptions as OptionsSeen};
+ghost use Rattle.pool_policy.specs.Scorers.{IsScorerOf};
 ghost use Rattle.run_log.specs.Events.{EventTree, log_tree};
 ghost use Rattle.pool_sound.specs.Sound.{IsSoundAlong};
 ghost use Rattle.session_run.specs.declared.session.Session.{Session as SessionSeen};
@@ -43,8 +44,7 @@ pub fn play_sessions<E: Operate, L: Ledger>(
     requires few { length scripts.items ≤ 16 }
     requires short { AllByRecursion (λ (pieces : List (List ℕ)). length pieces ≤ 256) scripts.items }
     requires turns { AllByRecursion (λ turn. (1 ≤ turn) × (turn ≤ length scripts.items)) turns.now }
-    requires kind { scorer.now.kind ≡ options.evict }
-    requires weights { scorer.now.weights.items ≡ options.weights }
+    requires scorer { IsScorerOf scorer.now options }
     requires places { options.places ≤ 1024 }
     requires budget { options.budget ≤ 2 ^ 40 }
     ensures scheduled { IfOk result (λ run. IsScheduled options scripts.items turns.now (log_tree run.log.items)) }
@@ -97,8 +97,7 @@ fn take_turns<E: Operate, L: Ledger>(
     kernel: &E,
     steps: &mut Steps<L>,
 ) -> Result<(), Memory>
-    requires kind { scorer.now.kind ≡ book.old.options.evict }
-    requires weights { scorer.now.weights.items ≡ book.old.options.weights }
+    requires scorer { IsScorerOf scorer.now book.old.options }
     requires turns { AllByRecursion (λ turn. (1 ≤ turn) × (turn ≤ length sessions.old.items)) turns.now }
     requires standing { AreStanding book.old.options (log_tree book.old.log) sessions.old.items }
     requires in_plan { AreInPlan sessions.old.items }
@@ -122,8 +121,7 @@ fn run_on<E: Operate, L: Ledger>(
     kernel: &E,
     steps: &mut Steps<L>,
 ) -> Result<(), Memory>
-    requires kind { scorer.now.kind ≡ book.old.options.evict }
-    requires weights { scorer.now.weights.items ≡ book.old.options.weights }
+    requires scorer { IsScorerOf scorer.now book.old.options }
     requires inside { place < length sessions.old.items }
     requires standing { AreStanding book.old.options (log_tree book.old.log) sessions.old.items }
     requires in_plan { AreInPlan sessions.old.items }
@@ -149,8 +147,7 @@ fn run_all<E: Operate, L: Ledger>(
     kernel: &E,
     steps: &mut Steps<L>,
 ) -> Result<(), Memory>
-    requires kind { scorer.now.kind ≡ book.old.options.evict }
-    requires weights { scorer.now.weights.items ≡ book.old.options.weights }
+    requires scorer { IsScorerOf scorer.now book.old.options }
     requires standing { AreStanding book.old.options (log_tree book.old.log) sessions.old.items }
     requires in_plan { AreInPlan sessions.old.items }
     ensures ended { OnOk result (HaveEnded book.old book.new sessions.old.items sessions.new.items) }

@@ -5,6 +5,7 @@ ghost use Rattle.session_run.specs.Kept.{Stands};
 ghost use Rattle.session_run.specs.Works.{IsWorked};
 ghost use Rattle.session_run.specs.declared.session.Session.{Session as SessionSeen};
 ghost use Rattle.run_sessions.specs.Tables.{AreInPlan, AreStanding, CountsTurns, HasTurned, HavePlayed, IsOver};
+ghost use Rattle.pool_policy.specs.Scorers.{IsScorerOf};
 
 use bat_core::Operate;
 use book_core::Book;
@@ -24,8 +25,7 @@ fn step<E: Operate, L: Ledger>(
     kernel: &E,
     steps: &mut Steps<L>,
 ) -> Result<bool, Memory>
-    requires kind { scorer.now.kind ≡ book.old.options.evict }
-    requires weights { scorer.now.weights.items ≡ book.old.options.weights }
+    requires scorer { IsScorerOf scorer.now book.old.options }
     requires stands { Stands book.old.options (log_tree book.old.log) session.old }
     requires worked { IsWorked book.old.options (log_tree book.old.log) session.old }
     requires in_plan { session.old.wide ≡ false }
@@ -55,8 +55,7 @@ pub(crate) fn take_turn<E: Operate, L: Ledger>(
     kernel: &E,
     steps: &mut Steps<L>,
 ) -> Result<bool, Memory>
-    requires kind { scorer.now.kind ≡ book.old.options.evict }
-    requires weights { scorer.now.weights.items ≡ book.old.options.weights }
+    requires scorer { IsScorerOf scorer.now book.old.options }
     requires inside { place < length sessions.old.items }
     requires standing { AreStanding book.old.options (log_tree book.old.log) sessions.old.items }
     requires in_plan { AreInPlan sessions.old.items }

@@ -1,24 +1,22 @@
 -- One more event, by itself and under the law.
 use Rattle.std.proofs.Common.{◌≡◌, ℕ, suc, ◌+◌, ◌-◌, ◌≤◌, ◌<◌, List, [], ◌∷◌, ◌++◌, length, Bool, true, false, ◌&&◌, cond, Option, Some, None, inl, inr, refl, ap, sym, ◌∙◌, subst, arith, length-append}
-use Rattle.std.specs.Prelude.{IsSome, drop, fold, take, flat_map, ◌==◌}
+use Rattle.std.specs.Prelude.{drop, fold, take, flat_map, ◌==◌}
 use Rattle.std.specs.List.{AllByRecursion, enumerate_from}
 use Rattle.std.proofs.lemmas.List.{append_assoc, append-nil, take-append-drop, take-append-le}
 use Rattle.std.proofs.lemmas.Bool.{cases_lt, eq-eqb, ne_eqb}
 use Rattle.std.proofs.Math.Seq.{take-append_seam}
 use Rattle.sql_definitions.specs.Effect.{replay}
 use Rattle.pool_policy.specs.declared.options.PoolOptions.{PoolOptions}
-use Rattle.pool_policy.specs.Keeps.{Face}
-use Rattle.pool_policy.specs.Worths.{WorthsStay}
 use Rattle.run_log.specs.Events.{ActTree, Begins, Looks, Admits, Writes, Ends, EventTree, commits, log_tree, tables_at}
-use Rattle.run_log.specs.Fold.{LogState, after, log_start, run_of}
-use Rattle.run_log.specs.Laws.{IsFormedAct, IsSound, MayFollow}
-use Rattle.run_log.proofs.LogLemmas.{logs_tell_holds, run_more}
-use Rattle.run_log.proofs.StepLemmas.{steps_keep_holds}
+use Rattle.run_log.specs.Fold.{run_of}
+use Rattle.run_log.specs.Laws.{IsFormedAct}
+use Rattle.run_log.proofs.LogLemmas.{logs_tell_holds}
 use Rattle.answer_text.specs.Log.{Said, is_opening, is_place, shown_over, statement_place, tables_met}
 use Rattle.reply_layout.specs.Layout.{reply_text}
 use Rattle.answer_text.specs.Layout.{replies_text}
 use Rattle.book_core.specs.BookView.{BookView, and_opened, is_open, opened_by}
-use Rattle.book_core.specs.Lawful.{FollowAll, IsLawful}
+use Rattle.book_core.specs.Lawful.{IsLawful}
+use Rattle.book_core.proofs.LawfulLemmas.{lawful_formed}
 use Rattle.query_keys.specs.Laws.{Remembers}
 use Rattle.query_keys.proofs.RememberLemmas.{remembers}
 use Rattle.session_run.specs.Progress.{Progress, not_begun, progress_after, progress_by, progress_from, progress_of}
@@ -263,74 +261,6 @@ pub state_next : (options : PoolOptions) (log : List EventTree) (event : EventTr
 state_next options log event = ap (run_of options) (taken_last log event)
 
 -- ## The law
-
-follow_parts : (s : LogState) (log : List EventTree) (event : EventTree) → FollowAll s (log ++ event ∷ []) → FollowAll s log × MayFollow (fold after s log) event.act
-follow_parts s [] event all = (tt, all.0)
-follow_parts s (e ∷ log) event all = let more = follow_parts (after s e) log event all.1 in ((all.0, more.0), more.1)
-
-pub lawful_before : (options : PoolOptions) (log : List EventTree) (event : EventTree) → IsLawful options (log ++ event ∷ []) → IsLawful options log
-lawful_before options log event lawful = (follow_parts (log_start options) log event lawful).0
-
-pub lawful_next : (options : PoolOptions) (log : List EventTree) (event : EventTree) → IsLawful options (log ++ event ∷ []) → MayFollow (run_of options log) event.act
-lawful_next options log event lawful = (follow_parts (log_start options) log event lawful).1
-
-follow_sound : (s : LogState) (log : List EventTree) → IsSound s → FollowAll s log → IsSound (fold after s log)
-follow_sound s [] sound all = sound
-follow_sound s (event ∷ log) sound all = follow_sound (after s event) log (steps_keep_holds.sound s event sound all.0) all.1
-
-pub lawful_sound : (options : PoolOptions) (log : List EventTree) → IsLawful options log → IsSound (run_of options log)
-lawful_sound options log lawful = follow_sound (log_start options) log (steps_keep_holds.start options) lawful
-
--- what was given out is worth the same after one more event
-pub worths_next : (options : PoolOptions) (log : List EventTree) (event : EventTree) → IsLawful options (log ++ event ∷ []) → WorthsStay (run_of options log).given (run_of options (log ++ event ∷ [])).given
-worths_next options log event lawful =
-    let s = run_of options log in
-    subst (λ (t : LogState). WorthsStay s.given t.given) (sym (run_more options log event))
-    (steps_keep_holds.stay s event (lawful_sound options log (lawful_before options log event lawful)) (lawful_next options log event lawful))
-
-worths_same : (given : List Face) → WorthsStay given given
-worths_same given id some = refl
-
-worths_on : (a b c : List Face) → WorthsStay a b → WorthsStay b c → WorthsStay a c
-worths_on a b c ab bc id some = let first = ab id some in bc id (subst IsSome (sym first) some) ∙ first
-
-worths_along : (s : LogState) (log : List EventTree) → IsSound s → FollowAll s log → WorthsStay s.given (fold after s log).given
-worths_along s [] sound all = worths_same s.given
-worths_along s (event ∷ log) sound all =
-    worths_on s.given (after s event).given (fold after (after s event) log).given (steps_keep_holds.stay s event sound all.0)
-    (worths_along (after s event) log (steps_keep_holds.sound s event sound all.0) all.1)
-
-follow_halves : (s : LogState) (log more : List EventTree) → FollowAll s (log ++ more) → FollowAll s log × FollowAll (fold after s log) more
-follow_halves s [] more all = (tt, all)
-follow_halves s (event ∷ log) more all = let rest = follow_halves (after s event) log more all.1 in ((all.0, rest.0), rest.1)
-
-fold_halves : (s : LogState) (log more : List EventTree) → fold after s (log ++ more) ≡ fold after (fold after s log) more
-fold_halves s [] more = refl
-fold_halves s (event ∷ log) more = fold_halves (after s event) log more
-
--- and in each later state
-pub worths_stay : (options : PoolOptions) (log : List EventTree) (n : ℕ) → IsLawful options log → WorthsStay (run_of options (take n log)).given (run_of options log).given
-worths_stay options log n lawful =
-    let halves = follow_halves (log_start options) (take n log) (drop n log) (subst (FollowAll (log_start options)) (sym (take-append-drop n log)) lawful) in
-    let sound = follow_sound (log_start options) (take n log) (steps_keep_holds.start options) halves.0 in
-    subst (λ (s : LogState). WorthsStay (run_of options (take n log)).given s.given)
-    (sym (fold_halves (log_start options) (take n log) (drop n log)) ∙ ap (run_of options) (take-append-drop n log))
-    (worths_along (run_of options (take n log)) (drop n log) sound halves.1)
-
-formed_act : (s : LogState) (act : ActTree) → MayFollow s act → IsFormedAct act
-formed_act s (Begins code plan) may = tt
-formed_act s (Looks instr key found) may = tt
-formed_act s (Admits instr key result) may = tt
-formed_act s (Writes None code count) may = tt
-formed_act s (Writes (Some stmt) code count) may = may.0
-formed_act s (Ends code) may = tt
-
-follow_formed : (s : LogState) (log : List EventTree) → FollowAll s log → AllByRecursion (λ (event : EventTree). IsFormedAct event.act) log
-follow_formed s [] all = tt
-follow_formed s (event ∷ log) all = (formed_act s event.act all.0, follow_formed (after s event) log all.1)
-
-pub lawful_formed : (options : PoolOptions) (log : List EventTree) → IsLawful options log → AllByRecursion (λ (event : EventTree). IsFormedAct event.act) log
-lawful_formed options log = follow_formed (log_start options) log
 
 -- a state before remembers
 pub state_remembers : (options : PoolOptions) (log : List EventTree) (at : ℕ) → IsLawful options log → Remembers (state_before options log at) (run_of options log)

@@ -22,7 +22,8 @@ use Rattle.session_run.specs.Progress.{Got, Progress, progress_of}
 use Rattle.read_laws.specs.Readings.{AreReadings}
 use Rattle.session_run.specs.Turns.{Order, state_before}
 use Rattle.session_run.specs.Kept.{HasBegun, IsRun, IsStage, IsStep, IsUnder, Knows, Stands, opened, order_of}
-use Rattle.session_run.proofs.LogLemmas.{ArePlaced, log_long, other_progress, place_stays, placed_other, replies_stay, state_stays, worths_next}
+use Rattle.session_run.proofs.LogLemmas.{ArePlaced, log_long, other_progress, place_stays, placed_other, replies_stay, state_stays}
+use Rattle.book_core.proofs.LawfulLemmas.{worths_later}
 
 -- ## Readings
 
@@ -100,7 +101,7 @@ module _ (options : PoolOptions) (log : List EventTree) (x : Session) (event : E
     said = has.said;
     read = has.read;
     under = subst (λ (s : LogState). IsUnder (order_of x) s (run_of options later).given p.results has.said x.stage) (sym (state_stays options log event has.at (let before = has.within in omega (arith, before))))
-        (under_stays (state_before options log has.at) (run_of options log).given (run_of options later).given (worths_next options log event lawful) (order_of x) p.results has.said x.stage has.under);
+        (under_stays (state_before options log has.at) (run_of options log).given (run_of options later).given (worths_later options log (event ∷ []) lawful) (order_of x) p.results has.said x.stage has.under);
   }
 
   stage_stays : (p : Progress) (at : Stage) → IsStage options log x p at → IsStage options later x p at

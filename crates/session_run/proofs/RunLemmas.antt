@@ -6,24 +6,16 @@ use Rattle.std.proofs.lemmas.Bool.{ne_eqb}
 use Rattle.std.proofs.lemmas.List.{append_assoc, append-nil, take_all}
 use Rattle.pool_policy.specs.declared.options.PoolOptions.{PoolOptions}
 use Rattle.run_log.specs.Events.{EventTree}
-use Rattle.run_log.specs.Fold.{LogState, after, log_start}
 use Rattle.answer_text.specs.Layout.{replies_text}
 use Rattle.answer_text.specs.Log.{Said}
-use Rattle.book_core.specs.Lawful.{FollowAll, IsLawful}
+use Rattle.book_core.specs.Lawful.{IsLawful}
+use Rattle.book_core.proofs.LawfulLemmas.{lawful_front}
 use Rattle.session_run.specs.declared.session.Session.{Session}
 use Rattle.session_run.specs.declared.stage.Stage.TheVariants as stage
 use Rattle.read_laws.specs.Readings.{AreReadings}
 use Rattle.session_run.specs.Turns.{IsDone, IsNext, Order}
 use Rattle.session_run.specs.Kept.{Stands, untold}
 use Rattle.session_run.proofs.OtherLemmas.{others_stay}
-
-follow_front : (s : LogState) (log more : List EventTree) → FollowAll s (log ++ more) → FollowAll s log
-follow_front s [] more all = tt
-follow_front s (event ∷ log) more all = (all.0, follow_front (after s event) log more all.1)
-
--- the front of a lawful log is lawful
-pub lawful_front : (options : PoolOptions) (log more : List EventTree) → IsLawful options (log ++ more) → IsLawful options log
-lawful_front options log more lawful = follow_front (log_start options) log more lawful
 
 -- a session agrees with the log, whatever events of others come next
 pub others_along : (options : PoolOptions) (x : Session) (log more : List EventTree) → IsLawful options (log ++ more) → AllByRecursion (λ (event : EventTree). (event.session == x.number) ≡ false) more

@@ -61,7 +61,8 @@ use Rattle.session_run.specs.Progress.{Asked, Got, Has, Progress, got_by, noted,
 use Rattle.session_run.specs.Turns.{AsReady, InPlan, IsKnown, IsNext, IsNextAct, IsQueryAct, MayAsk, MayOffer, Order, act_of_next, admit_at, key_at, look_at, state_before, who_at}
 use Rattle.session_run.specs.Kept.{AreNoted, HasBegun, IsInTurn, IsNoted, IsRun, IsStage, IsStep, IsUnder, Knows, Stands, order_of, untold}
 use Rattle.session_run.proofs.GainedLemmas.{asked_args, asked_at, asked_knows, asked_owes, asked_serves, asked_turn, asked_was, gained_knows, gained_owes, one_less}
-use Rattle.session_run.proofs.LogLemmas.{lawful_sound, state_remembers, worths_next}
+use Rattle.session_run.proofs.LogLemmas.{state_remembers}
+use Rattle.book_core.proofs.LawfulLemmas.{lawful_sound, worths_later}
 use Rattle.session_run.proofs.NotedLemmas.{ids_front, ids_noted, length_taken, noted_asked, noted_gained}
 use Rattle.session_run.proofs.OtherLemmas.{knows_stays}
 use Rattle.session_run.proofs.OutsideLemmas.{instr_known, later_is, mark_known, next_asks, next_known, next_offers, open_noted, passed_all, restaged, value_known, values_known}
@@ -293,7 +294,7 @@ module _ (options : PoolOptions) (log : List EventTree) (lawful : IsLawful optio
       next_is options log x s asking.piece asking.here asking.said asking.read look look_next,
       goes_stands options log x s look work (stage.Querying to) refl (ap (untold x.ended) is) refl refl refl asking
           (subst (λ m. IsUnder order seen (run_of options later).given (noted m (got_by (length log + 1) (looked_of (look_of now.pool key))) p.results) asking.said (stage.Querying to)) (sym (one_less n))
-          (looked_under (run_of options later).given (worths_next options log (event_by x look) lawful_later) to looks)) (λ has. has),
+          (looked_under (run_of options later).given (worths_later options log (event_by x look ∷ []) lawful_later) to looks)) (λ has. has),
     )
 
   -- ## A query offers
@@ -409,7 +410,7 @@ module _ (options : PoolOptions) (log : List EventTree) (lawful : IsLawful optio
             plan = offers.plan;
             does = offers.does;
             step = (
-              gained_knows since (run_of options admitted).given plan q (knows_stays since now.given (run_of options admitted).given (worths_next options log (event_by x admission) lawful_later) plan q knows)
+              gained_knows since (run_of options admitted).given plan q (knows_stays since now.given (run_of options admitted).given (worths_later options log (event_by x admission ∷ []) lawful_later) plan q knows)
                   n instr at offer.value id to offered.value g given_worth,
               noted_gained p.results q to n instr at knows.under noted_so (obj.Bat offer.value) id q.work g,
               gained_owes order q to n instr at knows.under offer.value id g (λ m is_n. is_n) offers.step.2,

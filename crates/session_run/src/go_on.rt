@@ -7,6 +7,7 @@ ghost use Rattle.session_run.specs.declared.stage.Stage.TheVariants as stage;
 ghost use Rattle.session_run.specs.Kept.{Stands};
 ghost use Rattle.session_run.specs.Stages.{Follows, HasDone, IsReady, at_stage};
 ghost use Rattle.session_run.specs.Works.{CountsInside, IsWorked};
+ghost use Rattle.pool_policy.specs.Scorers.{IsScorerOf};
 
 use crate::session::Session;
 use crate::stage::Stage;
@@ -28,8 +29,7 @@ impl Session {
         scorer: &Scorer,
         step: Step,
     ) -> Result<(), Memory>
-        requires kind { scorer.now.kind ≡ book.old.options.evict }
-        requires weights { scorer.now.weights.items ≡ book.old.options.weights }
+        requires scorer { IsScorerOf scorer.now book.old.options }
         requires stands { Stands book.old.options (log_tree book.old.log) (at_stage self.old (stage.Querying step)) }
         requires worked { IsWorked book.old.options (log_tree book.old.log) (at_stage self.old (stage.Querying step)) }
         requires more { self.old.ended < length self.old.pieces }
@@ -91,8 +91,7 @@ impl Session {
         n: usize,
         offer: Offer,
     ) -> Result<(), Memory>
-        requires kind { scorer.now.kind ≡ book.old.options.evict }
-        requires weights { scorer.now.weights.items ≡ book.old.options.weights }
+        requires scorer { IsScorerOf scorer.now book.old.options }
         requires stands { Stands book.old.options (log_tree book.old.log) (at_stage self.old (stage.Querying (step.Offering query n offer))) }
         requires worked { IsWorked book.old.options (log_tree book.old.log) (at_stage self.old (stage.Querying (step.Offering query n offer))) }
         requires more { self.old.ended < length self.old.pieces }

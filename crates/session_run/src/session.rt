@@ -2,6 +2,7 @@ ghost use Rattle.std.specs.Prelude.{◌≡◌, ℕ, ◌+◌, ◌≤◌, ◌<◌,
 ghost use Rattle.mal_check.specs.Checked.{plan_fault};
 ghost use Rattle.mal_print.specs.Canon.{plan_text};
 ghost use Rattle.pool_policy.specs.declared.options.PoolOptions.{PoolOptions as OptionsSeen};
+ghost use Rattle.pool_policy.specs.Scorers.{IsScorerOf};
 ghost use Rattle.run_log.specs.Events.{log_tree};
 ghost use Rattle.sql_parse.specs.declared.error.ParseError.TheVariants.{Refused};
 ghost use Rattle.sql_definitions.specs.declared.refusal.Refusal.{Refusal as RefusalSeen};
@@ -151,8 +152,7 @@ impl Session {
         kernel: &E,
         steps: &mut Steps<L>,
     ) -> Result<(), Memory>
-        requires kind { scorer.now.kind ≡ book.old.options.evict }
-        requires weights { scorer.now.weights.items ≡ book.old.options.weights }
+        requires scorer { IsScorerOf scorer.now book.old.options }
         requires stands { Stands book.old.options (log_tree book.old.log) self.old }
         requires worked { IsWorked book.old.options (log_tree book.old.log) self.old }
         requires more { self.old.ended < length self.old.pieces }

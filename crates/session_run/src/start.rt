@@ -15,6 +15,7 @@ ghost use Rattle.session_run.specs.Stages.{BeginsWith, HasDone, MayBegin, explai
 ghost use Rattle.session_run.specs.Works.{CountsInside, IsWorked};
 ghost use Rattle.query_run.specs.declared.step.Step.TheVariants as step;
 ghost use Rattle.reply_layout.specs.declared.shown.Shown.TheVariants as shown;
+ghost use Rattle.pool_policy.specs.Scorers.{IsScorerOf};
 
 use crate::session::Session;
 use crate::stage::Stage;
@@ -40,8 +41,7 @@ impl Session {
         kernel: &E,
         steps: &mut Steps<L>,
     ) -> Result<(), Memory>
-        requires kind { scorer.now.kind ≡ book.old.options.evict }
-        requires weights { scorer.now.weights.items ≡ book.old.options.weights }
+        requires scorer { IsScorerOf scorer.now book.old.options }
         requires between { self.old.stage ≡ stage.Between }
         requires stands { Stands book.old.options (log_tree book.old.log) self.old }
         requires worked { IsWorked book.old.options (log_tree book.old.log) self.old }
@@ -92,8 +92,7 @@ impl Session {
         kernel: &E,
         steps: &mut Steps<L>,
     ) -> Result<(), Memory>
-        requires kind { scorer.now.kind ≡ book.old.options.evict }
-        requires weights { scorer.now.weights.items ≡ book.old.options.weights }
+        requires scorer { IsScorerOf scorer.now book.old.options }
         requires between { self.old.stage ≡ stage.Between }
         requires stands { Stands book.old.options (log_tree book.old.log) self.old }
         requires worked { IsWorked book.old.options (log_tree book.old.log) self.old }
@@ -125,8 +124,7 @@ impl Session {
         kernel: &E,
         steps: &mut Steps<L>,
     ) -> Result<(), Memory>
-        requires kind { scorer.now.kind ≡ book.old.options.evict }
-        requires weights { scorer.now.weights.items ≡ book.old.options.weights }
+        requires scorer { IsScorerOf scorer.now book.old.options }
         requires between { self.old.stage ≡ stage.Between }
         requires stands { Stands book.old.options (log_tree book.old.log) self.old }
         requires worked { IsWorked book.old.options (log_tree book.old.log) self.old }

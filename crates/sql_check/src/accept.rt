@@ -121,8 +121,9 @@ fn sources_of(alloc: Global, stmt: &Stmt, schema: &Schema) -> Result<Sequence<So
     }
 }
 
-/// An accepted statement with the tables that it names.
-fn typed_over(alloc: Global, stmt: &Stmt, schema: &Schema) -> Result<Typed, Memory>
+/// An accepted statement with the tables that it names, for callers that have asked `refusal_of`
+/// before. A schema with a table of 2^32 columns or more fails with `Memory`.
+pub fn typed_over(alloc: Global, stmt: &Stmt, schema: &Schema) -> Result<Typed, Memory>
     requires formed { IsFormed (stmt_tree stmt.now) }
     requires accepted { check_refusal (stmt_tree stmt.now) schema.now ≡ None }
     ensures statement { IfOk result (λ typed. stmt_tree typed.stmt ≡ stmt_tree stmt.now) }

@@ -2,8 +2,9 @@
 //!
 //! It builds on `sql_definitions`, whose definition of the check `check` computes exactly: the first
 //! of a statement's refusals, in their order, or the statement with the tables that it names.
-//! `refusal_of` returns the refusal alone. The only other answer is that memory ran out. Kinds are
-//! those of `cell_calc`. Each part is looked at once.
+//! `refusal_of` returns the refusal alone, and `typed_over` the statement with its tables, where it
+//! is known to be accepted. The only other answer is that memory ran out. Kinds are those of
+//! `cell_calc`. Each part is looked at once.
 #![tactic(auto)]
 
 mod accept;
@@ -16,5 +17,5 @@ mod names;
 mod query;
 mod references;
 
-pub use accept::{check, refusal_of};
+pub use accept::{check, refusal_of, typed_over};
 pub use error::CheckError;

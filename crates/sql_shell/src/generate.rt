@@ -7,6 +7,7 @@ ghost use Rattle.score_hook.specs.declared.stats.Evict.TheVariants.{Lru};
 ghost use Rattle.score_hook.specs.Scores.{IsInRange, score_of};
 ghost use Rattle.sql_shell.specs.Generated as told;
 ghost use Rattle.sql_shell.specs.Generated.{IsGenerated};
+ghost use Rattle.pool_policy.specs.Scorers.{IsScorerOf};
 
 use crate::numbers::numbers_are_short;
 use crate::produce::{Produced, pool_for};
@@ -81,8 +82,7 @@ fn replay_samples<E: Operate, L: Ledger>(
     steps: &mut Steps<L>,
 ) -> Result<Produced, Memory>
     requires seed { seed ≤ 1000000 }
-    requires kind { scorer.now.kind ≡ Lru }
-    requires weights { scorer.now.weights.items ≡ [] }
+    requires scorer { IsScorerOf scorer.now told.default_pool }
     ensures { IfOk result (λ run. IsGenerated seed run.text.items (log_tree run.log) run.work steps.old steps.new) }
 {
     let SampleScripts { changes, queries } = sample_scripts(alloc, seed)?;

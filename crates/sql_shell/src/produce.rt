@@ -9,6 +9,7 @@ ghost use Rattle.score_hook.specs.Scores.{AreWeights, IsInRange, score_of};
 ghost use Rattle.sql_shell.specs.Scripts.{names_of, pieces_in};
 ghost use Rattle.sql_shell.specs.Ready.{AreReady, IsServedBy};
 ghost use Rattle.sql_shell.specs.Served.{pool_of, texts_under};
+ghost use Rattle.pool_policy.specs.Scorers.{IsScorerOf};
 
 use crate::numbers::numbers_are_short;
 use crate::runner::SessionRunner;
@@ -121,8 +122,7 @@ fn play<C: SessionRunner, E: Operate + Sync, L: Ledger>(
     kernel: &E,
     steps: &mut Steps<L>,
 ) -> Result<Produced, Memory>
-    requires kind { scorer.now.kind ≡ options.evict }
-    requires weights { scorer.now.weights.items ≡ options.weights }
+    requires scorer { IsScorerOf scorer.now (pool_of options) }
     requires ready { AreReady options scripts.items (C.course runner.now) }
     ensures { IfOk result (λ run. IsServedBy options scripts.items (C.course runner.now) run.text.items (log_tree run.log) run.work steps.old steps.new) }
 {

@@ -11,6 +11,7 @@ ghost use Rattle.sql_shell.specs.declared.inputs.Course.{Course as CourseSeen};
 ghost use Rattle.sql_shell.specs.declared.inputs.Course.TheVariants.{ByTurns};
 ghost use Rattle.sql_shell.specs.Inputs.{AreTurnsOf};
 ghost use Rattle.sql_shell.specs.Served.{IsMade};
+ghost use Rattle.pool_policy.specs.Scorers.{IsScorerOf};
 
 use bat_core::Operate;
 use cell_core::{Memory, Sequence, Steps, Word};
@@ -38,8 +39,7 @@ pub trait SessionRunner {
         requires few { length scripts.items ≤ 16 }
         requires short { AllByRecursion (λ (pieces : List (List ℕ)). length pieces ≤ 256) scripts.items }
         requires turns { AreTurnsOf (length scripts.items) (course self.now) }
-        requires kind { scorer.now.kind ≡ pool.evict }
-        requires weights { scorer.now.weights.items ≡ pool.weights }
+        requires scorer { IsScorerOf scorer.now pool }
         requires places { pool.places ≤ 1024 }
         requires budget { pool.budget ≤ 2 ^ 40 }
         ensures made { IfOk result (λ run. IsMade pool scripts.items (course self.now) (log_tree run.log.items) steps.old steps.new) }

@@ -8,6 +8,7 @@ ghost use Rattle.score_hook.specs.declared.stats.Evict.TheVariants.{Weighted};
 ghost use Rattle.score_hook.specs.Scores.{AreWeights, IsInRange, score_of};
 ghost use Rattle.sql_shell.specs.declared.inputs.Course.TheVariants.{InThreads};
 ghost use Rattle.sql_shell.specs.Ready.{AreReady, IsServedBy};
+ghost use Rattle.pool_policy.specs.Scorers.{IsScorerOf};
 
 use crate::numbers::numbers_are_short;
 use crate::produce::{Parts, Produced, pool_for, print_run, split};
@@ -133,8 +134,7 @@ fn play_in_threads<R: Threads + Wait + Sync, E: Operate + Sync>(
     scorer: &Scorer,
     kernel: &E,
 ) -> Result<Produced, Memory>
-    requires kind { scorer.now.kind ≡ options.evict }
-    requires weights { scorer.now.weights.items ≡ options.weights }
+    requires scorer { IsScorerOf scorer.now (pool_of options) }
     requires ready { AreReady options scripts.items (InThreads workers) }
     ensures { IfOk result (λ run. (before after : ℕ) → IsServedBy options scripts.items (InThreads workers) run.text.items (log_tree run.log) run.work before after) }
 {

@@ -22,7 +22,7 @@ use Rattle.session_run.specs.Works.{IsWorked}
 use Rattle.session_run.proofs.DoesLemmas.{done_log}
 use Rattle.session_run.proofs.MoveLemmas.{moved_stands, moved_worked}
 use Rattle.session_run.proofs.OtherLemmas.{others_stay}
-use Rattle.session_run.proofs.RunLemmas.{lawful_front}
+use Rattle.book_core.proofs.LawfulLemmas.{lawful_front}
 use Rattle.session_run.proofs.StageLemmas.{computed_stands}
 use Rattle.session_run.proofs.WorkLemmas.{others_worked}
 use Rattle.session_run.proofs.WorkedLemmas.{computed_worked}

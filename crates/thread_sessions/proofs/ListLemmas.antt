@@ -1,11 +1,12 @@
 -- The entries of a list that are of one session.
-use Rattle.std.proofs.Common.{◌≡◌, ℕ, zero, suc, ◌≤◌, ◌<◌, List, [], ◌∷◌, ◌++◌, length, cond, Bool, true, false, Some, Option, refl, ap, sym, ◌∙◌, arith, ◌⊎◌, inl, inr}
+use Rattle.std.proofs.Common.{◌≡◌, ℕ, ◌≤◌, ◌<◌, List, [], ◌∷◌, ◌++◌, length, cond, Bool, true, false, Some, Option, refl, ap, sym, ◌∙◌, arith, ◌⊎◌, inl, inr}
 use Rattle.std.specs.Prelude.{slice_get, unwrap_or, ◌==◌}
 use Rattle.std.specs.List.{AllByRecursion}
 use Rattle.std.proofs.lemmas.Bool.{cases_lt, eq-eqb}
 use Rattle.std.proofs.lemmas.List.{append_assoc, append-nil, length-append}
 use Rattle.std.proofs.lemmas.List.Elements.{filter-append}
 use Rattle.std.proofs.lemmas.Option.{slice_get_within}
+use Rattle.cell_core.proofs.ListLemmas.{slice_get-append_left, slice_get-append_middle}
 use Rattle.run_log.specs.declared.event.Event.{Event}
 use Rattle.run_log.specs.Events.{EventTree, log_tree}
 use Rattle.turn_hall.specs.Entries.{StartsWith, entries_by}
@@ -58,28 +59,14 @@ others_behind session seen rest same = none_by session rest (nothing_behind (ent
 -- ## Places
 
 module _ {X : Type 0} where
-  get_front : (xs : List X) (y : X) (n : ℕ) → n < length xs → slice_get (xs ++ y ∷ []) n ≡ slice_get xs n
-  get_front [] y n low = absurd (let no : ⊥ = omega (arith, low) in no)
-  get_front (x ∷ xs) y zero low = refl
-  get_front (x ∷ xs) y (suc n) low = get_front xs y n (omega (arith, low))
-
-  get_last : (xs : List X) (y : X) → slice_get (xs ++ y ∷ []) (length xs) ≡ Some y
-  get_last [] y = refl
-  get_last (x ∷ xs) y = get_last xs y
-
   -- an element of a list with one more is one of the list, or that one
   pub at_more : {P : Type 0} (xs : List X) (y : X) (n : ℕ) (z : X) → slice_get (xs ++ y ∷ []) n ≡ Some z → (n < length xs → slice_get xs n ≡ Some z → P) → (n ≡ length xs → y ≡ z → P) → P
   at_more {P = P} xs y n z there first last = go (cases_lt n (length xs))
     where
       go : (n < length xs) ⊎ (length xs ≤ n) → P
-      go (inl low) = first low (sym (get_front xs y n low) ∙ there)
+      go (inl low) = first low (sym (slice_get-append_left xs (y ∷ []) n low) ∙ there)
       go (inr high) =
           let within = slice_get_within (xs ++ y ∷ []) n z there in
           let long = length-append xs (y ∷ []) in
           let is : n ≡ length xs = omega (arith, high, within, long) in
-          last is (ap (λ (o : Option X). unwrap_or o y) (sym (get_last xs y) ∙ ap (slice_get (xs ++ y ∷ [])) (sym is) ∙ there))
-
-  -- the element at the seam of two lists
-  pub get_seam : (xs : List X) (y : X) (ys : List X) → slice_get (xs ++ y ∷ ys) (length xs) ≡ Some y
-  get_seam [] y ys = refl
-  get_seam (x ∷ xs) y ys = get_seam xs y ys
+          last is (ap (λ (o : Option X). unwrap_or o y) (sym (slice_get-append_middle xs y []) ∙ ap (slice_get (xs ++ y ∷ [])) (sym is) ∙ there))

@@ -7,6 +7,7 @@ use Rattle.std.proofs.Math.Seq.{take-append_seam}
 use Rattle.std.proofs.lemmas.Bool.{cases_lt, eq-eqb}
 use Rattle.std.proofs.lemmas.List.{append-nil, map-append}
 use Rattle.std.proofs.lemmas.Option.{slice_get-map, slice_get_within}
+use Rattle.cell_core.proofs.ListLemmas.{slice_get-append_middle}
 use Rattle.pool_policy.specs.declared.options.PoolOptions.{PoolOptions}
 use Rattle.run_log.specs.declared.event.Event.{Event}
 use Rattle.run_log.specs.declared.event.Totals.{Totals}
@@ -25,7 +26,7 @@ use Rattle.run_sessions.proofs.SumLemmas.{IsOfOne}
 use Rattle.thread_sessions.specs.Runners.{IsAt, session_of}
 use Rattle.thread_sessions.specs.Runs.{AreSet, HasNoneBeside, HaveSeen, IsRunOut, order_for}
 use Rattle.thread_sessions.proofs.AlongLemmas.{seen_at}
-use Rattle.thread_sessions.proofs.ListLemmas.{get_seam, none_first, none_more}
+use Rattle.thread_sessions.proofs.ListLemmas.{none_first, none_more}
 
 there_is : {X : Type 0} (xs : List X) (n : ℕ) → n < length xs → (x : X) × (slice_get xs n ≡ Some x)
 there_is [] n low = absurd (let no : ⊥ = omega (arith, low) in no)
@@ -111,7 +112,7 @@ module _ (workers : ℕ) (options : PoolOptions) (log : List EventTree) (session
       let stood = at (event.session - 1) x there.1 in
       let counts : (event.session - 1) + 1 ≡ event.session = omega (arith, low) in
       let number = stood.0 ∙ counts in
-      let here : slice_get log (length front) ≡ Some event = ap (λ l. slice_get l (length front)) is ∙ get_seam front event back in
+      let here : slice_get log (length front) ≡ Some event = ap (λ l. slice_get l (length front)) is ∙ slice_get-append_middle front event back in
       let before_it : take (length front) log ≡ front = ap (take (length front)) is ∙ take-append_seam front (event ∷ back) in
       let next = stood.1.does (length front) event here (sym number) in
       Does (turns_of front) front event.session x.pieces event before low (script_at (event.session - 1) x there.1)

@@ -6,6 +6,7 @@ ghost use Rattle.book_core.specs.Lawful.{IsLawful};
 ghost use Rattle.pool_sound.specs.Sound.{IsSoundAlong};
 ghost use Rattle.session_run.specs.Stages.{Follows, IsReady};
 ghost use Rattle.thread_sessions.specs.Runners.{AddsEvent, HasSeen, IsAt, session_of};
+ghost use Rattle.pool_policy.specs.Scorers.{IsScorerOf};
 
 use bat_core::Operate;
 use book_core::Book;
@@ -89,8 +90,7 @@ impl<K: HasOptions> SharedBook<K> {
         kernel: &E,
         steps: &mut Steps<L>,
     ) -> Result<(), Memory>
-        requires kind { scorer.now.kind ≡ K.options.evict }
-        requires weights { scorer.now.weights.items ≡ K.options.weights }
+        requires scorer { IsScorerOf scorer.now K.options }
         requires at { IsAt K.options (log_tree self.old.book.log) session.old }
         requires more { session.old.ended < length session.old.pieces }
         requires ready { IsReady session.old.stage }

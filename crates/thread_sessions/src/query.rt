@@ -8,6 +8,7 @@ ghost use Rattle.session_run.specs.declared.stage.Stage.TheVariants as stage;
 ghost use Rattle.session_run.specs.Stages.{IsAside};
 ghost use Rattle.thread_sessions.specs.Crews.{CanDo, DoesEvents, HasDone, HasEnded, IsCrew, IsCrewed, IsSound, basis_of, valued_in};
 ghost use Rattle.thread_sessions.specs.Runs.{HasRunOn, IsRunner};
+ghost use Rattle.pool_policy.specs.Scorers.{IsScorerOf};
 
 use crate::crew::{Crew, Tools};
 use crate::kept::{HasOptions, SharedBook};
@@ -40,16 +41,14 @@ pub(crate) fn run_query<K: HasOptions, R: Threads + Wait + Sync, E: Operate + Sy
     steps: &mut Steps<L>,
     workers: u32,
 ) -> Result<Runner<SharedBook<K>>, Memory>
-    requires kind { scorer.now.kind ≡ K.options.evict }
-    requires weights { scorer.now.weights.items ≡ K.options.weights }
+    requires scorer { IsScorerOf scorer.now K.options }
     requires runner { IsRunner K.options hall.now runner }
     requires wide { runner.session.wide ≡ true }
     requires begun { (q : QuerySeen) × (runner.session.stage ≡ stage.Querying (step.Begun q)) }
     ensures { IfOk result (HasRunOn K.options hall.now runner) }
 {
     let event = |runner: &mut Runner<SharedBook<K>>| -> Result<(), Memory>
-        requires kind { scorer.now.kind ≡ K.options.evict }
-        requires weights { scorer.now.weights.items ≡ K.options.weights }
+        requires scorer { IsScorerOf scorer.now K.options }
         requires can { CanDo K.options hall.now runner.old }
         ensures { OnOk result (HasDone K.options hall.entry.now runner.old runner.new) }
     { next_event(rt, alloc, hall, runner, scorer, kernel) };

@@ -6,6 +6,7 @@ ghost use Rattle.session_run.specs.declared.stage.Stage.TheVariants as stage;
 ghost use Rattle.session_run.specs.Stages.{IsAside, MayBegin};
 ghost use Rattle.thread_sessions.specs.Crews.{CanDo, HasDone};
 ghost use Rattle.thread_sessions.specs.Runs.{HasRunOn, HasRunOut, IsRunner};
+ghost use Rattle.pool_policy.specs.Scorers.{IsScorerOf};
 
 use crate::kept::{HasOptions, SharedBook};
 use crate::query::run_query;
@@ -57,8 +58,7 @@ pub(crate) fn next_event<K: HasOptions, R: Wait, E: Operate>(
     scorer: &Scorer,
     kernel: &E,
 ) -> Result<(), Memory>
-    requires kind { scorer.now.kind ≡ K.options.evict }
-    requires weights { scorer.now.weights.items ≡ K.options.weights }
+    requires scorer { IsScorerOf scorer.now K.options }
     requires can { CanDo K.options hall.now runner.old }
     ensures { OnOk result (HasDone K.options hall.now runner.old runner.new) }
 {
@@ -78,8 +78,7 @@ fn counted_event<K: HasOptions, R: Wait, E: Operate, L: Ledger>(
     requires name { blank.name ≡ L.name }
     requires parts { blank.parts ≡ L.parts }
     requires some { 0 < blank.parts }
-    requires kind { scorer.now.kind ≡ K.options.evict }
-    requires weights { scorer.now.weights.items ≡ K.options.weights }
+    requires scorer { IsScorerOf scorer.now K.options }
     requires can { CanDo K.options hall.now runner.old }
     ensures { OnOk result (HasDone K.options hall.now runner.old runner.new) }
 {
@@ -115,8 +114,7 @@ fn run_begun<K: HasOptions, R: Threads + Wait + Sync, E: Operate + Sync, L: Ledg
     steps: &mut Steps<L>,
     workers: u32,
 ) -> Result<Runner<SharedBook<K>>, Memory>
-    requires kind { scorer.now.kind ≡ K.options.evict }
-    requires weights { scorer.now.weights.items ≡ K.options.weights }
+    requires scorer { IsScorerOf scorer.now K.options }
     requires runner { IsRunner K.options hall.now runner }
     requires wide { runner.session.wide ≡ true }
     requires begins { MayBegin runner.session.stage }
@@ -142,8 +140,7 @@ fn run_counted<K: HasOptions, R: Threads + Wait + Sync, E: Operate + Sync, L: Le
     requires name { blank.name ≡ L.name }
     requires parts { blank.parts ≡ L.parts }
     requires some { 0 < blank.parts }
-    requires kind { scorer.now.kind ≡ K.options.evict }
-    requires weights { scorer.now.weights.items ≡ K.options.weights }
+    requires scorer { IsScorerOf scorer.now K.options }
     requires runner { IsRunner K.options hall.now runner }
     requires wide { runner.session.wide ≡ nat_lt 1 workers }
     requires begins { MayBegin runner.session.stage }
@@ -181,8 +178,7 @@ pub(crate) fn run_to_end<K: HasOptions, R: Threads + Wait + Sync, E: Operate + S
     kernel: &E,
     workers: u32,
 ) -> Result<Runner<SharedBook<K>>, Memory>
-    requires kind { scorer.now.kind ≡ K.options.evict }
-    requires weights { scorer.now.weights.items ≡ K.options.weights }
+    requires scorer { IsScorerOf scorer.now K.options }
     requires runner { IsRunner K.options hall.now runner }
     requires wide { runner.session.wide ≡ nat_lt 1 workers }
     requires begins { MayBegin runner.session.stage }

@@ -10,6 +10,7 @@ ghost use Rattle.session_run.specs.Work.{run_totals};
 ghost use Rattle.session_run.specs.Stages.{MayBegin};
 ghost use Rattle.run_sessions.specs.Tables.{AreOver, AreTexts, scripts_of};
 ghost use Rattle.thread_sessions.specs.Runs.{AreJoined, AreRunners, AreSet, HasRunOut, IsFirst, IsRunOut, IsRunner, order_for, sessions_of};
+ghost use Rattle.pool_policy.specs.Scorers.{IsScorerOf};
 
 use crate::end::end_run;
 use crate::kept::{HasOptions, SharedBook};
@@ -41,8 +42,7 @@ pub fn serve_sessions<R: Threads + Wait + Sync, E: Operate + Sync>(
 ) -> Result<Run, Memory>
     requires few { length scripts.items ≤ 16 }
     requires short { AllByRecursion (λ (pieces : List (List ℕ)). length pieces ≤ 256) scripts.items }
-    requires kind { scorer.now.kind ≡ options.evict }
-    requires weights { scorer.now.weights.items ≡ options.weights }
+    requires scorer { IsScorerOf scorer.now options }
     requires places { options.places ≤ 1024 }
     requires budget { options.budget ≤ 2 ^ 40 }
     ensures played { IfOk result (λ run. IsRunOut (order_for workers) options scripts.items (log_tree run.log.items)) }
@@ -67,8 +67,7 @@ fn serve<K: HasOptions + Send + Sync, R: Threads + Wait + Sync, E: Operate + Syn
     requires options { options ≡ K.options }
     requires few { length scripts.items ≤ 16 }
     requires short { AllByRecursion (λ (pieces : List (List ℕ)). length pieces ≤ 256) scripts.items }
-    requires kind { scorer.now.kind ≡ K.options.evict }
-    requires weights { scorer.now.weights.items ≡ K.options.weights }
+    requires scorer { IsScorerOf scorer.now K.options }
     requires places { options.places ≤ 1024 }
     requires budget { options.budget ≤ 2 ^ 40 }
     ensures played { IfOk result (λ run. IsRunOut (order_for workers) K.options scripts.items (log_tree run.log.items)) }
@@ -126,8 +125,7 @@ fn run_each<K: HasOptions + Send + Sync, R: Threads + Wait + Sync, E: Operate + 
     kernel: &E,
     workers: u32,
 ) -> Result<Vec<Result<Runner<SharedBook<K>>, Memory>>, Memory>
-    requires kind { scorer.now.kind ≡ K.options.evict }
-    requires weights { scorer.now.weights.items ≡ K.options.weights }
+    requires scorer { IsScorerOf scorer.now K.options }
     requires runners { All (λ runner. IsRunner K.options hall.now runner × (runner.session.wide ≡ nat_lt 1 workers) × MayBegin runner.session.stage) runners.items }
     ensures length { IfOk result (λ ended. length ended.items ≡ length runners.items) }
     ensures each { IfOk result (λ ended. (place : ℕ) (r : _) (runner : _) → place < length runners.items → IfOk (slice_index_or ended.items place r) (λ after. HasRunOut K.options hall.now (slice_index_or runners.items place runner) after)) }
@@ -164,8 +162,7 @@ fn run_all<K: HasOptions + Send + Sync, R: Threads + Wait + Sync, E: Operate + S
     kernel: &E,
     workers: u32,
 ) -> Result<Vec<Runner<SharedBook<K>>>, Memory>
-    requires kind { scorer.now.kind ≡ K.options.evict }
-    requires weights { scorer.now.weights.items ≡ K.options.weights }
+    requires scorer { IsScorerOf scorer.now K.options }
     requires runners { AreRunners K.options hall.now runners.items }
     requires set { AreSet (nat_lt 1 workers) (sessions_of runners.items) }
     ensures length { IfOk result (λ ended. length ended.items ≡ length runners.items) }

@@ -4,6 +4,7 @@ ghost use Rattle.turn_hall.specs.Passes.{IsPassOf};
 ghost use Rattle.session_run.specs.Stages.{Follows, GoesInPlan, IsAside, IsReady, MayBegin};
 ghost use Rattle.run_sessions.specs.Tables.{IsOver};
 ghost use Rattle.thread_sessions.specs.Runners.{HasOneMore, IsWith};
+ghost use Rattle.pool_policy.specs.Scorers.{IsScorerOf};
 
 use crate::kept::{HasOptions, SharedBook};
 use bat_core::Operate;
@@ -26,8 +27,7 @@ pub(crate) fn do_event<K: HasOptions, R: Wait, E: Operate, L: Ledger>(
     kernel: &E,
     steps: &mut Steps<L>,
 ) -> Result<(), Memory>
-    requires kind { scorer.now.kind ≡ K.options.evict }
-    requires weights { scorer.now.weights.items ≡ K.options.weights }
+    requires scorer { IsScorerOf scorer.now K.options }
     requires ours { IsPassOf hall.now pass.old }
     requires stands { IsWith K.options pass.old session.old }
     requires more { session.old.ended < length session.old.pieces }
@@ -67,8 +67,7 @@ pub fn take_turn<K: HasOptions, R: Wait, E: Operate, L: Ledger>(
     kernel: &E,
     steps: &mut Steps<L>,
 ) -> Result<bool, Memory>
-    requires kind { scorer.now.kind ≡ K.options.evict }
-    requires weights { scorer.now.weights.items ≡ K.options.weights }
+    requires scorer { IsScorerOf scorer.now K.options }
     requires ours { IsPassOf hall.now pass.old }
     requires stands { IsWith K.options pass.old session.old }
     requires in_plan { GoesInPlan session.old session.old.stage }

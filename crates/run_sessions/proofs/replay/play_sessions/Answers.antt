@@ -20,8 +20,7 @@ take_turns-requires g c =
     let start = c.in_ok-book.ensures in
     let made = c.in_ok-sessions.ensures in
     record {
-      kind = c.requires.kind ∙ ap (λ (b : BookView). b.options.evict) (sym start);
-      weights = c.requires.weights ∙ ap (λ (b : BookView). b.options.weights) (sym start);
+      scorer = c.requires.scorer ∙ ap (λ (b : BookView). (b.options.evict, b.options.weights)) (sym start);
       turns = subst (λ n. AllByRecursion (λ (turn : ℕ). (1 ≤ turn) × (turn ≤ n)) c.args.turns.now) (ap length (sym made.scripts) ∙ length-map sessions (λ (z : Session). z.pieces)) c.requires.turns;
       standing = subst (λ (log : List EventTree). AreStanding book.options log sessions) (ap (λ (b : BookView). log_tree b.log) (sym start)) (made.standing book.options);
       in_plan = made.in_plan;
@@ -32,8 +31,7 @@ run_all-requires g c =
     let start = c.in_ok-book.ensures in
     let played = c.in_ok-take_turns.ensures.played in
     record {
-      kind = c.requires.kind ∙ ap (λ (b : BookView). b.options.evict) (sym start) ∙ ap (λ (o : PoolOptions). o.evict) (sym played.options);
-      weights = c.requires.weights ∙ ap (λ (b : BookView). b.options.weights) (sym start) ∙ ap (λ (o : PoolOptions). o.weights) (sym played.options);
+      scorer = c.requires.scorer ∙ ap (λ (b : BookView). (b.options.evict, b.options.weights)) (sym start) ∙ ap (λ (o : PoolOptions). (o.evict, o.weights)) (sym played.options);
       standing = played.standing;
       in_plan = played.in_plan;
     }

@@ -16,8 +16,7 @@ run_on-requires g c =
     let same = played_length c.args.book.now c.sessions.book c.args.sessions.now.items c.sessions.sessions.items _ played in
     let low = c.sessions-test.true in
     record {
-      kind = c.requires.kind ∙ ap (λ (o : PoolOptions). o.evict) (sym played.options);
-      weights = c.requires.weights ∙ ap (λ (o : PoolOptions). o.weights) (sym played.options);
+      scorer = c.requires.scorer ∙ ap (λ (o : PoolOptions). (o.evict, o.weights)) (sym played.options);
       inside = omega (arith, low, same);
       standing = played.standing;
       in_plan = played.in_plan;

@@ -21,8 +21,7 @@ take_turn-requires g c =
     let high = turn.1 in
     let same = played_length c.args.book.now c.turns.book c.args.sessions.now.items c.turns.sessions.items (take c.turns.i c.args.turns.now) played in
     record {
-      kind = c.requires.kind ∙ ap (λ (o : PoolOptions). o.evict) (sym played.options);
-      weights = c.requires.weights ∙ ap (λ (o : PoolOptions). o.weights) (sym played.options);
+      scorer = c.requires.scorer ∙ ap (λ (o : PoolOptions). (o.evict, o.weights)) (sym played.options);
       inside = omega (arith, low, high, same);
       standing = played.standing;
       in_plan = played.in_plan;

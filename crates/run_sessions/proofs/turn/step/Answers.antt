@@ -38,8 +38,7 @@ inside-requires g c =
     let computed = c.in_ok-outside.ensures.computed in
     let more : c.outside.new.self.ended < length c.outside.new.self.pieces = leb-false (length c.outside.new.self.pieces) c.outside.new.self.ended (sym c.done.ensures ∙ c.if-done.false) in
     record {
-      kind = c.requires.kind;
-      weights = c.requires.weights;
+      scorer = c.requires.scorer;
       stands = computed_stands book.options log c.args.session.now c.requires.stands (in_plan_goes c.args.session.now c.requires.in_plan) c.outside.new.self computed;
       worked = computed_worked book.options log c.args.session.now c.requires.stands c.requires.worked c.outside.new.self computed;
       more = more;

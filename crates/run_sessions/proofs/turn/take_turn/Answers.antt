@@ -9,7 +9,7 @@ step-requires g c =
     let x = c.index_mut.result.now in
     let here = slice_get_read c.args.sessions.now.items _ c.args.place x refl c.requires.inside c.index_mut.ensures.value in
     let stood = c.requires.standing c.args.place x here in
-    record { kind = c.requires.kind; weights = c.requires.weights; stands = stood.1; worked = stood.2; in_plan = c.requires.in_plan c.args.place x here }
+    record { scorer = c.requires.scorer; stands = stood.1; worked = stood.2; in_plan = c.requires.in_plan c.args.place x here }
 
 pub returns : goal.returns
 returns g c =

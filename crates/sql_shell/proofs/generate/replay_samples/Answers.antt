@@ -21,11 +21,8 @@ play_sessions-requires-clause-short g c =
     let items = two_pushed made.changes made.queries c.new-scripts.result.items c.push.new.self.items c.push-2.new.self.items c.new-scripts.ensures.items c.in_ok-push.ensures.items c.in_ok-push-2.ensures.items in
     subst (AllByRecursion (λ (pieces : List (List ℕ)). length pieces ≤ 256)) (sym items) (few.0, (few.1, tt))
 
-pub play_sessions-requires-clause-kind : goal.play_sessions-requires-clause-kind
-play_sessions-requires-clause-kind g c = c.requires.kind ∙ ap (λ (o : PoolOptions). o.evict) (sym c.default_pool-pool.ensures)
-
-pub play_sessions-requires-clause-weights : goal.play_sessions-requires-clause-weights
-play_sessions-requires-clause-weights g c = c.requires.weights ∙ ap (λ (o : PoolOptions). o.weights) (sym c.default_pool-pool.ensures)
+pub play_sessions-requires-clause-scorer : goal.play_sessions-requires-clause-scorer
+play_sessions-requires-clause-scorer g c = c.requires.scorer ∙ ap (λ (o : PoolOptions). (o.evict, o.weights)) (sym c.default_pool-pool.ensures)
 
 pub returns : goal.returns
 returns g c =

@@ -25,11 +25,8 @@ run_scripts-requires-clause-turns g c =
     let many : length c.in_ok-names.field-0.scripts.items ≡ length scripts = ap length c.in_ok-names.ensures.scripts ∙ length-map scripts (λ (s : CutScript). s.pieces) in
     subst (λ n. AreTurnsOf n (g.C.SessionRunner.course c.args.runner.now)) (sym many) c.requires.ready.turns
 
-pub run_scripts-requires-clause-kind : goal.run_scripts-requires-clause-kind
-run_scripts-requires-clause-kind g c = c.requires.kind ∙ ap (λ (o : PoolOptions). o.evict) (sym c.pool_for-pool.ensures)
-
-pub run_scripts-requires-clause-weights : goal.run_scripts-requires-clause-weights
-run_scripts-requires-clause-weights g c = c.requires.weights ∙ ap (λ (o : PoolOptions). o.weights) (sym c.pool_for-pool.ensures)
+pub run_scripts-requires-clause-scorer : goal.run_scripts-requires-clause-scorer
+run_scripts-requires-clause-scorer g c = c.requires.scorer ∙ ap (λ (o : PoolOptions). (o.evict, o.weights)) (sym c.pool_for-pool.ensures)
 
 pub print_run-requires-clause-each : goal.print_run-requires-clause-each
 print_run-requires-clause-each g c =

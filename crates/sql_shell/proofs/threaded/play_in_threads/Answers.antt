@@ -19,11 +19,8 @@ use Rattle.sql_shell.proofs.PrintLemmas.{all_items, served_of, texts_many}
 use Rattle.sql_shell.specs.declared.inputs.Course.TheVariants.{InThreads}
 use Rattle.sql_shell.proofs.threaded.play_in_threads.Goals as goal
 
-pub serve_sessions-requires-clause-kind : goal.serve_sessions-requires-clause-kind
-serve_sessions-requires-clause-kind g c κs within = c.requires.kind ∙ ap (λ (o : PoolOptions). o.evict) (sym c.pool_for-pool.ensures)
-
-pub serve_sessions-requires-clause-weights : goal.serve_sessions-requires-clause-weights
-serve_sessions-requires-clause-weights g c κs within = c.requires.weights ∙ ap (λ (o : PoolOptions). o.weights) (sym c.pool_for-pool.ensures)
+pub serve_sessions-requires-clause-scorer : goal.serve_sessions-requires-clause-scorer
+serve_sessions-requires-clause-scorer g c κs within = c.requires.scorer ∙ ap (λ (o : PoolOptions). (o.evict, o.weights)) (sym c.pool_for-pool.ensures)
 
 pub print_run-requires-clause-each : goal.print_run-requires-clause-each
 print_run-requires-clause-each g c =

@@ -38,8 +38,7 @@ do_event-requires g c =
     let computed = c.in_ok-outside.ensures.computed in
     let more : c.outside.new.self.ended < length c.outside.new.self.pieces = leb-false (length c.outside.new.self.pieces) c.outside.new.self.ended (sym c.done.ensures ∙ c.if-done.false) in
     record {
-      kind = c.requires.kind;
-      weights = c.requires.weights;
+      scorer = c.requires.scorer;
       ours = c.requires.ours;
       stands = computed_with options c.args.pass.now c.args.session.now c.outside.new.self c.requires.in_plan computed c.requires.stands;
       more = more;

@@ -26,7 +26,7 @@ pub returns-clause-gone : goal.returns-clause-gone
 returns-clause-gone g c =
     ap (λ (run : Run). run.0) (planned c.args.options.now c.args.scorer.now.kind c.args.scorer.now.weights.items c.args.now (rows_of [] c.args.self.now.all.items) c.as_slice.result.now c.saturating_sub-need.result 0
     (pool_bytes c.args.self.now.all.items - c.args.options.now.budget) 0 c.plan_evictions.new.out.items c.plan_evictions.result
-    c.requires.kind c.requires.weights (c.as_slice.ensures.value ∙ c.fill_rows_alone.ensures.rows ∙ ap (rows_of []) c.as_slice-entries.ensures.value) (let bytes = ap pool_bytes c.as_slice-entries.ensures.value in omega (arith, bytes)) (omega arith) c.plan_evictions.ensures.plan)
+    (ap (λ k. k.0) c.requires.scorer) (ap (λ k. k.1) c.requires.scorer) (c.as_slice.ensures.value ∙ c.fill_rows_alone.ensures.rows ∙ ap (rows_of []) c.as_slice-entries.ensures.value) (let bytes = ap pool_bytes c.as_slice-entries.ensures.value in omega (arith, bytes)) (omega arith) c.plan_evictions.ensures.plan)
 
 pub returns-clause-room : goal.returns-clause-room
 returns-clause-room g c = λ places had.

@@ -32,7 +32,7 @@ pub returns-clause-plan : goal.returns-clause-plan
 returns-clause-plan g c =
     planned c.args.options.now c.args.scorer.now.kind c.args.scorer.now.weights.items c.args.now (rows_of (parents_of c.args.key.now) c.args.self.now.all.items) c.as_slice-rows.result.now c.args.want.0 c.args.want.1 c.args.want.0 c.args.want.1
     c.plan_evictions.new.out.items c.plan_evictions.result
-    c.requires.kind c.requires.weights (c.as_slice-rows.ensures.value ∙ c.fill_rows.ensures.rows ∙ ap (rows_of (parents_of c.args.key.now)) c.as_slice-entries.ensures.value) refl refl c.plan_evictions.ensures.plan
+    (ap (λ k. k.0) c.requires.scorer) (ap (λ k. k.1) c.requires.scorer) (c.as_slice-rows.ensures.value ∙ c.fill_rows.ensures.rows ∙ ap (rows_of (parents_of c.args.key.now)) c.as_slice-entries.ensures.value) refl refl c.plan_evictions.ensures.plan
 
 pub fill_rows-requires-clause-room : goal.fill_rows-requires-clause-room
 fill_rows-requires-clause-room g c = let l = ap (λ (es : List PoolEntry). length es) c.as_slice-entries.ensures.value in omega (arith, l, c.requires.room.rows)

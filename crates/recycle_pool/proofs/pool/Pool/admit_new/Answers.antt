@@ -152,11 +152,8 @@ new_entry-entry-requires-clause-session g c = c.requires.session
 pub new_entry-entry-requires-clause-bytes : goal.new_entry-entry-requires-clause-bytes
 new_entry-entry-requires-clause-bytes g c = c.bytes_of-bytes.ensures.bytes
 
-pub make_room-enough-requires-clause-kind : goal.make_room-enough-requires-clause-kind
-make_room-enough-requires-clause-kind g c = c.requires.kind ∙ ap (λ (p : PoolState). p.options.evict) (sym c.self.view_is)
-
-pub make_room-enough-requires-clause-weights : goal.make_room-enough-requires-clause-weights
-make_room-enough-requires-clause-weights g c = c.requires.weights ∙ ap (λ (p : PoolState). p.options.weights) (sym c.self.view_is)
+pub make_room-enough-requires-clause-scorer : goal.make_room-enough-requires-clause-scorer
+make_room-enough-requires-clause-scorer g c = c.requires.scorer ∙ ap (λ (p : PoolState). (p.options.evict, p.options.weights)) (sym c.self.view_is)
 
 pub overflow_add-self : goal.overflow_add-self
 overflow_add-self g c =

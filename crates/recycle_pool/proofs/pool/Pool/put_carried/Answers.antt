@@ -40,11 +40,8 @@ overflow_add-self g c =
     let few = few_backs c.self.inside c.args.touched.now c.args.now c.self.invariant later c.requires.early fits in
     omega (arith, back, few, c.self.invariant.next, c.self.invariant.moment)
 
-pub plan_last-requires-clause-kind : goal.plan_last-requires-clause-kind
-plan_last-requires-clause-kind g c = c.requires.kind ∙ ap (λ (p : PoolState). p.options.evict) (sym c.self.view_is)
-
-pub plan_last-requires-clause-weights : goal.plan_last-requires-clause-weights
-plan_last-requires-clause-weights g c = c.requires.weights ∙ ap (λ (p : PoolState). p.options.weights) (sym c.self.view_is)
+pub plan_last-requires-clause-scorer : goal.plan_last-requires-clause-scorer
+plan_last-requires-clause-scorer g c = c.requires.scorer ∙ ap (λ (p : PoolState). (p.options.evict, p.options.weights)) (sym c.self.view_is)
 
 pub plan_last-requires-clause-plan : goal.plan_last-requires-clause-plan
 plan_last-requires-clause-plan g c =

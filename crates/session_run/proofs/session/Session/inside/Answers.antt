@@ -19,8 +19,7 @@ start-requires g c =
     let both = read_between c.args.book.now.options (log_tree c.args.book.now.log) c.args.self.now c.requires.stands c.in-Reading.read is in
     let worked : IsWorked c.args.book.now.options (log_tree c.args.book.now.log) (at_stage c.args.self.now stage.Between) = record { work = c.requires.worked.work; stage = tt } in
     record {
-      kind = c.requires.kind;
-      weights = c.requires.weights;
+      scorer = c.requires.scorer;
       between = between;
       stands = subst (λ (at : Stage). Stands c.args.book.now.options (log_tree c.args.book.now.log) (at_stage c.args.self.now at)) (sym between) both.0;
       worked = subst (λ (at : Stage). IsWorked c.args.book.now.options (log_tree c.args.book.now.log) (at_stage c.args.self.now at)) (sym between) worked;

@@ -3,8 +3,7 @@ use Rattle.session_run.proofs.session.Session.start_stmt.Goals as goal
 
 pub change-requires : goal.change-requires
 change-requires g c = record {
-  kind = c.requires.kind;
-  weights = c.requires.weights;
+  scorer = c.requires.scorer;
   between = c.requires.between;
   stands = c.requires.stands;
   worked = c.requires.worked;

@@ -11,8 +11,7 @@ inside-requires g c =
     let options = c.args.self.now.optioned in
     let log = log_tree c.args.self.now.book.log in
     record {
-      kind = c.requires.kind ∙ ap (λ (o : PoolOptions). o.evict) (sym options);
-      weights = c.requires.weights ∙ ap (λ (o : PoolOptions). o.weights) (sym options);
+      scorer = c.requires.scorer ∙ ap (λ (o : PoolOptions). (o.evict, o.weights)) (sym options);
       stands = subst (λ (o : PoolOptions). Stands o log c.args.session.now) (sym options) c.requires.at.stands;
       worked = subst (λ (o : PoolOptions). IsWorked o log c.args.session.now) (sym options) c.requires.at.worked;
       more = c.requires.more;

@@ -78,3 +78,9 @@ worths_later options log more lawful =
     let halves = follow_halves (log_start options) log more lawful in
     subst (λ (s : LogState). WorthsStay (run_of options log).given s.given) (sym (fold_halves (log_start options) log more))
     (worths_along (run_of options log) more (lawful_sound options log halves.0) halves.1)
+
+-- the same of a log's front and the whole of it
+pub worths_stay : (options : PoolOptions) (log : List EventTree) (n : ℕ) → IsLawful options log → WorthsStay (run_of options (take n log)).given (run_of options log).given
+worths_stay options log n lawful =
+    subst (λ (es : List EventTree). WorthsStay (run_of options (take n log)).given (run_of options es).given) (take-append-drop n log)
+    (worths_later options (take n log) (drop n log) (subst (IsLawful options) (sym (take-append-drop n log)) lawful))
