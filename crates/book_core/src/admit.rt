@@ -51,7 +51,7 @@ impl Book {
         value: Shared,
         work: u64,
     ) -> Result<Admitted, Memory>
-        requires scorer { IsScorerOf scorer.now self.old.options }
+        requires scorer { IsScorerOf scorer.now.kind scorer.now.weights.items self.old.options }
         requires session { who.session < 17 }
         requires offer { CanOffer key value work (state_of self.old) }
         ensures options { self.new.options ≡ self.old.options }

@@ -130,7 +130,7 @@ impl Book {
         kernel: &E,
         steps: &mut Steps<L>,
     ) -> Result<Reply, Memory>
-        requires scorer { IsScorerOf scorer.now self.old.options }
+        requires scorer { IsScorerOf scorer.now.kind scorer.now.weights.items self.old.options }
         requires session { who.session < 17 }
         requires change { is_change (stmt_tree stmt.now) ≡ true }
         requires formed { IsFormed (stmt_tree stmt.now) }
@@ -157,7 +157,7 @@ impl Book {
         outcome: Outcome,
         steps: &mut Steps<L>,
     ) -> Result<Reply, Memory>
-        requires scorer { IsScorerOf scorer.now self.old.options }
+        requires scorer { IsScorerOf scorer.now.kind scorer.now.weights.items self.old.options }
         requires outcome { IsOutcome (stmt_tree stmt) outcome.ready outcome.work (state_of self.old) }
         ensures options { self.new.options ≡ self.old.options }
         ensures reply { IfOk result (λ reply. reply ≡ (effect (stmt_tree stmt) (state_of self.old).db).1) }
@@ -206,7 +206,7 @@ impl Book {
         load: u128,
         steps: &mut Steps<L>,
     ) -> Result<Reply, Memory>
-        requires scorer { IsScorerOf scorer.now self.old.options }
+        requires scorer { IsScorerOf scorer.now.kind scorer.now.weights.items self.old.options }
         requires outcome { IsOutcome (stmt_tree stmt) (Ok ready) load (state_of self.old) }
         ensures options { self.new.options ≡ self.old.options }
         ensures reply { IfOk result (λ reply. reply ≡ reply_with ready.rows) }

@@ -1,8 +1,8 @@
 -- Which scorer a pool's options ask for.
-use Rattle.std.specs.Prelude.{◌≡◌}
-use Rattle.score_hook.specs.declared.scorer.Scorer.{Scorer}
+use Rattle.std.specs.Prelude.{◌≡◌, ℕ, List}
+use Rattle.score_hook.specs.declared.stats.Evict.{Evict}
 use Rattle.pool_policy.specs.declared.options.PoolOptions.{PoolOptions}
 
--- it is of the kind that the options name, and has their weights
-abbrev pub IsScorerOf : Scorer → PoolOptions → Type 0
-IsScorerOf scorer options = (scorer.kind, scorer.weights.items) ≡ (options.evict, options.weights)
+-- a scorer of this kind and with these weights: of the kind that the options name, with their weights
+abbrev pub IsScorerOf : Evict → List ℕ → PoolOptions → Type 0
+IsScorerOf kind weights options = (kind, weights) ≡ (options.evict, options.weights)

@@ -66,7 +66,7 @@ impl RunningQuery {
         n: usize,
         offer: Offer,
     ) -> Result<Step, Memory>
-        requires scorer { IsScorerOf scorer.now book.old.options }
+        requires scorer { IsScorerOf scorer.now.kind scorer.now.weights.items book.old.options }
         requires session { who.session < 17 }
         requires under { IsUnderWay self }
         requires inside { n < length self.plan.instrs }

@@ -33,7 +33,7 @@ impl Pool {
         now: u64,
         offered: Offered,
     ) -> Result<Admitted, Memory>
-        requires scorer { IsScorerOf scorer.now self.old.options }
+        requires scorer { IsScorerOf scorer.now.kind scorer.now.weights.items self.old.options }
         requires session { who.session < 17 }
         requires later { self.old.moment < now }
         requires early { now < 2 ^ 30 }
@@ -107,7 +107,7 @@ impl Pool {
         now: u64,
         offered: Offered,
     ) -> Result<Admitted, Memory>
-        requires scorer { IsScorerOf scorer.now self.old.options }
+        requires scorer { IsScorerOf scorer.now.kind scorer.now.weights.items self.old.options }
         requires session { who.session < 17 }
         requires later { self.old.moment < now }
         requires early { now < 2 ^ 30 }

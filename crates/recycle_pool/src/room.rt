@@ -101,7 +101,7 @@ impl Entries {
         key: &Key,
         bytes: u64,
     ) -> (bool, u64)
-        requires scorer { IsScorerOf scorer.now options.now }
+        requires scorer { IsScorerOf scorer.now.kind scorer.now.weights.items options.now }
         requires plan { IsWeighable now self.now.all.items }
         requires room { HaveRoom (length self.now.all.items) lists.old }
         requires beside { AreBeside self.now.parents self.now.all.items }
@@ -140,7 +140,7 @@ impl Entries {
         key: &Key,
         want: (u128, u64),
     ) -> bool
-        requires scorer { IsScorerOf scorer.now options.now }
+        requires scorer { IsScorerOf scorer.now.kind scorer.now.weights.items options.now }
         requires plan { IsWeighable now self.now.all.items }
         requires room { HaveRoom (length self.now.all.items) lists.old }
         requires beside { AreBeside self.now.parents self.now.all.items }

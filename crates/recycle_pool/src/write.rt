@@ -38,7 +38,7 @@ impl Pool {
         carried: Carried,
         now: u64,
     ) -> (u64, u64)
-        requires scorer { IsScorerOf scorer.now self.old.options }
+        requires scorer { IsScorerOf scorer.now.kind scorer.now.weights.items self.old.options }
         requires later { self.old.moment < now }
         requires early { now < 2 ^ 30 }
         requires write { IsWrite touched.now now self.old }

@@ -101,7 +101,7 @@ impl Entries {
         scorer: &Scorer,
         now: u64,
     )
-        requires scorer { IsScorerOf scorer.now options.now }
+        requires scorer { IsScorerOf scorer.now.kind scorer.now.weights.items options.now }
         requires plan { IsWeighable now self.now.all.items }
         requires room { HaveRoom (length self.now.all.items) lists.old }
         ensures gone { lists.new.gone.items ≡ (given_up (score_at options.now now) (rows_of [] self.now.all.items) (pool_bytes self.now.all.items - options.now.budget) 0).0 }

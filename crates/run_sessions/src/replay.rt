@@ -44,7 +44,7 @@ pub fn play_sessions<E: Operate, L: Ledger>(
     requires few { length scripts.items ≤ 16 }
     requires short { AllByRecursion (λ (pieces : List (List ℕ)). length pieces ≤ 256) scripts.items }
     requires turns { AllByRecursion (λ turn. (1 ≤ turn) × (turn ≤ length scripts.items)) turns.now }
-    requires scorer { IsScorerOf scorer.now options }
+    requires scorer { IsScorerOf scorer.now.kind scorer.now.weights.items options }
     requires places { options.places ≤ 1024 }
     requires budget { options.budget ≤ 2 ^ 40 }
     ensures scheduled { IfOk result (λ run. IsScheduled options scripts.items turns.now (log_tree run.log.items)) }
@@ -97,7 +97,7 @@ fn take_turns<E: Operate, L: Ledger>(
     kernel: &E,
     steps: &mut Steps<L>,
 ) -> Result<(), Memory>
-    requires scorer { IsScorerOf scorer.now book.old.options }
+    requires scorer { IsScorerOf scorer.now.kind scorer.now.weights.items book.old.options }
     requires turns { AllByRecursion (λ turn. (1 ≤ turn) × (turn ≤ length sessions.old.items)) turns.now }
     requires standing { AreStanding book.old.options (log_tree book.old.log) sessions.old.items }
     requires in_plan { AreInPlan sessions.old.items }
@@ -121,7 +121,7 @@ fn run_on<E: Operate, L: Ledger>(
     kernel: &E,
     steps: &mut Steps<L>,
 ) -> Result<(), Memory>
-    requires scorer { IsScorerOf scorer.now book.old.options }
+    requires scorer { IsScorerOf scorer.now.kind scorer.now.weights.items book.old.options }
     requires inside { place < length sessions.old.items }
     requires standing { AreStanding book.old.options (log_tree book.old.log) sessions.old.items }
     requires in_plan { AreInPlan sessions.old.items }
@@ -147,7 +147,7 @@ fn run_all<E: Operate, L: Ledger>(
     kernel: &E,
     steps: &mut Steps<L>,
 ) -> Result<(), Memory>
-    requires scorer { IsScorerOf scorer.now book.old.options }
+    requires scorer { IsScorerOf scorer.now.kind scorer.now.weights.items book.old.options }
     requires standing { AreStanding book.old.options (log_tree book.old.log) sessions.old.items }
     requires in_plan { AreInPlan sessions.old.items }
     ensures ended { OnOk result (HaveEnded book.old book.new sessions.old.items sessions.new.items) }

@@ -4,6 +4,7 @@ ghost use Rattle.run_log.specs.Events.{log_tree};
 ghost use Rattle.session_run.specs.Kept.{Stands};
 ghost use Rattle.session_run.specs.Works.{IsWorked};
 ghost use Rattle.session_run.specs.declared.session.Session.{Session as SessionSeen};
+ghost use Rattle.session_run.specs.Stages.{IsSameSession};
 ghost use Rattle.run_sessions.specs.Tables.{AreInPlan, AreStanding, CountsTurns, HasTurned, HavePlayed, IsOver};
 ghost use Rattle.pool_policy.specs.Scorers.{IsScorerOf};
 
@@ -25,14 +26,12 @@ fn step<E: Operate, L: Ledger>(
     kernel: &E,
     steps: &mut Steps<L>,
 ) -> Result<bool, Memory>
-    requires scorer { IsScorerOf scorer.now book.old.options }
+    requires scorer { IsScorerOf scorer.now.kind scorer.now.weights.items book.old.options }
     requires stands { Stands book.old.options (log_tree book.old.log) session.old }
     requires worked { IsWorked book.old.options (log_tree book.old.log) session.old }
     requires in_plan { session.old.wide ≡ false }
     ensures options { OnOk result (book.new.options ≡ book.old.options) }
-    ensures number { OnOk result (session.new.number ≡ session.old.number) }
-    ensures pieces { OnOk result (session.new.pieces ≡ session.old.pieces) }
-    ensures wide { OnOk result (session.new.wide ≡ session.old.wide) }
+    ensures session { OnOk result (IsSameSession session.old session.new) }
     ensures turned { IfOk result (λ more. HasTurned book.old book.new session.old session.new more) }
     ensures counts { OnOk result (CountsTurns book.old book.new (session.old ∷ []) (session.new ∷ []) steps.old steps.new) }
 {
@@ -55,7 +54,7 @@ pub(crate) fn take_turn<E: Operate, L: Ledger>(
     kernel: &E,
     steps: &mut Steps<L>,
 ) -> Result<bool, Memory>
-    requires scorer { IsScorerOf scorer.now book.old.options }
+    requires scorer { IsScorerOf scorer.now.kind scorer.now.weights.items book.old.options }
     requires inside { place < length sessions.old.items }
     requires standing { AreStanding book.old.options (log_tree book.old.log) sessions.old.items }
     requires in_plan { AreInPlan sessions.old.items }

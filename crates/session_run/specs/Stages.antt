@@ -41,6 +41,10 @@ abbrev pub MayBegin : Stage → Type 0
 MayBegin (stage.Querying (step.Begun q)) = Unit {0}
 MayBegin at = IsAside at
 
+-- a session is the same one: its number, its texts and the way in which it goes through plans
+abbrev pub IsSameSession : Session → Session → Type 0
+IsSameSession old new = (new.number, new.pieces, new.wide) ≡ (old.number, old.pieces, old.wide)
+
 -- a session in another stage
 abbrev pub at_stage : Session → Stage → Session
 at_stage x next = record x { stage = next }

@@ -5,7 +5,7 @@ ghost use Rattle.reply_layout.specs.Doings.{code_of as code_shown};
 ghost use Rattle.query_run.specs.declared.step.Step.TheVariants as step;
 ghost use Rattle.session_run.specs.declared.stage.Stage.TheVariants as stage;
 ghost use Rattle.session_run.specs.Kept.{Stands};
-ghost use Rattle.session_run.specs.Stages.{Follows, HasDone, IsReady, at_stage};
+ghost use Rattle.session_run.specs.Stages.{Follows, HasDone, IsReady, IsSameSession, at_stage};
 ghost use Rattle.session_run.specs.Works.{CountsInside, IsWorked};
 ghost use Rattle.pool_policy.specs.Scorers.{IsScorerOf};
 
@@ -29,15 +29,13 @@ impl Session {
         scorer: &Scorer,
         step: Step,
     ) -> Result<(), Memory>
-        requires scorer { IsScorerOf scorer.now book.old.options }
+        requires scorer { IsScorerOf scorer.now.kind scorer.now.weights.items book.old.options }
         requires stands { Stands book.old.options (log_tree book.old.log) (at_stage self.old (stage.Querying step)) }
         requires worked { IsWorked book.old.options (log_tree book.old.log) (at_stage self.old (stage.Querying step)) }
         requires more { self.old.ended < length self.old.pieces }
         requires ready { IsReady (stage.Querying step) }
         ensures options { book.new.options ≡ book.old.options }
-        ensures number { OnOk result (self.new.number ≡ self.old.number) }
-        ensures pieces { OnOk result (self.new.pieces ≡ self.old.pieces) }
-        ensures wide { OnOk result (self.new.wide ≡ self.old.wide) }
+        ensures session { OnOk result (IsSameSession self.old self.new) }
         ensures follows { OnOk result (Follows (stage.Querying step) self.new.stage) }
         ensures does { OnOk result (HasDone book.old book.new (at_stage self.old (stage.Querying step)) self.new) }
         ensures counts { OnOk result ((steps : ℕ) → CountsInside book.old book.new (at_stage self.old (stage.Querying step)) self.new steps steps) }
@@ -64,9 +62,7 @@ impl Session {
         requires worked { IsWorked book.old.options (log_tree book.old.log) (at_stage self.old (stage.Querying (step.Asking query n key))) }
         requires more { self.old.ended < length self.old.pieces }
         ensures options { book.new.options ≡ book.old.options }
-        ensures number { OnOk result (self.new.number ≡ self.old.number) }
-        ensures pieces { OnOk result (self.new.pieces ≡ self.old.pieces) }
-        ensures wide { OnOk result (self.new.wide ≡ self.old.wide) }
+        ensures session { OnOk result (IsSameSession self.old self.new) }
         ensures follows { OnOk result (Follows (stage.Querying (step.Asking query n key)) self.new.stage) }
         ensures does { OnOk result (HasDone book.old book.new (at_stage self.old (stage.Querying (step.Asking query n key))) self.new) }
         ensures counts { OnOk result ((steps : ℕ) → CountsInside book.old book.new (at_stage self.old (stage.Querying (step.Asking query n key))) self.new steps steps) }
@@ -91,14 +87,12 @@ impl Session {
         n: usize,
         offer: Offer,
     ) -> Result<(), Memory>
-        requires scorer { IsScorerOf scorer.now book.old.options }
+        requires scorer { IsScorerOf scorer.now.kind scorer.now.weights.items book.old.options }
         requires stands { Stands book.old.options (log_tree book.old.log) (at_stage self.old (stage.Querying (step.Offering query n offer))) }
         requires worked { IsWorked book.old.options (log_tree book.old.log) (at_stage self.old (stage.Querying (step.Offering query n offer))) }
         requires more { self.old.ended < length self.old.pieces }
         ensures options { book.new.options ≡ book.old.options }
-        ensures number { OnOk result (self.new.number ≡ self.old.number) }
-        ensures pieces { OnOk result (self.new.pieces ≡ self.old.pieces) }
-        ensures wide { OnOk result (self.new.wide ≡ self.old.wide) }
+        ensures session { OnOk result (IsSameSession self.old self.new) }
         ensures follows { OnOk result (Follows (stage.Querying (step.Offering query n offer)) self.new.stage) }
         ensures does { OnOk result (HasDone book.old book.new (at_stage self.old (stage.Querying (step.Offering query n offer))) self.new) }
         ensures counts { OnOk result ((steps : ℕ) → CountsInside book.old book.new (at_stage self.old (stage.Querying (step.Offering query n offer))) self.new steps steps) }
@@ -120,9 +114,7 @@ impl Session {
         requires worked { IsWorked book.old.options (log_tree book.old.log) (at_stage self.old (stage.Querying (step.Ending shown work))) }
         requires more { self.old.ended < length self.old.pieces }
         ensures options { book.new.options ≡ book.old.options }
-        ensures number { OnOk result (self.new.number ≡ self.old.number) }
-        ensures pieces { OnOk result (self.new.pieces ≡ self.old.pieces) }
-        ensures wide { OnOk result (self.new.wide ≡ self.old.wide) }
+        ensures session { OnOk result (IsSameSession self.old self.new) }
         ensures follows { OnOk result (Follows (stage.Querying (step.Ending shown work)) self.new.stage) }
         ensures does { OnOk result (HasDone book.old book.new (at_stage self.old (stage.Querying (step.Ending shown work))) self.new) }
         ensures counts { OnOk result ((steps : ℕ) → CountsInside book.old book.new (at_stage self.old (stage.Querying (step.Ending shown work))) self.new steps steps) }

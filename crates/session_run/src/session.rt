@@ -12,7 +12,7 @@ ghost use Rattle.query_run.specs.declared.step.Step.TheVariants as step;
 ghost use Rattle.session_run.specs.declared.stage.Stage.TheVariants as stage;
 ghost use Rattle.session_run.specs.Kept.{HasRead, Stands};
 ghost use Rattle.session_run.specs.Works.{CountsInside, CountsOutside, IsWorked, done_by, held_in, lost_in};
-ghost use Rattle.session_run.specs.Stages.{ComesTo, Follows, HasComputed, HasDone, IsReady, IsSoundStage, MayBegin, ReadsOn, at_stage, with_reply};
+ghost use Rattle.session_run.specs.Stages.{ComesTo, Follows, HasComputed, HasDone, IsReady, IsSameSession, IsSoundStage, MayBegin, ReadsOn, at_stage, with_reply};
 
 use crate::stage::Stage;
 use answer_text::write_reply;
@@ -152,15 +152,13 @@ impl Session {
         kernel: &E,
         steps: &mut Steps<L>,
     ) -> Result<(), Memory>
-        requires scorer { IsScorerOf scorer.now book.old.options }
+        requires scorer { IsScorerOf scorer.now.kind scorer.now.weights.items book.old.options }
         requires stands { Stands book.old.options (log_tree book.old.log) self.old }
         requires worked { IsWorked book.old.options (log_tree book.old.log) self.old }
         requires more { self.old.ended < length self.old.pieces }
         requires ready { IsReady self.old.stage }
         ensures options { book.new.options ≡ book.old.options }
-        ensures number { OnOk result (self.new.number ≡ self.old.number) }
-        ensures pieces { OnOk result (self.new.pieces ≡ self.old.pieces) }
-        ensures wide { OnOk result (self.new.wide ≡ self.old.wide) }
+        ensures session { OnOk result (IsSameSession self.old self.new) }
         ensures follows { OnOk result (Follows self.old.stage self.new.stage) }
         ensures does { OnOk result (HasDone book.old book.new self.old self.new) }
         ensures counts { OnOk result (CountsInside book.old book.new self.old self.new steps.old steps.new) }

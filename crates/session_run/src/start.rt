@@ -11,7 +11,7 @@ ghost use Rattle.reply_layout.specs.Doings.{shown_reply};
 ghost use Rattle.store_changes.specs.Outcomes.{is_change};
 ghost use Rattle.session_run.specs.declared.stage.Stage.TheVariants as stage;
 ghost use Rattle.session_run.specs.Kept.{HasRead, Stands};
-ghost use Rattle.session_run.specs.Stages.{BeginsWith, HasDone, MayBegin, explained};
+ghost use Rattle.session_run.specs.Stages.{BeginsWith, HasDone, IsSameSession, MayBegin, explained};
 ghost use Rattle.session_run.specs.Works.{CountsInside, IsWorked};
 ghost use Rattle.query_run.specs.declared.step.Step.TheVariants as step;
 ghost use Rattle.reply_layout.specs.declared.shown.Shown.TheVariants as shown;
@@ -41,15 +41,13 @@ impl Session {
         kernel: &E,
         steps: &mut Steps<L>,
     ) -> Result<(), Memory>
-        requires scorer { IsScorerOf scorer.now book.old.options }
+        requires scorer { IsScorerOf scorer.now.kind scorer.now.weights.items book.old.options }
         requires between { self.old.stage ≡ stage.Between }
         requires stands { Stands book.old.options (log_tree book.old.log) self.old }
         requires worked { IsWorked book.old.options (log_tree book.old.log) self.old }
         requires read { HasRead self.old.pieces self.old.ended read }
         ensures options { book.new.options ≡ book.old.options }
-        ensures number { OnOk result (self.new.number ≡ self.old.number) }
-        ensures pieces { OnOk result (self.new.pieces ≡ self.old.pieces) }
-        ensures wide { OnOk result (self.new.wide ≡ self.old.wide) }
+        ensures session { OnOk result (IsSameSession self.old self.new) }
         ensures begins { OnOk result (MayBegin self.new.stage) }
         ensures does { OnOk result (HasDone book.old book.new self.old self.new) }
         ensures counts { OnOk result (CountsInside book.old book.new self.old self.new steps.old steps.new) }
@@ -68,9 +66,7 @@ impl Session {
         requires worked { IsWorked book.old.options (log_tree book.old.log) self.old }
         requires read { (piece : List ℕ) × (slice_get self.old.pieces self.old.ended ≡ Some piece) × Reads piece (Err refusal) }
         ensures options { book.new.options ≡ book.old.options }
-        ensures number { OnOk result (self.new.number ≡ self.old.number) }
-        ensures pieces { OnOk result (self.new.pieces ≡ self.old.pieces) }
-        ensures wide { OnOk result (self.new.wide ≡ self.old.wide) }
+        ensures session { OnOk result (IsSameSession self.old self.new) }
         ensures begins { OnOk result (MayBegin self.new.stage) }
         ensures does { OnOk result (HasDone book.old book.new self.old self.new) }
         ensures counts { OnOk result ((steps : ℕ) → CountsInside book.old book.new self.old self.new steps steps) }
@@ -92,16 +88,14 @@ impl Session {
         kernel: &E,
         steps: &mut Steps<L>,
     ) -> Result<(), Memory>
-        requires scorer { IsScorerOf scorer.now book.old.options }
+        requires scorer { IsScorerOf scorer.now.kind scorer.now.weights.items book.old.options }
         requires between { self.old.stage ≡ stage.Between }
         requires stands { Stands book.old.options (log_tree book.old.log) self.old }
         requires worked { IsWorked book.old.options (log_tree book.old.log) self.old }
         requires formed { IsFormed (stmt_tree stmt) }
         requires read { (piece : List ℕ) × (slice_get self.old.pieces self.old.ended ≡ Some piece) × Reads piece (Ok (stmt_tree stmt)) }
         ensures options { book.new.options ≡ book.old.options }
-        ensures number { OnOk result (self.new.number ≡ self.old.number) }
-        ensures pieces { OnOk result (self.new.pieces ≡ self.old.pieces) }
-        ensures wide { OnOk result (self.new.wide ≡ self.old.wide) }
+        ensures session { OnOk result (IsSameSession self.old self.new) }
         ensures begins { OnOk result (MayBegin self.new.stage) }
         ensures does { OnOk result (HasDone book.old book.new self.old self.new) }
         ensures counts { OnOk result (CountsInside book.old book.new self.old self.new steps.old steps.new) }
@@ -124,7 +118,7 @@ impl Session {
         kernel: &E,
         steps: &mut Steps<L>,
     ) -> Result<(), Memory>
-        requires scorer { IsScorerOf scorer.now book.old.options }
+        requires scorer { IsScorerOf scorer.now.kind scorer.now.weights.items book.old.options }
         requires between { self.old.stage ≡ stage.Between }
         requires stands { Stands book.old.options (log_tree book.old.log) self.old }
         requires worked { IsWorked book.old.options (log_tree book.old.log) self.old }
@@ -132,9 +126,7 @@ impl Session {
         requires formed { IsFormed (stmt_tree stmt.now) }
         requires read { (piece : List ℕ) × (slice_get self.old.pieces self.old.ended ≡ Some piece) × Reads piece (Ok (stmt_tree stmt.now)) }
         ensures options { book.new.options ≡ book.old.options }
-        ensures number { OnOk result (self.new.number ≡ self.old.number) }
-        ensures pieces { OnOk result (self.new.pieces ≡ self.old.pieces) }
-        ensures wide { OnOk result (self.new.wide ≡ self.old.wide) }
+        ensures session { OnOk result (IsSameSession self.old self.new) }
         ensures begins { OnOk result (MayBegin self.new.stage) }
         ensures does { OnOk result (HasDone book.old book.new self.old self.new) }
         ensures counts { OnOk result (CountsInside book.old book.new self.old self.new steps.old steps.new) }
@@ -161,9 +153,7 @@ impl Session {
         requires formed { IsFormed (stmt_tree stmt.now) }
         requires read { (piece : List ℕ) × (slice_get self.old.pieces self.old.ended ≡ Some piece) × Reads piece (Ok (stmt_tree stmt.now)) }
         ensures options { book.new.options ≡ book.old.options }
-        ensures number { OnOk result (self.new.number ≡ self.old.number) }
-        ensures pieces { OnOk result (self.new.pieces ≡ self.old.pieces) }
-        ensures wide { OnOk result (self.new.wide ≡ self.old.wide) }
+        ensures session { OnOk result (IsSameSession self.old self.new) }
         ensures begins { OnOk result (MayBegin self.new.stage) }
         ensures does { OnOk result (HasDone book.old book.new self.old self.new) }
         ensures counts { OnOk result ((steps : ℕ) → CountsInside book.old book.new self.old self.new steps steps) }
@@ -190,9 +180,7 @@ impl Session {
         requires formed { IsFormed (stmt_tree stmt.now) }
         requires read { (piece : List ℕ) × (slice_get self.old.pieces self.old.ended ≡ Some piece) × Reads piece (Ok (stmt_tree stmt.now)) }
         ensures options { book.new.options ≡ book.old.options }
-        ensures number { OnOk result (self.new.number ≡ self.old.number) }
-        ensures pieces { OnOk result (self.new.pieces ≡ self.old.pieces) }
-        ensures wide { OnOk result (self.new.wide ≡ self.old.wide) }
+        ensures session { OnOk result (IsSameSession self.old self.new) }
         ensures begins { OnOk result (MayBegin self.new.stage) }
         ensures does { OnOk result (HasDone book.old book.new self.old self.new) }
         ensures counts { OnOk result ((steps : ℕ) → CountsInside book.old book.new self.old self.new steps steps) }

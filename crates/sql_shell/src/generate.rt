@@ -82,7 +82,7 @@ fn replay_samples<E: Operate, L: Ledger>(
     steps: &mut Steps<L>,
 ) -> Result<Produced, Memory>
     requires seed { seed ≤ 1000000 }
-    requires scorer { IsScorerOf scorer.now told.default_pool }
+    requires scorer { IsScorerOf scorer.now.kind scorer.now.weights.items told.default_pool }
     ensures { IfOk result (λ run. IsGenerated seed run.text.items (log_tree run.log) run.work steps.old steps.new) }
 {
     let SampleScripts { changes, queries } = sample_scripts(alloc, seed)?;

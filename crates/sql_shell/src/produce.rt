@@ -122,7 +122,7 @@ fn play<C: SessionRunner, E: Operate + Sync, L: Ledger>(
     kernel: &E,
     steps: &mut Steps<L>,
 ) -> Result<Produced, Memory>
-    requires scorer { IsScorerOf scorer.now (pool_of options) }
+    requires scorer { IsScorerOf scorer.now.kind scorer.now.weights.items (pool_of options) }
     requires ready { AreReady options scripts.items (C.course runner.now) }
     ensures { IfOk result (λ run. IsServedBy options scripts.items (C.course runner.now) run.text.items (log_tree run.log) run.work steps.old steps.new) }
 {

@@ -39,7 +39,7 @@ pub trait SessionRunner {
         requires few { length scripts.items ≤ 16 }
         requires short { AllByRecursion (λ (pieces : List (List ℕ)). length pieces ≤ 256) scripts.items }
         requires turns { AreTurnsOf (length scripts.items) (course self.now) }
-        requires scorer { IsScorerOf scorer.now pool }
+        requires scorer { IsScorerOf scorer.now.kind scorer.now.weights.items pool }
         requires places { pool.places ≤ 1024 }
         requires budget { pool.budget ≤ 2 ^ 40 }
         ensures made { IfOk result (λ run. IsMade pool scripts.items (course self.now) (log_tree run.log.items) steps.old steps.new) }

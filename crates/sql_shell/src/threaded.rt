@@ -134,7 +134,7 @@ fn play_in_threads<R: Threads + Wait + Sync, E: Operate + Sync>(
     scorer: &Scorer,
     kernel: &E,
 ) -> Result<Produced, Memory>
-    requires scorer { IsScorerOf scorer.now (pool_of options) }
+    requires scorer { IsScorerOf scorer.now.kind scorer.now.weights.items (pool_of options) }
     requires ready { AreReady options scripts.items (InThreads workers) }
     ensures { IfOk result (λ run. (before after : ℕ) → IsServedBy options scripts.items (InThreads workers) run.text.items (log_tree run.log) run.work before after) }
 {

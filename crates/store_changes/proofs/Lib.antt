@@ -4,4 +4,4 @@ pub mod FlagLemmas
 pub mod DefineLemmas
 pub mod InsertLemmas
 pub mod RewriteLemmas
-pub mod UnlessLemmas
+pub mod WriteLemmas

@@ -4,7 +4,7 @@ ghost use Rattle.run_log.specs.declared.event.Event.{Event as EventSeen};
 ghost use Rattle.run_log.specs.Events.{log_tree};
 ghost use Rattle.book_core.specs.Lawful.{IsLawful};
 ghost use Rattle.pool_sound.specs.Sound.{IsSoundAlong};
-ghost use Rattle.session_run.specs.Stages.{Follows, IsReady};
+ghost use Rattle.session_run.specs.Stages.{Follows, IsReady, IsSameSession};
 ghost use Rattle.thread_sessions.specs.Runners.{AddsEvent, HasSeen, IsAt, session_of};
 ghost use Rattle.pool_policy.specs.Scorers.{IsScorerOf};
 
@@ -90,13 +90,11 @@ impl<K: HasOptions> SharedBook<K> {
         kernel: &E,
         steps: &mut Steps<L>,
     ) -> Result<(), Memory>
-        requires scorer { IsScorerOf scorer.now K.options }
+        requires scorer { IsScorerOf scorer.now.kind scorer.now.weights.items K.options }
         requires at { IsAt K.options (log_tree self.old.book.log) session.old }
         requires more { session.old.ended < length session.old.pieces }
         requires ready { IsReady session.old.stage }
-        ensures number { OnOk result (session.new.number ≡ session.old.number) }
-        ensures pieces { OnOk result (session.new.pieces ≡ session.old.pieces) }
-        ensures wide { OnOk result (session.new.wide ≡ session.old.wide) }
+        ensures session { OnOk result (IsSameSession session.old session.new) }
         ensures follows { OnOk result (Follows session.old.stage session.new.stage) }
         ensures added { OnOk result (AddsEvent self.old.book.log session.old.number self.new.book.log) }
         ensures at { OnOk result (IsAt K.options (log_tree self.new.book.log) session.new) }

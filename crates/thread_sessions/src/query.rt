@@ -41,14 +41,14 @@ pub(crate) fn run_query<K: HasOptions, R: Threads + Wait + Sync, E: Operate + Sy
     steps: &mut Steps<L>,
     workers: u32,
 ) -> Result<Runner<SharedBook<K>>, Memory>
-    requires scorer { IsScorerOf scorer.now K.options }
+    requires scorer { IsScorerOf scorer.now.kind scorer.now.weights.items K.options }
     requires runner { IsRunner K.options hall.now runner }
     requires wide { runner.session.wide ≡ true }
     requires begun { (q : QuerySeen) × (runner.session.stage ≡ stage.Querying (step.Begun q)) }
     ensures { IfOk result (HasRunOn K.options hall.now runner) }
 {
     let event = |runner: &mut Runner<SharedBook<K>>| -> Result<(), Memory>
-        requires scorer { IsScorerOf scorer.now K.options }
+        requires scorer { IsScorerOf scorer.now.kind scorer.now.weights.items K.options }
         requires can { CanDo K.options hall.now runner.old }
         ensures { OnOk result (HasDone K.options hall.entry.now runner.old runner.new) }
     { next_event(rt, alloc, hall, runner, scorer, kernel) };

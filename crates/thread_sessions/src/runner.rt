@@ -58,7 +58,7 @@ pub(crate) fn next_event<K: HasOptions, R: Wait, E: Operate>(
     scorer: &Scorer,
     kernel: &E,
 ) -> Result<(), Memory>
-    requires scorer { IsScorerOf scorer.now K.options }
+    requires scorer { IsScorerOf scorer.now.kind scorer.now.weights.items K.options }
     requires can { CanDo K.options hall.now runner.old }
     ensures { OnOk result (HasDone K.options hall.now runner.old runner.new) }
 {
@@ -78,7 +78,7 @@ fn counted_event<K: HasOptions, R: Wait, E: Operate, L: Ledger>(
     requires name { blank.name ≡ L.name }
     requires parts { blank.parts ≡ L.parts }
     requires some { 0 < blank.parts }
-    requires scorer { IsScorerOf scorer.now K.options }
+    requires scorer { IsScorerOf scorer.now.kind scorer.now.weights.items K.options }
     requires can { CanDo K.options hall.now runner.old }
     ensures { OnOk result (HasDone K.options hall.now runner.old runner.new) }
 {
@@ -114,7 +114,7 @@ fn run_begun<K: HasOptions, R: Threads + Wait + Sync, E: Operate + Sync, L: Ledg
     steps: &mut Steps<L>,
     workers: u32,
 ) -> Result<Runner<SharedBook<K>>, Memory>
-    requires scorer { IsScorerOf scorer.now K.options }
+    requires scorer { IsScorerOf scorer.now.kind scorer.now.weights.items K.options }
     requires runner { IsRunner K.options hall.now runner }
     requires wide { runner.session.wide ≡ true }
     requires begins { MayBegin runner.session.stage }
@@ -140,7 +140,7 @@ fn run_counted<K: HasOptions, R: Threads + Wait + Sync, E: Operate + Sync, L: Le
     requires name { blank.name ≡ L.name }
     requires parts { blank.parts ≡ L.parts }
     requires some { 0 < blank.parts }
-    requires scorer { IsScorerOf scorer.now K.options }
+    requires scorer { IsScorerOf scorer.now.kind scorer.now.weights.items K.options }
     requires runner { IsRunner K.options hall.now runner }
     requires wide { runner.session.wide ≡ nat_lt 1 workers }
     requires begins { MayBegin runner.session.stage }
@@ -178,7 +178,7 @@ pub(crate) fn run_to_end<K: HasOptions, R: Threads + Wait + Sync, E: Operate + S
     kernel: &E,
     workers: u32,
 ) -> Result<Runner<SharedBook<K>>, Memory>
-    requires scorer { IsScorerOf scorer.now K.options }
+    requires scorer { IsScorerOf scorer.now.kind scorer.now.weights.items K.options }
     requires runner { IsRunner K.options hall.now runner }
     requires wide { runner.session.wide ≡ nat_lt 1 workers }
     requires begins { MayBegin runner.session.stage }

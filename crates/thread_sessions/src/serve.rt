@@ -42,7 +42,7 @@ pub fn serve_sessions<R: Threads + Wait + Sync, E: Operate + Sync>(
 ) -> Result<Run, Memory>
     requires few { length scripts.items ≤ 16 }
     requires short { AllByRecursion (λ (pieces : List (List ℕ)). length pieces ≤ 256) scripts.items }
-    requires scorer { IsScorerOf scorer.now options }
+    requires scorer { IsScorerOf scorer.now.kind scorer.now.weights.items options }
     requires places { options.places ≤ 1024 }
     requires budget { options.budget ≤ 2 ^ 40 }
     ensures played { IfOk result (λ run. IsRunOut (order_for workers) options scripts.items (log_tree run.log.items)) }
@@ -67,7 +67,7 @@ fn serve<K: HasOptions + Send + Sync, R: Threads + Wait + Sync, E: Operate + Syn
     requires options { options ≡ K.options }
     requires few { length scripts.items ≤ 16 }
     requires short { AllByRecursion (λ (pieces : List (List ℕ)). length pieces ≤ 256) scripts.items }
-    requires scorer { IsScorerOf scorer.now K.options }
+    requires scorer { IsScorerOf scorer.now.kind scorer.now.weights.items K.options }
     requires places { options.places ≤ 1024 }
     requires budget { options.budget ≤ 2 ^ 40 }
     ensures played { IfOk result (λ run. IsRunOut (order_for workers) K.options scripts.items (log_tree run.log.items)) }
@@ -125,7 +125,7 @@ fn run_each<K: HasOptions + Send + Sync, R: Threads + Wait + Sync, E: Operate + 
     kernel: &E,
     workers: u32,
 ) -> Result<Vec<Result<Runner<SharedBook<K>>, Memory>>, Memory>
-    requires scorer { IsScorerOf scorer.now K.options }
+    requires scorer { IsScorerOf scorer.now.kind scorer.now.weights.items K.options }
     requires runners { All (λ runner. IsRunner K.options hall.now runner × (runner.session.wide ≡ nat_lt 1 workers) × MayBegin runner.session.stage) runners.items }
     ensures length { IfOk result (λ ended. length ended.items ≡ length runners.items) }
     ensures each { IfOk result (λ ended. (place : ℕ) (r : _) (runner : _) → place < length runners.items → IfOk (slice_index_or ended.items place r) (λ after. HasRunOut K.options hall.now (slice_index_or runners.items place runner) after)) }
@@ -162,7 +162,7 @@ fn run_all<K: HasOptions + Send + Sync, R: Threads + Wait + Sync, E: Operate + S
     kernel: &E,
     workers: u32,
 ) -> Result<Vec<Runner<SharedBook<K>>>, Memory>
-    requires scorer { IsScorerOf scorer.now K.options }
+    requires scorer { IsScorerOf scorer.now.kind scorer.now.weights.items K.options }
     requires runners { AreRunners K.options hall.now runners.items }
     requires set { AreSet (nat_lt 1 workers) (sessions_of runners.items) }
     ensures length { IfOk result (λ ended. length ended.items ≡ length runners.items) }

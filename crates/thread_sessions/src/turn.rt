@@ -1,7 +1,7 @@
 //! Turns of a session.
 ghost use Rattle.std.specs.Prelude.{◌≡◌, ◌<◌, false, length, true, IfOk, OnOk};
 ghost use Rattle.turn_hall.specs.Passes.{IsPassOf};
-ghost use Rattle.session_run.specs.Stages.{Follows, GoesInPlan, IsAside, IsReady, MayBegin};
+ghost use Rattle.session_run.specs.Stages.{Follows, GoesInPlan, IsAside, IsReady, IsSameSession, MayBegin};
 ghost use Rattle.run_sessions.specs.Tables.{IsOver};
 ghost use Rattle.thread_sessions.specs.Runners.{HasOneMore, IsWith};
 ghost use Rattle.pool_policy.specs.Scorers.{IsScorerOf};
@@ -27,15 +27,13 @@ pub(crate) fn do_event<K: HasOptions, R: Wait, E: Operate, L: Ledger>(
     kernel: &E,
     steps: &mut Steps<L>,
 ) -> Result<(), Memory>
-    requires scorer { IsScorerOf scorer.now K.options }
+    requires scorer { IsScorerOf scorer.now.kind scorer.now.weights.items K.options }
     requires ours { IsPassOf hall.now pass.old }
     requires stands { IsWith K.options pass.old session.old }
     requires more { session.old.ended < length session.old.pieces }
     requires ready { IsReady session.old.stage }
     ensures ours { OnOk result (IsPassOf hall.now pass.new) }
-    ensures number { OnOk result (session.new.number ≡ session.old.number) }
-    ensures pieces { OnOk result (session.new.pieces ≡ session.old.pieces) }
-    ensures wide { OnOk result (session.new.wide ≡ session.old.wide) }
+    ensures session { OnOk result (IsSameSession session.old session.new) }
     ensures follows { OnOk result (Follows session.old.stage session.new.stage) }
     ensures stands { OnOk result (IsWith K.options pass.new session.new) }
     ensures one { OnOk result (HasOneMore pass.old pass.new) }
@@ -67,14 +65,12 @@ pub fn take_turn<K: HasOptions, R: Wait, E: Operate, L: Ledger>(
     kernel: &E,
     steps: &mut Steps<L>,
 ) -> Result<bool, Memory>
-    requires scorer { IsScorerOf scorer.now K.options }
+    requires scorer { IsScorerOf scorer.now.kind scorer.now.weights.items K.options }
     requires ours { IsPassOf hall.now pass.old }
     requires stands { IsWith K.options pass.old session.old }
     requires in_plan { GoesInPlan session.old session.old.stage }
     ensures ours { OnOk result (IsPassOf hall.now pass.new) }
-    ensures number { OnOk result (session.new.number ≡ session.old.number) }
-    ensures pieces { OnOk result (session.new.pieces ≡ session.old.pieces) }
-    ensures wide { OnOk result (session.new.wide ≡ session.old.wide) }
+    ensures session { OnOk result (IsSameSession session.old session.new) }
     ensures begins { OnOk result (IsAside session.old.stage → MayBegin session.new.stage) }
     ensures stands { OnOk result (IsWith K.options pass.new session.new) }
     ensures one { IfOk result (λ more. more ≡ true → HasOneMore pass.old pass.new) }

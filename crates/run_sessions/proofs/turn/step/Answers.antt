@@ -16,9 +16,7 @@ returns-then-done g c =
     let over = computed_over book.options log c.args.session.now c.outside.new.self (in_plan_goes c.args.session.now c.requires.in_plan) c.requires.stands computed all in
     record {
       options = refl;
-      number = computed.number;
-      pieces = computed.pieces;
-      wide = computed.wide;
+      session = λ i. (computed.number i, computed.pieces i, computed.wide i);
       turned = (
         refl,
         computed_stands book.options log c.args.session.now c.requires.stands (in_plan_goes c.args.session.now c.requires.in_plan) c.outside.new.self computed,

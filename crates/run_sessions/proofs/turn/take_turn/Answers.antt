@@ -1,4 +1,4 @@
-use Rattle.std.proofs.Common.{refl}
+use Rattle.std.proofs.Common.{ap, refl}
 use Rattle.std.proofs.lemmas.Option.{slice_get_read}
 use Rattle.run_sessions.proofs.PlaceLemmas.{set_other}
 use Rattle.run_sessions.proofs.TurnLemmas.{turn_counts, turn_over, turn_played}
@@ -23,8 +23,8 @@ returns g c =
     let told = c.in_ok-more.ensures in
     let lawful = c.log_is_lawful.ensures.lawful in
     record {
-      played = turn_played old new sessions place x y here c.requires.standing told.options told.number told.pieces lawful c.one_reading.ensures c.requires.in_plan told.wide c.in_ok-more.more told.turned;
-      counts = turn_counts old new sessions place x y here c.requires.standing told.options told.number told.pieces lawful c.args.steps.now c.step.new.steps told.counts;
+      played = turn_played old new sessions place x y here c.requires.standing told.options (ap (λ k. k.0) told.session) (ap (λ k. k.1) told.session) lawful c.one_reading.ensures c.requires.in_plan (ap (λ k. k.2) told.session) c.in_ok-more.more told.turned;
+      counts = turn_counts old new sessions place x y here c.requires.standing told.options (ap (λ k. k.0) told.session) (ap (λ k. k.1) told.session) lawful c.args.steps.now c.step.new.steps told.counts;
       others = λ other apart. set_other sessions place other y apart;
-      over = turn_over old new sessions place x y here c.requires.standing told.options told.number told.pieces lawful c.in_ok-more.more told.turned;
+      over = turn_over old new sessions place x y here c.requires.standing told.options (ap (λ k. k.0) told.session) (ap (λ k. k.1) told.session) lawful c.in_ok-more.more told.turned;
     }

@@ -1,6 +1,7 @@
 use Rattle.std.proofs.Common.{List, [], ◌∷◌, ◌++◌, ◌≡◌, ap, ◌∙◌, rules, sym, subst}
 use Rattle.run_log.specs.declared.event.Event.{Event}
 use Rattle.run_log.specs.Events.{log_tree}
+use Rattle.session_run.specs.Stages.{IsSameSession}
 use Rattle.turn_hall.specs.Passes.{seen_by}
 use Rattle.thread_sessions.specs.Runners.{HasSeen, IsAt}
 use Rattle.thread_sessions.proofs.AlongLemmas.{added_with, turn_seen}
@@ -17,9 +18,9 @@ pub returns-in-Ok-clause-stands : goal.returns-in-Ok-clause-stands
 returns-in-Ok-clause-stands g c =
     let options = g.K.HasOptions.options in
     let at : IsAt options (log_tree (seen_by c.leave.new.pass)) c.next.new.session = search rules in
-    let number : c.next.new.session.number ≡ c.args.session.now.number = search rules in
+    let same : IsSameSession c.args.session.now c.next.new.session = search rules in
     added_with options c.args.pass.now c.turn-turn.new.pass c.leave.new.pass c.args.session.now c.next.new.session _ _ c.leave.ensures.free c.turn-turn.ensures.kept_place c.leave.ensures.kept_place c.turn-turn.ensures.seen
-    c.turn-turn.ensures.own c.turn-turn.ensures.kept_own c.leave.ensures.seen c.leave.ensures.one_more c.leave.ensures.own c.requires.stands.number number at
+    c.turn-turn.ensures.own c.turn-turn.ensures.kept_own c.leave.ensures.seen c.leave.ensures.one_more c.leave.ensures.own c.requires.stands.number (ap (λ k. k.0) same) at
 
 pub returns-in-Ok-clause-one : goal.returns-in-Ok-clause-one
 returns-in-Ok-clause-one g c =

@@ -22,9 +22,7 @@ returns-then-done g c =
     let over = computed_over options (log_tree (seen_by c.args.pass.now)) c.args.session.now c.outside.new.self c.requires.in_plan c.requires.stands.at.stands computed all in
     record {
       ours = c.requires.ours;
-      number = computed.number;
-      pieces = computed.pieces;
-      wide = computed.wide;
+      session = λ i. (computed.number i, computed.pieces i, computed.wide i);
       stands = computed_with options c.args.pass.now c.args.session.now c.outside.new.self c.requires.in_plan computed c.requires.stands;
       begins = λ aside. may_begin c.outside.new.self.stage (computed_aside c.args.session.now c.outside.new.self computed aside);
       one = λ same. absurd (not_more same);

@@ -27,4 +27,4 @@ pub returns-clause-at : goal.returns-clause-at
 returns-clause-at g c =
     let told = c.in_ok-inside.ensures in
     let options = c.args.self.now.optioned in
-    own_at c.one_reading.ensures g.K.HasOptions.options c.args.self.now.book c.inside.new.book c.args.session.now c.inside.new.self options (c.inside.ensures.options ∙ options) told.number told.pieces told.wide told.does c.requires.at
+    own_at c.one_reading.ensures g.K.HasOptions.options c.args.self.now.book c.inside.new.book c.args.session.now c.inside.new.self options (c.inside.ensures.options ∙ options) (ap (λ k. k.0) told.session) (ap (λ k. k.1) told.session) (ap (λ k. k.2) told.session) told.does c.requires.at
