@@ -41,9 +41,13 @@ abbrev pub MayBegin : Stage → Type 0
 MayBegin (stage.Querying (step.Begun q)) = Unit {0}
 MayBegin at = IsAside at
 
--- a session is the same one: its number, its texts and the way in which it goes through plans
+-- what stays of a session: its number, its texts and the way in which it goes through plans
+abbrev pub identity_of : Session → ℕ × List (List ℕ) × Bool
+identity_of x = (x.number, x.pieces, x.wide)
+
+-- a session is the same one
 abbrev pub IsSameSession : Session → Session → Type 0
-IsSameSession old new = (new.number, new.pieces, new.wide) ≡ (old.number, old.pieces, old.wide)
+IsSameSession old new = identity_of new ≡ identity_of old
 
 -- a session in another stage
 abbrev pub at_stage : Session → Stage → Session

@@ -5,6 +5,7 @@ use Rattle.std.specs.declared.alloc.Global.{Global}
 use Rattle.std.proofs.lemmas.List.{length-map}
 use Rattle.std.proofs.lemmas.Result.{IfOk-weaker}
 use Rattle.pool_policy.specs.declared.options.PoolOptions.{PoolOptions}
+use Rattle.pool_policy.specs.Scorers.{rule_of}
 use Rattle.run_log.specs.Events.{EventTree, log_tree}
 use Rattle.book_core.specs.BookView.{BookView}
 use Rattle.pool_sound.specs.Sound.{IsSoundAlong}
@@ -20,7 +21,7 @@ take_turns-requires g c =
     let start = c.in_ok-book.ensures in
     let made = c.in_ok-sessions.ensures in
     record {
-      scorer = c.requires.scorer ∙ ap (λ (b : BookView). (b.options.evict, b.options.weights)) (sym start);
+      scorer = c.requires.scorer ∙ ap (λ (b : BookView). rule_of b.options) (sym start);
       turns = subst (λ n. AllByRecursion (λ (turn : ℕ). (1 ≤ turn) × (turn ≤ n)) c.args.turns.now) (ap length (sym made.scripts) ∙ length-map sessions (λ (z : Session). z.pieces)) c.requires.turns;
       standing = subst (λ (log : List EventTree). AreStanding book.options log sessions) (ap (λ (b : BookView). log_tree b.log) (sym start)) (made.standing book.options);
       in_plan = made.in_plan;
@@ -31,7 +32,7 @@ run_all-requires g c =
     let start = c.in_ok-book.ensures in
     let played = c.in_ok-take_turns.ensures.played in
     record {
-      scorer = c.requires.scorer ∙ ap (λ (b : BookView). (b.options.evict, b.options.weights)) (sym start) ∙ ap (λ (o : PoolOptions). (o.evict, o.weights)) (sym played.options);
+      scorer = c.requires.scorer ∙ ap (λ (b : BookView). rule_of b.options) (sym start) ∙ ap rule_of (sym played.options);
       standing = played.standing;
       in_plan = played.in_plan;
     }

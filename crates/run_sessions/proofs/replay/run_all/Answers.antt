@@ -1,5 +1,5 @@
 use Rattle.std.proofs.Common.{ap, sym, ◌∙◌, arith}
-use Rattle.pool_policy.specs.declared.options.PoolOptions.{PoolOptions}
+use Rattle.pool_policy.specs.Scorers.{rule_of}
 use Rattle.run_sessions.proofs.CountLemmas.{none_counted, then_counted}
 use Rattle.run_sessions.proofs.RunLemmas.{all_have_run, more_have_run, none_have_run, played_length}
 use Rattle.run_sessions.proofs.replay.run_all.Goals as goal
@@ -16,7 +16,7 @@ run_on-requires g c =
     let same = played_length c.args.book.now c.sessions.book c.args.sessions.now.items c.sessions.sessions.items _ played in
     let low = c.sessions-test.true in
     record {
-      scorer = c.requires.scorer ∙ ap (λ (o : PoolOptions). (o.evict, o.weights)) (sym played.options);
+      scorer = c.requires.scorer ∙ ap rule_of (sym played.options);
       inside = omega (arith, low, same);
       standing = played.standing;
       in_plan = played.in_plan;

@@ -1,6 +1,6 @@
 use Rattle.std.proofs.Common.{◌≡◌, ℕ, ◌≤◌, ◌-◌, ◌+◌, ap, sym, ◌∙◌, subst, take, length, get_or, arith, [], ◌∷◌, ◌++◌}
 use Rattle.std.proofs.lemmas.List.{take_more}
-use Rattle.pool_policy.specs.declared.options.PoolOptions.{PoolOptions}
+use Rattle.pool_policy.specs.Scorers.{rule_of}
 use Rattle.run_sessions.specs.Tables.{HavePlayed}
 use Rattle.run_sessions.proofs.CountLemmas.{none_counted, then_counted}
 use Rattle.run_sessions.proofs.RunLemmas.{none_played, played_length, then_played}
@@ -21,7 +21,7 @@ take_turn-requires g c =
     let high = turn.1 in
     let same = played_length c.args.book.now c.turns.book c.args.sessions.now.items c.turns.sessions.items (take c.turns.i c.args.turns.now) played in
     record {
-      scorer = c.requires.scorer ∙ ap (λ (o : PoolOptions). (o.evict, o.weights)) (sym played.options);
+      scorer = c.requires.scorer ∙ ap rule_of (sym played.options);
       inside = omega (arith, low, high, same);
       standing = played.standing;
       in_plan = played.in_plan;

@@ -1,6 +1,6 @@
 use Rattle.std.proofs.Common.{ℕ, ◌≤◌, List, [], ◌∷◌, length, ap, ap₂, sym, ◌∙◌, subst, refl, arith}
 use Rattle.std.specs.List.{AllByRecursion}
-use Rattle.pool_policy.specs.declared.options.PoolOptions.{PoolOptions}
+use Rattle.pool_policy.specs.Scorers.{rule_of}
 use Rattle.run_log.specs.declared.event.Event.{Event}
 use Rattle.run_log.specs.Events.{log_tree}
 use Rattle.sql_shell.specs.Generated.{IsGenerated}
@@ -22,7 +22,7 @@ play_sessions-requires-clause-short g c =
     subst (AllByRecursion (λ (pieces : List (List ℕ)). length pieces ≤ 256)) (sym items) (few.0, (few.1, tt))
 
 pub play_sessions-requires-clause-scorer : goal.play_sessions-requires-clause-scorer
-play_sessions-requires-clause-scorer g c = c.requires.scorer ∙ ap (λ (o : PoolOptions). (o.evict, o.weights)) (sym c.default_pool-pool.ensures)
+play_sessions-requires-clause-scorer g c = c.requires.scorer ∙ ap rule_of (sym c.default_pool-pool.ensures)
 
 pub returns : goal.returns
 returns g c =

@@ -5,6 +5,7 @@ use Rattle.std.proofs.lemmas.List.{length-map}
 use Rattle.std.specs.declared.vec.Vec.{Vec}
 use Rattle.std.specs.declared.alloc.Global.{Global}
 use Rattle.pool_policy.specs.declared.options.PoolOptions.{PoolOptions}
+use Rattle.pool_policy.specs.Scorers.{rule_of}
 use Rattle.run_log.specs.declared.event.Event.{Event}
 use Rattle.run_log.specs.Events.{EventTree, log_tree}
 use Rattle.pool_sound.specs.Sound.{IsSoundAlong}
@@ -26,7 +27,7 @@ run_scripts-requires-clause-turns g c =
     subst (λ n. AreTurnsOf n (g.C.SessionRunner.course c.args.runner.now)) (sym many) c.requires.ready.turns
 
 pub run_scripts-requires-clause-scorer : goal.run_scripts-requires-clause-scorer
-run_scripts-requires-clause-scorer g c = c.requires.scorer ∙ ap (λ (o : PoolOptions). (o.evict, o.weights)) (sym c.pool_for-pool.ensures)
+run_scripts-requires-clause-scorer g c = c.requires.scorer ∙ ap rule_of (sym c.pool_for-pool.ensures)
 
 pub print_run-requires-clause-each : goal.print_run-requires-clause-each
 print_run-requires-clause-each g c =

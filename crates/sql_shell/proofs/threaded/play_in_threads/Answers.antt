@@ -1,10 +1,11 @@
-use Rattle.std.proofs.Common.{◌≡◌, ℕ, ◌≤◌, List, [], ◌++◌, length, ap, sym, ◌∙◌, subst, arith}
+use Rattle.std.proofs.Common.{ℕ, ◌≤◌, List, [], ◌++◌, length, ap, sym, ◌∙◌, subst, arith}
 use Rattle.std.specs.Prelude.{if◌then◌else◌}
 use Rattle.std.specs.List.{AllByRecursion}
 use Rattle.std.proofs.lemmas.List.{length-map}
 use Rattle.std.specs.declared.vec.Vec.{Vec}
 use Rattle.std.specs.declared.alloc.Global.{Global}
 use Rattle.pool_policy.specs.declared.options.PoolOptions.{PoolOptions}
+use Rattle.pool_policy.specs.Scorers.{rule_of}
 use Rattle.run_log.specs.declared.event.Event.{Event}
 use Rattle.run_log.specs.Events.{EventTree, log_tree}
 use Rattle.pool_sound.specs.Sound.{IsSoundAlong}
@@ -20,7 +21,7 @@ use Rattle.sql_shell.specs.declared.inputs.Course.TheVariants.{InThreads}
 use Rattle.sql_shell.proofs.threaded.play_in_threads.Goals as goal
 
 pub serve_sessions-requires-clause-scorer : goal.serve_sessions-requires-clause-scorer
-serve_sessions-requires-clause-scorer g c κs within = c.requires.scorer ∙ ap (λ (o : PoolOptions). (o.evict, o.weights)) (sym c.pool_for-pool.ensures)
+serve_sessions-requires-clause-scorer g c κs within = c.requires.scorer ∙ ap rule_of (sym c.pool_for-pool.ensures)
 
 pub print_run-requires-clause-each : goal.print_run-requires-clause-each
 print_run-requires-clause-each g c =

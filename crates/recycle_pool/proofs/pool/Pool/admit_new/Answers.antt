@@ -3,12 +3,13 @@ use Rattle.std.proofs.Common.{◌≡◌, ◌+◌, ◌-◌, ◌<◌, ◌++◌, []
 use Rattle.std.specs.Prelude.{ℕ, ◌==◌, ◌&&◌, filter}
 use Rattle.evict_admit.specs.Runs.{is_one_of}
 use Rattle.pool_policy.specs.declared.entry.PoolEntry.{PoolEntry}
-use Rattle.pool_policy.specs.Pool.{PoolState, has_credits, pool_bytes}
+use Rattle.pool_policy.specs.Pool.{PoolState, has_credits}
 use Rattle.pool_policy.specs.Keyed.{shape_in}
 use Rattle.pool_policy.specs.Looks.{paid_back}
 use Rattle.pool_policy.specs.Admits.{Offer, admit_of, credit_of, left_without, one_less, pays_at_end}
 use Rattle.pool_policy.specs.Keeps.{IsOffer}
 use Rattle.pool_policy.proofs.Leaving.{bytes_left}
+use Rattle.pool_policy.specs.Scorers.{rule_of}
 use Rattle.recycle_pool.specs.Answers.{offer_in}
 use Rattle.recycle_pool.specs.Usable.{IsNew}
 use Rattle.recycle_pool.specs.Views.{pool_shown}
@@ -153,7 +154,7 @@ pub new_entry-entry-requires-clause-bytes : goal.new_entry-entry-requires-clause
 new_entry-entry-requires-clause-bytes g c = c.bytes_of-bytes.ensures.bytes
 
 pub make_room-enough-requires-clause-scorer : goal.make_room-enough-requires-clause-scorer
-make_room-enough-requires-clause-scorer g c = c.requires.scorer ∙ ap (λ (p : PoolState). (p.options.evict, p.options.weights)) (sym c.self.view_is)
+make_room-enough-requires-clause-scorer g c = c.requires.scorer ∙ ap (λ (p : PoolState). rule_of p.options) (sym c.self.view_is)
 
 pub overflow_add-self : goal.overflow_add-self
 overflow_add-self g c =

@@ -1,11 +1,12 @@
 -- A write leaves what the policy says.
-use Rattle.std.proofs.Common.{◌≡◌, ◌+◌, ◌-◌, ◌<◌, ◌≤◌, List, ℕ, [], ap, sym, ◌∙◌, subst, refl, arith, length, vec_len}
+use Rattle.std.proofs.Common.{◌≡◌, ◌+◌, ◌-◌, ◌<◌, List, ℕ, [], ap, sym, ◌∙◌, subst, refl, arith, length, vec_len}
 use Rattle.std.proofs.lemmas.List.{length-map}
 use Rattle.pool_policy.specs.declared.entry.PoolEntry.{PoolEntry}
 use Rattle.pool_policy.specs.Pool.{PoolState, pool_bytes, score_at}
 use Rattle.pool_policy.specs.Admits.{left_without, rows_of}
 use Rattle.pool_policy.specs.Writes.{Return, touched_ids, write_of}
 use Rattle.pool_policy.specs.WriteLaws.{IsWrite}
+use Rattle.pool_policy.specs.Scorers.{rule_of}
 use Rattle.evict_admit.specs.Runs.{given_up}
 use Rattle.recycle_pool.specs.Carries.{IsCarried}
 use Rattle.recycle_pool.specs.Views.{pool_shown}
@@ -41,7 +42,7 @@ overflow_add-self g c =
     omega (arith, back, few, c.self.invariant.next, c.self.invariant.moment)
 
 pub plan_last-requires-clause-scorer : goal.plan_last-requires-clause-scorer
-plan_last-requires-clause-scorer g c = c.requires.scorer ∙ ap (λ (p : PoolState). (p.options.evict, p.options.weights)) (sym c.self.view_is)
+plan_last-requires-clause-scorer g c = c.requires.scorer ∙ ap (λ (p : PoolState). rule_of p.options) (sym c.self.view_is)
 
 pub plan_last-requires-clause-plan : goal.plan_last-requires-clause-plan
 plan_last-requires-clause-plan g c =

@@ -1,5 +1,6 @@
 use Rattle.std.proofs.Common.{ap, sym, ◌∙◌, subst}
 use Rattle.pool_policy.specs.declared.options.PoolOptions.{PoolOptions}
+use Rattle.pool_policy.specs.Scorers.{rule_of}
 use Rattle.run_log.specs.Events.{log_tree}
 use Rattle.session_run.specs.Kept.{Stands}
 use Rattle.session_run.specs.Works.{IsWorked}
@@ -11,7 +12,7 @@ inside-requires g c =
     let options = c.args.self.now.optioned in
     let log = log_tree c.args.self.now.book.log in
     record {
-      scorer = c.requires.scorer ∙ ap (λ (o : PoolOptions). (o.evict, o.weights)) (sym options);
+      scorer = c.requires.scorer ∙ ap rule_of (sym options);
       stands = subst (λ (o : PoolOptions). Stands o log c.args.session.now) (sym options) c.requires.at.stands;
       worked = subst (λ (o : PoolOptions). IsWorked o log c.args.session.now) (sym options) c.requires.at.worked;
       more = c.requires.more;
