@@ -1,23 +1,25 @@
 ghost use Rattle.std.specs.Prelude.{◌≡◌, ◌<◌};
 
-use bat_core::{Obj, Operate};
 use bat_kernel::Kernel;
-use causes::{MemScripts, MemSink, SureScripts};
-use cell_core::{Memory, Op, RunError, Steps, Word, word_of};
+use causes::{MemScripts, MemSink};
+use cell_core::{Memory, Steps, Word, word_of};
 use sql_shell::top;
 use std::alloc::Global;
 use std::marker::Brand;
 use std::sync::Wait;
-use std::sync::atomic::{AtomicU64, Ordering};
 use std::sync::ledger::{Blank, Ledger};
 use std::test::Fail;
 use std::thread::Threads;
 
 mod closures;
+mod counted;
 mod gates;
 mod generated;
-mod pooled;
-mod pools;
+mod giving_up;
+mod grown;
+mod kernels;
+mod log_order;
+mod replays;
 mod replies;
 
 use replies::Replied;
@@ -302,37 +304,6 @@ fn scripts_have_their_status(rt: HostRuntime) -> Result<(), Fail> {
     Ok(())
 }
 
-/// A replay of two scripts by an empty schedule.
-fn run_two<R: Threads + Wait + Sync>(
-    rt: &R,
-    alloc: Global,
-    first: &str,
-    second: &str,
-) -> Result<RunOutcome, Memory> {
-    let first = Vec::from_slice(alloc, first.as_bytes())?;
-    let second = Vec::from_slice(alloc, second.as_bytes())?;
-    let files = vec![in alloc;
-        (word_of(alloc, "order")?, Vec::new(alloc)),
-        (word_of(alloc, "a.sql")?, first),
-        (word_of(alloc, "b.sql")?, second),
-    ]?;
-    let words = ["replay", "order", "a.sql", "b.sql"];
-    run_words::<Brand, _>(rt, alloc, words.as_slice(), files, (0, 0), Blank::new(1))
-}
-
-#[test]
-fn sessions_one_after_the_other(rt: HostRuntime) -> Result<(), Fail> {
-    let alloc = rt.alloc();
-    let (status, at, text) = run_two(&rt, alloc, THREE, ASKED_AGAIN)?;
-    assert_eq!(rt; (status, at), (0, 0));
-    let want = "session 1 a.sql\n1 ok\n2 ok 3\n3 rows 2\n2\n3\nsession 2 b.sql\n1 rows 2\n2\n3\n\
-        history 2\n1 1 1 CREATE TABLE t (a INT);\n2 1 2 INSERT INTO t VALUES (3), (1), (2);\n\
-        pool\nentries 6\nbytes 512\npeak 512\nlooks 12\nexact 6\nwithin 0\nacross 0\nmiss 6\ntaken 6\nthere 0\n\
-        stale 0\norphan 0\nnocredit 0\nnoroom 0\nevicted 0\ndropped 0\ncarried 0\nwork 27\nevents 24\n";
-    assert_eq!(rt; text.as_slice(), want.as_bytes());
-    Ok(())
-}
-
 #[test]
 fn at_most_sixteen_files(rt: HostRuntime) -> Result<(), Fail> {
     let alloc = rt.alloc();
@@ -350,150 +321,5 @@ fn at_most_sixteen_files(rt: HostRuntime) -> Result<(), Fail> {
     ];
     let (status, at, _) = run(&rt, alloc, seventeen.as_slice(), b"", (0, 0))?;
     assert_eq!(rt; (status, at), (1, 0));
-    Ok(())
-}
-
-/// The kernel, which counts its calls and has memory for this many of them.
-#[derive(Drop)]
-struct Counting {
-    calls: AtomicU64,
-    most: u64,
-}
-
-impl Operate for Counting {
-    fn run<L: Ledger>(
-        &self,
-        alloc: Global,
-        op: Op,
-        args: &[Obj],
-        steps: &mut Steps<L>,
-    ) -> Result<Obj, RunError> {
-        if self.most <= self.calls.fetch_add(1, Ordering::SeqCst) {
-            let _ = self.calls.fetch_sub(1, Ordering::SeqCst);
-            return Err(RunError::Memory);
-        }
-        Kernel::new().run(alloc, op, args, steps)
-    }
-}
-
-/// The status and the work of a run of the words over files, and the number of calls of the kernel.
-fn run_counted<L: Ledger, R: Threads + Wait + Sync>(
-    rt: &R,
-    alloc: Global,
-    texts: &[&str],
-    files: &[(&str, &str)],
-    most: u64,
-    blank: Blank,
-) -> Result<(u8, u128, u64), Memory>
-    requires name { blank.name ≡ L.name }
-    requires parts { blank.parts ≡ L.parts }
-    requires some { 0 < blank.parts }
-{
-    let mut words = Vec::new(alloc);
-    for text in texts {
-        words.push(word_of(alloc, text)?)?;
-    }
-    let mut held = Vec::new(alloc);
-    for (name, text) in files {
-        held.push((
-            word_of(alloc, name)?,
-            Vec::from_slice(alloc, text.as_bytes())?,
-        ))?;
-    }
-    let mut scripts = SureScripts::new(held);
-    let mut out = MemSink::new(alloc, 1000, 1000, Vec::new(alloc))?;
-    let mut steps = Steps::<L>::new(blank);
-    let kernel = Counting {
-        calls: AtomicU64::new(0),
-        most,
-    };
-    let served = top(
-        rt,
-        alloc,
-        words.as_slice(),
-        &mut scripts,
-        &mut out,
-        &kernel,
-        &mut steps,
-    );
-    Ok((
-        served.status,
-        served.work,
-        kernel.calls.load(Ordering::SeqCst),
-    ))
-}
-
-/// The same over one script, with this number of workers for each query.
-fn counted<R: Threads + Wait + Sync>(
-    rt: &R,
-    alloc: Global,
-    workers: &str,
-    script: &str,
-    most: u64,
-) -> Result<(u8, u128, u64), Memory> {
-    run_counted::<Brand, _>(
-        rt,
-        alloc,
-        &["run", "--workers", workers, "a.sql"],
-        &[("a.sql", script)],
-        most,
-        Blank::new(1),
-    )
-}
-
-/// The same over two scripts, in the order of an empty schedule.
-fn replayed<'a, R: Threads + Wait + Sync>(
-    rt: &R,
-    alloc: Global,
-    first: &'a str,
-    second: &'a str,
-    most: u64,
-) -> Result<(u8, u128, u64), Memory> {
-    run_counted::<Brand, _>(
-        rt,
-        alloc,
-        &["replay", "order", "a.sql", "b.sql"],
-        &[("order", ""), ("a.sql", first), ("b.sql", second)],
-        most,
-        Blank::new(1),
-    )
-}
-
-/// The script of three rows, and its query once more.
-const ASKED_TWICE: &str = "CREATE TABLE t (a INT); INSERT INTO t VALUES (3), (1), (2); \
-    SELECT a FROM t WHERE a BETWEEN 2 AND 3; SELECT a FROM t WHERE a BETWEEN 2 AND 3;";
-
-const ASKED_AGAIN: &str = " SELECT a FROM t WHERE a BETWEEN 2 AND 3;";
-
-#[test]
-fn a_query_runs_as_its_plan_once(rt: HostRuntime) -> Result<(), Fail> {
-    let alloc = rt.alloc();
-    // select, mirror, markT, reverse and join, once each: the bind is no call of the kernel, and all is
-    // found the second time
-    for workers in ["1", "2"] {
-        let served = counted(&rt, alloc, workers, ASKED_TWICE, 5)?;
-        assert_eq!(rt; served, (0, 27, 5));
-        let given_up = counted(&rt, alloc, workers, ASKED_TWICE, 4)?;
-        assert_eq!(rt; given_up, (5, 0, 4));
-    }
-    let served = replayed(&rt, alloc, THREE, ASKED_AGAIN, 5)?;
-    assert_eq!(rt; served, (0, 27, 5));
-    let given_up = replayed(&rt, alloc, THREE, ASKED_AGAIN, 4)?;
-    assert_eq!(rt; given_up, (5, 0, 4));
-    Ok(())
-}
-
-const DELETE_AND_UPDATE: &str = "CREATE TABLE t (a INT); INSERT INTO t VALUES (3), (1), (2); \
-    DELETE FROM t WHERE a BETWEEN 2 AND 3; UPDATE t SET a = a + 1;";
-
-#[test]
-fn changes_run_as_their_plans(rt: HostRuntime) -> Result<(), Fail> {
-    let alloc = rt.alloc();
-    // DELETE: a bind of 3 pairs, then select, mirror, markT and reverse: 3 + 5 + 4 + 4 + 4 of work;
-    // UPDATE: a bind of 1 pair, then mirror, markT, reverse, join and +: 1 + 2 + 2 + 2 + 3 + 2
-    let served = counted(&rt, alloc, "2", DELETE_AND_UPDATE, 9)?;
-    assert_eq!(rt; served, (0, 32, 9));
-    let given_up = counted(&rt, alloc, "2", DELETE_AND_UPDATE, 8)?;
-    assert_eq!(rt; given_up, (5, 0, 8));
     Ok(())
 }

@@ -1,53 +1,39 @@
 //! Sessions run beside one another, and so do the instructions of a query.
-ghost use Rattle.std.specs.Prelude.{◌≡◌, ◌<◌};
-
+use super::kernels::{File, run_by};
 use bat_core::{Obj, Operate};
 use bat_kernel::Kernel;
-use causes::{MemSink, SureScripts};
-use cell_core::{Memory, Op, RunError, Steps, word_of};
-use sql_shell::top;
+use cell_core::{Memory, Op, RunError, Steps};
 use std::alloc::Global;
-use std::marker::Brand;
 use std::sync::Wait;
 use std::sync::atomic::{AtomicU64, Ordering};
-use std::sync::ledger::{Blank, Ledger};
+use std::sync::ledger::Ledger;
 use std::test::Fail;
 use std::thread::Threads;
 
-/// The most looks of the first selection for the operator that it awaits.
-const MOST_LOOKS: u64 = 100_000_000;
+/// The most looks of a selection for what it awaits.
+pub(super) const MOST_LOOKS: u64 = 100_000_000;
 
-/// The operator that the first selection awaits.
+/// What selections await.
 #[derive(Clone, Copy)]
 enum Awaited {
-    /// The selection of another session.
-    Session,
-    /// The other selection of its own query.
-    Selection,
-    /// A mirror, which comes after the other selection of its own query.
+    /// So many selections, the first ones, await that all of them have started.
+    Selections(u64),
+    /// The first selection awaits a mirror.
     Mirror,
 }
 
 impl Awaited {
-    /// The number of workers, as a word.
-    fn workers(self) -> &'static str {
+    /// How many selections are held.
+    fn held(self) -> u64 {
         match self {
-            Awaited::Session => "1",
-            Awaited::Selection | Awaited::Mirror => "2",
-        }
-    }
-
-    /// The scripts, each with its name.
-    fn scripts(self) -> &'static [(&'static str, &'static str)] {
-        match self {
-            Awaited::Session => APART,
-            Awaited::Selection | Awaited::Mirror => TOGETHER,
+            Awaited::Selections(count) => count,
+            Awaited::Mirror => 1,
         }
     }
 }
 
-/// The kernel, which holds the first selection until the awaited operator starts, and notes whether
-/// it did.
+/// The kernel, which holds the first selections until what they await has started, and counts those
+/// that saw it.
 #[derive(Drop)]
 struct Holding {
     awaited: Awaited,
@@ -66,19 +52,19 @@ impl Holding {
         }
     }
 
-    /// Whether the awaited operator has started.
+    /// Whether what is awaited has started.
     fn is_met(&self) -> bool {
         match self.awaited {
-            Awaited::Session | Awaited::Selection => self.selections.load(Ordering::SeqCst) > 1,
+            Awaited::Selections(count) => self.selections.load(Ordering::SeqCst) >= count,
             Awaited::Mirror => self.mirrors.load(Ordering::SeqCst) > 0,
         }
     }
 
-    /// Waits for the awaited operator to start.
+    /// Waits for what is awaited.
     fn hold(&self) {
         for _ in 0..MOST_LOOKS {
             if self.is_met() {
-                self.met.store(1, Ordering::SeqCst);
+                self.met.fetch_add(1, Ordering::SeqCst);
                 return;
             }
         }
@@ -96,7 +82,9 @@ impl Operate for Holding {
         if matches!(op, Op::Mirror) {
             self.mirrors.fetch_add(1, Ordering::SeqCst);
         }
-        if matches!(op, Op::Select) && self.selections.fetch_add(1, Ordering::SeqCst) == 0 {
+        if matches!(op, Op::Select)
+            && self.selections.fetch_add(1, Ordering::SeqCst) < self.awaited.held()
+        {
             self.hold();
         }
         Kernel::new().run(alloc, op, args, steps)
@@ -104,7 +92,7 @@ impl Operate for Holding {
 }
 
 /// Scripts without a table in common.
-const APART: &[(&str, &str)] = &[
+const APART: &[File<'static>] = &[
     (
         "a.sql",
         "CREATE TABLE t (a INT); INSERT INTO t VALUES (3); SELECT a FROM t WHERE a BETWEEN 2 AND 3;",
@@ -116,84 +104,80 @@ const APART: &[(&str, &str)] = &[
 ];
 
 /// A query with two independent selections.
-const TOGETHER: &[(&str, &str)] = &[(
+const TOGETHER: &[File<'static>] = &[(
     "a.sql",
     "CREATE TABLE t (a INT); INSERT INTO t VALUES (3); CREATE TABLE u (b INT); INSERT INTO u VALUES (4); \
      SELECT a, b FROM t, u WHERE t.a < 5 AND u.b < 5;",
 )];
 
-/// The status of a run of the scripts, and whether the awaited operator started.
-fn run_held<L: Ledger, R: Threads + Wait + Sync>(
-    rt: &R,
-    alloc: Global,
-    awaited: Awaited,
-    blank: Blank,
-) -> Result<(u8, u64), Memory>
-    requires name { blank.name ≡ L.name }
-    requires parts { blank.parts ≡ L.parts }
-    requires some { 0 < blank.parts }
-{
-    let mut words = Vec::new(alloc);
-    for word in ["run", "--workers", awaited.workers()] {
-        words.push(word_of(alloc, word)?)?;
-    }
-    let mut held = Vec::new(alloc);
-    for (name, text) in awaited.scripts() {
-        words.push(word_of(alloc, name)?)?;
-        held.push((
-            word_of(alloc, name)?,
-            Vec::from_slice(alloc, text.as_bytes())?,
-        ))?;
-    }
-    let mut scripts = SureScripts::new(held);
-    let mut out = MemSink::new(alloc, 1000, 1000, Vec::new(alloc))?;
-    let mut steps = Steps::<L>::new(blank);
-    let kernel = Holding::new(awaited);
-    let served = top(
-        rt,
-        alloc,
-        words.as_slice(),
-        &mut scripts,
-        &mut out,
-        &kernel,
-        &mut steps,
-    );
-    Ok((served.status, kernel.met.load(Ordering::SeqCst)))
-}
+/// A query with three independent selections.
+const THREE_TOGETHER: &[File<'static>] = &[(
+    "a.sql",
+    "CREATE TABLE t (a INT); INSERT INTO t VALUES (3); CREATE TABLE u (b INT); INSERT INTO u VALUES (4); \
+     CREATE TABLE v (c INT); INSERT INTO v VALUES (2); \
+     SELECT a, b, c FROM t, u, v WHERE a < 5 AND b < 5 AND c < 5;",
+)];
 
-/// The same with a counter of its own.
-fn run_here<R: Threads + Wait + Sync>(
+/// What a case shows, what its selections await, its words, and its scripts.
+type Case = (
+    &'static str,
+    Awaited,
+    &'static str,
+    &'static [File<'static>],
+);
+
+const CASES: [Case; 5] = [
+    (
+        "a selection starts while another session's is held",
+        Awaited::Selections(2),
+        "run --workers 1 a.sql b.sql",
+        APART,
+    ),
+    (
+        "the same with the default number of workers",
+        Awaited::Selections(2),
+        "run a.sql b.sql",
+        APART,
+    ),
+    (
+        "a selection starts while the other one of its query is held",
+        Awaited::Selections(2),
+        "run --workers 2 a.sql",
+        TOGETHER,
+    ),
+    (
+        "a selection starts while the two others of its query are held",
+        Awaited::Selections(3),
+        "run --workers 3 a.sql",
+        THREE_TOGETHER,
+    ),
+    (
+        "a mirror starts while the first selection of its query is held",
+        Awaited::Mirror,
+        "run --workers 2 a.sql",
+        TOGETHER,
+    ),
+];
+
+/// The status of a run, and how many of its selections saw what they awaited.
+fn run_held<R: Threads + Wait + Sync>(
     rt: &R,
     alloc: Global,
     awaited: Awaited,
+    words: &str,
+    scripts: &[File<'_>],
 ) -> Result<(u8, u64), Memory> {
-    run_held::<Brand, _>(rt, alloc, awaited, Blank::new(1))
+    let kernel = Holding::new(awaited);
+    let done = run_by(rt, alloc, words, scripts, &kernel)?;
+    Ok((done.status, kernel.met.load(Ordering::SeqCst)))
 }
 
 #[test]
-fn a_selection_starts_while_another_sessions_is_held(rt: HostRuntime) -> Result<(), Fail> {
+fn work_starts_while_other_work_is_held(rt: HostRuntime) -> Result<(), Fail> {
     let alloc = rt.alloc();
-    let (status, met) = run_here(&rt, alloc, Awaited::Session)?;
-    assert_eq!(rt; (status, met), (0, 1));
-    Ok(())
-}
-
-#[test]
-fn a_selection_starts_while_the_other_one_of_its_query_is_held(
-    rt: HostRuntime,
-) -> Result<(), Fail> {
-    let alloc = rt.alloc();
-    let (status, met) = run_here(&rt, alloc, Awaited::Selection)?;
-    assert_eq!(rt; (status, met), (0, 1));
-    Ok(())
-}
-
-#[test]
-fn a_mirror_starts_while_the_first_selection_of_its_query_is_held(
-    rt: HostRuntime,
-) -> Result<(), Fail> {
-    let alloc = rt.alloc();
-    let (status, met) = run_here(&rt, alloc, Awaited::Mirror)?;
-    assert_eq!(rt; (status, met), (0, 1));
+    for (name, awaited, words, scripts) in CASES {
+        let held = run_held(&rt, alloc, awaited, words, scripts)?;
+        assert_eq!(rt; held, (0, awaited.held()), "{name}");
+    }
     Ok(())
 }

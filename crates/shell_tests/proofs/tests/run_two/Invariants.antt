@@ -1,4 +1,0 @@
-use Rattle.shell_tests.proofs.tests.run_two.Given as goal
-
-abbrev pub ghosts-run_words : goal.ghosts-run_words
-ghosts-run_words g a = record { name = a.blank.name; parts = a.blank.parts }
