@@ -1,19 +1,18 @@
 -- A table by its name, in a store and in the check.
-use Rattle.std.proofs.Common.{◌≡◌, ℕ, List, [], ◌∷◌, ◌++◌, length, map, Bool, true, false, not, ◌&&◌, cond, Option, Some, None, refl, ap, sym, ◌∙◌}
+use Rattle.std.proofs.Common.{◌≡◌, ℕ, List, [], ◌∷◌, ◌++◌, length, map, Bool, true, false, cond, Option, Some, None, refl, ap, sym, ◌∙◌}
 use Rattle.std.specs.Prelude.{bytes_eq, find, is_some, slice_get}
 use Rattle.std.specs.List.{list_any}
 use Rattle.std.specs.Option.{option_map, option_map_or}
 use Rattle.cell_core.specs.declared.table.Column.{Column}
 use Rattle.cell_core.specs.declared.table.Table.{Table}
 use Rattle.cell_core.specs.declared.table.Db.{Db}
-use Rattle.cell_core.specs.Tables.{first_named, named_table, row_count, names_differ}
+use Rattle.cell_core.specs.Tables.{first_named, named_table, row_count}
 use Rattle.sql_definitions.specs.declared.refusal.Refusal.{Refusal}
 use Rattle.sql_definitions.specs.declared.refusal.Refusal.TheVariants.{KindsDiffer, TableExists}
 use Rattle.sql_definitions.specs.declared.source.Source.{Source}
 use Rattle.sql_definitions.specs.Check.{create_refusals, is_misfit_default, names_twice, over_table, refused_if}
 use Rattle.sql_definitions.specs.Sources.{schema_of, source_named}
 use Rattle.sql_definitions.specs.Valid.{IsValid}
-use Rattle.sql_definitions.specs.Valid as valid
 use Rattle.sql_tree.specs.Names.{name_text}
 use Rattle.sql_kinds.proofs.TableLemmas.{as_source, source_is}
 use Rattle.table_store.specs.declared.heading.Heading.{Heading}
@@ -89,8 +88,4 @@ count_rows name db = go (named_table name db)
 
 -- the names of a valid database's tables differ
 pub differ_in : (db : Db) → IsValid db → NamesDiffer db
-differ_in db holds = same (map (λ (table : Table). table.name) db.tables) ∙ holds.names
-  where
-    same : (names : List (List ℕ)) → names_differ names ≡ valid.names_differ names
-    same [] = refl
-    same (name ∷ names) = ap (λ b. not (list_any (bytes_eq name) names) && b) (same names)
+differ_in db holds = holds.names

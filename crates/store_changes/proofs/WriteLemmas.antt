@@ -1,17 +1,10 @@
--- What a statement comes to under another name, and the load of a change that is refused.
+-- Counts of a statement under another name, and the load of a change that is refused.
 use Rattle.std.proofs.Common.{◌≡◌, ℕ, Bool, true, false, Some, refl, subst}
-use Rattle.std.specs.Prelude.{Result}
 use Rattle.cell_core.specs.declared.table.Db.{Db}
 use Rattle.run_log.specs.Fold.{load_where}
 use Rattle.sql_tree.specs.Tree.{StmtTree}
 use Rattle.sql_definitions.specs.declared.refusal.Refusal.{Refusal}
-use Rattle.table_store.specs.Content.{Content}
-use Rattle.store_changes.specs.declared.outcome.Ready.{Ready}
-use Rattle.store_changes.specs.Rewrites.{ComesTo}
 use Rattle.store_changes.specs.Work.{Counts, change_lost}
-
-pub comes_as : (s t : StmtTree) (content : Content) (ready : Result Ready Refusal) → t ≡ s → ComesTo t content ready → ComesTo s content ready
-comes_as s t content ready same comes = subst (λ u. ComesTo u content ready) same comes
 
 pub counts_as : (s t : StmtTree) (db : Db) (before after work : ℕ) → t ≡ s → Counts before after work (change_lost t db) → Counts before after work (change_lost s db)
 counts_as s t db before after work same counts = subst (λ u. Counts before after work (change_lost u db)) same counts
