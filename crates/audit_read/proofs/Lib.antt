@@ -3,10 +3,3 @@ pub mod ByteLemmas
 pub mod MarkLemmas
 pub mod ScanLemmas
 pub mod TextLemmas
-pub mod CellLemmas
-pub mod ChainSteps
-pub mod BetweenLemmas
-pub mod ExprRules
-pub mod AheadLemmas
-pub mod CondRules
-pub mod PassLemmas

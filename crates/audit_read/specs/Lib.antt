@@ -3,10 +3,3 @@ pub mod Marks
 pub mod Gate
 pub mod Survey
 pub mod Readings
-pub mod Takes
-pub mod Signs
-pub mod Between
-pub mod Ahead
-pub mod ExprLevels
-pub mod CondLevels
-pub mod Forms

@@ -12,7 +12,7 @@ pub(crate) enum Class {
     Letter,
     /// A number.
     Digit,
-    /// Nothing.
+    /// No token.
     Blank,
     /// A string.
     Apostrophe,

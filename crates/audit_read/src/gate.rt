@@ -83,7 +83,7 @@ impl Levels {
         }
     }
 
-    /// Goes on past a token. Once a token was too deep, nothing is counted any more.
+    /// Goes on past a token. Once a token was too deep, it counts no more.
     fn pass(&mut self, token: &Token) -> Result<(), Memory>
         requires { AreLevels self.old }
         ensures holds { OnOk result (AreLevels self.new) }

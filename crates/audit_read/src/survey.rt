@@ -12,7 +12,7 @@ ghost use Rattle.sql_tree.specs.Exprs.{cond_exprs, exprs_of_cond};
 ghost use Rattle.sql_tree.specs.Tree.{cond_tree, expr_tree, item_tree, query_tree, set_tree, stmt_tree};
 ghost use Rattle.sql_tree.specs.Tree.StmtTree.{Select};
 
-use crate::counts::{MOST_OF_COND, MOST_OF_EXPR, cond_facts, expr_facts, is_unread};
+use audit_exprs::{MOST_OF_COND, MOST_OF_EXPR, cond_facts, expr_facts, is_unread};
 use cell_core::{Cell, Column, Sequence, Word};
 use sql_tree::{Cond, Expr, Item, Place, Placed, Query, SortKey, Stmt, Token};
 
@@ -80,7 +80,7 @@ fn has_arithmetic(cond: Option<&Cond>) -> bool
     ensures { result ≡ refused.cond_left_out (option_map cond_tree (option_copied cond.entry)) }
 {
     match cond {
-        Some(cond) => cond_facts(cond).arithmetic,
+        Some(cond) => cond_facts(cond).columns,
         None => false,
     }
 }

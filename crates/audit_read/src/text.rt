@@ -8,11 +8,11 @@ ghost use Rattle.sql_grammar.specs.Reads.{ArePlain, tokens_in};
 ghost use Rattle.sql_grammar.specs.Refused as refused;
 ghost use Rattle.sql_tree.specs.Tree.{stmt_tree};
 
-use crate::cursor::NotRead;
-use crate::forms::read_statement;
 use crate::gate::{Gate, pass_gate};
 use crate::scan::scan;
 use crate::survey::{first_limit, left_out};
+use audit_exprs::NotRead;
+use audit_statements::read_statement;
 use cell_core::{Memory, Word, word_of};
 use read_laws::limits_as_read;
 use sql_definitions::Refusal;
@@ -80,7 +80,7 @@ fn refusal(alloc: Global, tokens: &[Placed], stmt: &Stmt) -> Result<Option<Refus
     }
 }
 
-/// The same of a statement of which nothing is left out.
+/// The same of a statement that has no part that is left out.
 fn passed_limit(alloc: Global, tokens: &[Placed], stmt: &Stmt) -> Result<Option<Refusal>, Memory>
     requires plain { ArePlain (tokens_in tokens.now) }
     requires read { IsReadStmt (tokens_in tokens.now) (stmt_tree stmt.now) }
