@@ -21,6 +21,7 @@ mod kernels;
 mod log_order;
 mod replays;
 mod replies;
+mod small_pool;
 
 use replies::Replied;
 

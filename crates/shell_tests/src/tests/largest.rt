@@ -1,0 +1,209 @@
+//! The largest statements, names and scripts, and each by one larger.
+use super::NOTHING_SERVED;
+use super::played::run_line;
+use cell_core::Memory;
+use std::alloc::Global;
+use std::sync::Wait;
+use std::test::Fail;
+use std::thread::Threads;
+
+/// What is tried, the parts of the script, each with how often it comes, and the end of the output up
+/// to the history, or for the largest file all of it.
+type Case = (&'static str, &'static [(&'static str, usize)], &'static str);
+
+const TEXT_TABLE: (&str, usize) = ("CREATE TABLE t (a TEXT); INSERT INTO t VALUES ('", 1);
+
+const LARGE_SCRIPTS: [Case; 8] = [
+    (
+        "a statement of 65,536 bytes",
+        &[TEXT_TABLE, ("x", 65_511), ("')", 1)],
+        "session 1 a.sql\n1 ok\n2 ok 1\nhistory 2\n",
+    ),
+    (
+        "a statement of 65,537 bytes",
+        &[TEXT_TABLE, ("x", 65_512), ("')", 1)],
+        "session 1 a.sql\n1 ok\n2 refused 11 limit statement\nhistory 1\n",
+    ),
+    (
+        "256 statements",
+        &[
+            ("CREATE TABLE t (a INT)", 1),
+            ("; INSERT INTO t VALUES (1)", 254),
+            ("; SELECT COUNT(*) FROM t", 1),
+        ],
+        "\n255 ok 1\n256 rows 1\n254\nhistory 255\n",
+    ),
+    ("1,048,576 spaces", &[(" ", 1_048_576)], NOTHING_SERVED),
+    (
+        "a name of 64 bytes",
+        &[("CREATE TABLE ", 1), ("n", 64), (" (a INT)", 1)],
+        "session 1 a.sql\n1 ok\nhistory 1\n",
+    ),
+    (
+        "a name of 65 bytes",
+        &[("CREATE TABLE ", 1), ("n", 65), (" (a INT)", 1)],
+        "session 1 a.sql\n1 refused 11 limit name\nhistory 0\n",
+    ),
+    (
+        "512 levels",
+        &[ONE_ROW, ("(", 512), ("a = 1", 1), (")", 512)],
+        "session 1 a.sql\n1 ok\n2 ok 2\n3 rows 1\n1\nhistory 2\n",
+    ),
+    (
+        "513 levels",
+        &[ONE_ROW, ("(", 513), ("a = 1", 1), (")", 513)],
+        "session 1 a.sql\n1 ok\n2 ok 2\n3 refused 11 limit nesting\nhistory 2\n",
+    ),
+];
+
+const ONE_ROW: (&str, usize) = (
+    "CREATE TABLE t (a INT); INSERT INTO t VALUES (1), (2); SELECT a FROM t WHERE ",
+    1,
+);
+
+/// Four tables of two rows each, and a query that begins.
+const FOUR_TABLES: (&str, usize) = (
+    "CREATE TABLE t (a INT); CREATE TABLE u (b INT); CREATE TABLE v (c INT); CREATE TABLE w (d INT); \
+     INSERT INTO t VALUES (1), (2); INSERT INTO u VALUES (3), (4); INSERT INTO v VALUES (5), (6); \
+     INSERT INTO w VALUES (7), (8); SELECT ",
+    1,
+);
+
+/// Items of 64 columns, operators and aggregates.
+const SUM: &str =
+    "SUM(a + b + c + d + a + b + c + d + a + b + c + d + a + b + c + d + a + b + c + d + a + b + c + d + a + b + c + d + a + b + c + d), ";
+
+const MOST: &str =
+    "MAX(a + b + c + d + a + b + c + d + a + b + c + d + a + b + c + d + a + b + c + d + a + b + c + d + a + b + c + d + a + b + c + d), ";
+
+const COUNT: &str =
+    "COUNT(a + b + c + d + a + b + c + d + a + b + c + d + a + b + c + d + a + b + c + d + a + b + c + d + a + b + c + d + a + b + c + d)";
+
+/// 65 literals, columns and operators.
+const TOO_LONG: &str =
+    "a + b + c + d + a + b + c + d + a + b + c + d + a + b + c + d + a + b + c + d + a + b + c + d + a + b + c + d + a + b + c + d - 1";
+
+/// Tests and operators of a condition, but for the first two: three of these have 126.
+const FIRST_TESTS: (&str, usize) = (" AND a < b", 21);
+
+const MORE_TESTS: (&str, usize) = (" AND c < d", 21);
+
+const LAST_TESTS: (&str, usize) = (" AND d < 8", 21);
+
+/// The largest query, and queries that pass one limit each.
+const QUERIES: [Case; 5] = [
+    (
+        "the largest query",
+        &[
+            FOUR_TABLES,
+            (SUM, 16),
+            (MOST, 15),
+            (COUNT, 1),
+            (" FROM t, u, v, w WHERE NOT a = 1", 1),
+            FIRST_TESTS,
+            MORE_TESTS,
+            LAST_TESTS,
+        ],
+        "8 ok 2\n9 rows 1\n576,576,576,576,576,576,576,576,576,576,576,576,576,576,576,576,152,152,152,152,152,152,152,152,152,152,152,152,152,152,152,4\nhistory 8\n",
+    ),
+    (
+        "a query with 33 items",
+        &[
+            FOUR_TABLES,
+            (SUM, 17),
+            (MOST, 15),
+            (COUNT, 1),
+            (" FROM t, u, v, w WHERE NOT a = 1", 1),
+            FIRST_TESTS,
+            MORE_TESTS,
+            LAST_TESTS,
+        ],
+        "8 ok 2\n9 refused 11 limit items\nhistory 8\n",
+    ),
+    (
+        "a query over five tables",
+        &[
+            FOUR_TABLES,
+            (SUM, 16),
+            (MOST, 15),
+            (COUNT, 1),
+            (" FROM t, u, v, w, t x WHERE NOT a = 1", 1),
+            FIRST_TESTS,
+            MORE_TESTS,
+            LAST_TESTS,
+        ],
+        "8 ok 2\n9 refused 11 limit tables\nhistory 8\n",
+    ),
+    (
+        "a query with 129 tests and operators",
+        &[
+            FOUR_TABLES,
+            (SUM, 16),
+            (MOST, 15),
+            (COUNT, 1),
+            (" FROM t, u, v, w WHERE NOT NOT a = 1", 1),
+            FIRST_TESTS,
+            MORE_TESTS,
+            LAST_TESTS,
+        ],
+        "8 ok 2\n9 refused 11 limit conditions\nhistory 8\n",
+    ),
+    (
+        "an item of 65 literals, columns and operators",
+        &[
+            FOUR_TABLES,
+            (SUM, 16),
+            (MOST, 15),
+            (TOO_LONG, 1),
+            (" FROM t, u, v, w WHERE NOT a = 1", 1),
+            FIRST_TESTS,
+            MORE_TESTS,
+            LAST_TESTS,
+        ],
+        "8 ok 2\n9 refused 11 limit expression\nhistory 8\n",
+    ),
+];
+
+/// The text of the parts, each as often as it comes.
+fn script_of(alloc: Global, parts: &[(&str, usize)]) -> Result<Vec<u8>, Memory> {
+    let mut script = Vec::new(alloc);
+    for (part, times) in parts {
+        for _ in 0..*times {
+            script.extend_from_slice(part.as_bytes())?;
+        }
+    }
+    Ok(script)
+}
+
+/// The status of the run of a script, and whether the output has this text.
+fn served<R: Threads + Wait + Sync>(
+    rt: &R,
+    alloc: Global,
+    parts: &[(&str, usize)],
+    want: &str,
+) -> Result<(u8, bool), Memory> {
+    let script = script_of(alloc, parts)?;
+    let (status, _, text) = run_line(rt, alloc, "run a.sql", &[("a.sql", script.as_slice())])?;
+    let text = String::from_utf8(text).map_err(|_| Memory)?;
+    Ok((status, text.find(want).is_some()))
+}
+
+#[test]
+fn the_largest_scripts(rt: HostRuntime) -> Result<(), Fail> {
+    let alloc = rt.alloc();
+    for (name, parts, want) in LARGE_SCRIPTS {
+        let served = served(&rt, alloc, parts, want)?;
+        assert_eq!(rt; served, (0, true), "{name}");
+    }
+    Ok(())
+}
+
+#[test]
+fn the_largest_queries(rt: HostRuntime) -> Result<(), Fail> {
+    let alloc = rt.alloc();
+    for (name, parts, want) in QUERIES {
+        let served = served(&rt, alloc, parts, want)?;
+        assert_eq!(rt; served, (0, true), "{name}");
+    }
+    Ok(())
+}
