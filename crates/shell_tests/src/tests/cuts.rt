@@ -30,7 +30,7 @@ const REPLIES: [&str; 7] = [
 
 /// The least length of a part, the least length above, and the reply to what is after the last `;` of
 /// parts of these lengths; nothing where that is no statement.
-const RESTS: [(usize, usize, &str); 125] = [
+const RESTS: &[(usize, usize, &str)] = &[
     (0, 1, ""),
     (1, 190, "1 refused 1 syntax\n"),
     (190, 191, "1 ok\n"),
@@ -158,6 +158,14 @@ const RESTS: [(usize, usize, &str); 125] = [
     (866, 868, ""),
 ];
 
+/// The part of the script of this length.
+fn part_of(length: usize) -> &'static [u8] {
+    match SCRIPT.as_bytes().get(..length) {
+        Some(part) => part,
+        None => &[],
+    }
+}
+
 /// The output for a part of the script, up to the number of changes.
 fn wanted(alloc: Global, part: &[u8], rest: &str) -> Result<String, Memory> {
     let whole = part.iter().filter(|byte| **byte == b';').count();
@@ -192,8 +200,7 @@ fn first_wrong<R: Threads + Wait + Sync>(
     rest: &str,
 ) -> Result<Option<usize>, Memory> {
     for length in least..above {
-        let part = SCRIPT.as_bytes().get(..length).unwrap_or(b"");
-        if !is_replied(rt, alloc, part, rest)? {
+        if !is_replied(rt, alloc, part_of(length), rest)? {
             return Ok(Some(length));
         }
     }
@@ -203,12 +210,12 @@ fn first_wrong<R: Threads + Wait + Sync>(
 #[test]
 fn a_script_is_cut_after_each_byte(rt: HostRuntime) -> Result<(), Fail> {
     let alloc = rt.alloc();
-    let mut next = 0;
+    let mut next = 0usize;
     for (least, above, rest) in RESTS {
-        assert_eq!(rt; least, next);
-        let wrong = first_wrong(&rt, alloc, least, above, rest)?;
+        assert_eq!(rt; *least, next);
+        let wrong = first_wrong(&rt, alloc, *least, *above, rest)?;
         assert_eq!(rt; wrong, None);
-        next = above;
+        next = *above;
     }
     assert_eq!(rt; next, SCRIPT.len().saturating_add(1));
     Ok(())

@@ -13,13 +13,10 @@ use std::sync::ledger::{Blank, Ledger};
 use std::test::Fail;
 use std::thread::Threads;
 
-/// How many bytes the sink takes at a call.
-const PER_CALL: u64 = 10;
-
 /// More than the calls of a run.
 const MOST_CALLS: u64 = 100;
 
-/// The output for the script of three rows, which is that of the worked session in `docs`.
+/// The output for the script of three rows, that of the worked session of the README.
 const SERVED: &str = "session 1 a.sql\n1 ok\n2 ok 3\n3 rows 2\n2\n3\nhistory 2\n\
     1 1 1 CREATE TABLE t (a INT);\n2 1 2 INSERT INTO t VALUES (3), (1), (2);\npool\nentries 6\n\
     bytes 512\npeak 512\nlooks 6\nexact 0\nwithin 0\nacross 0\nmiss 6\ntaken 6\nthere 0\nstale 0\n\
@@ -56,7 +53,7 @@ fn run_failing<L: Ledger, R: Threads + Wait + Sync>(
         ),
     ]?;
     let mut scripts = MemScripts::new(files, vec![in alloc; failing.0]?);
-    let mut out = MemSink::new(alloc, PER_CALL as usize, 1000, vec![in alloc; failing.1]?)?;
+    let mut out = MemSink::new(alloc, 10, 1000, vec![in alloc; failing.1]?)?;
     let mut steps = Steps::<L>::new(blank);
     let served = top(
         rt,
@@ -83,9 +80,9 @@ fn run_here<R: Threads + Wait + Sync>(
     run_failing::<Brand, _>(rt, alloc, failing, Blank::new(1))
 }
 
-/// How many bytes are written where this call of the sink fails.
+/// How many bytes are written where this call of the sink fails: it takes 10 at a call.
 fn written_before(call: u64) -> usize {
-    call.saturating_sub(1).saturating_mul(PER_CALL) as usize
+    (call as usize).saturating_sub(1).saturating_mul(10)
 }
 
 #[test]

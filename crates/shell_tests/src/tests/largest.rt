@@ -13,7 +13,7 @@ type Case = (&'static str, &'static [(&'static str, usize)], &'static str);
 
 const TEXT_TABLE: (&str, usize) = ("CREATE TABLE t (a TEXT); INSERT INTO t VALUES ('", 1);
 
-const LARGE_SCRIPTS: [Case; 8] = [
+const LARGE_SCRIPTS: &[Case] = &[
     (
         "a statement of 65,536 bytes",
         &[TEXT_TABLE, ("x", 65_511), ("')", 1)],
@@ -91,7 +91,7 @@ const MORE_TESTS: (&str, usize) = (" AND c < d", 21);
 const LAST_TESTS: (&str, usize) = (" AND d < 8", 21);
 
 /// The largest query, and queries that pass one limit each.
-const QUERIES: [Case; 5] = [
+const QUERIES: &[Case] = &[
     (
         "the largest query",
         &[
@@ -185,7 +185,7 @@ fn served<R: Threads + Wait + Sync>(
     let script = script_of(alloc, parts)?;
     let (status, _, text) = run_line(rt, alloc, "run a.sql", &[("a.sql", script.as_slice())])?;
     let text = String::from_utf8(text).map_err(|_| Memory)?;
-    Ok((status, text.find(want).is_some()))
+    Ok((status, text.as_str().find(want).is_some()))
 }
 
 #[test]

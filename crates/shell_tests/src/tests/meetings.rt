@@ -10,13 +10,13 @@ use std::test::Fail;
 use std::thread::Threads;
 
 /// The names of the scripts.
-const NAMES: [&str; 16] = [
+const NAMES: &[&str] = &[
     "01.sql", "02.sql", "03.sql", "04.sql", "05.sql", "06.sql", "07.sql", "08.sql", "09.sql",
     "10.sql", "11.sql", "12.sql", "13.sql", "14.sql", "15.sql", "16.sql",
 ];
 
 /// INSERT beside DELETE beside UPDATE, and queries of what they change.
-const ROWS_CHANGE: [Round; 4] = [
+const ROWS_CHANGE: &[Round] = &[
     &[
         "CREATE TABLE t (a INT, b INT)",
         "INSERT INTO t VALUES (1, 1), (2, 2), (3, 3), (4, 4)",
@@ -44,7 +44,7 @@ const ROWS_CHANGE: [Round; 4] = [
 ];
 
 /// ALTER beside INSERT, whose rows fit the columns of one moment alone.
-const COLUMNS_ARE_ADDED: [Round; 4] = [
+const COLUMNS_ARE_ADDED: &[Round] = &[
     &[
         "CREATE TABLE t (a INT)",
         "INSERT INTO t VALUES (1), (2)",
@@ -73,7 +73,7 @@ const COLUMNS_ARE_ADDED: [Round; 4] = [
 
 /// DROP and CREATE beside queries, which keep the tables that they began with, and what the pool has of
 /// these.
-const TABLES_GO_AND_COME: [Round; 4] = [
+const TABLES_GO_AND_COME: &[Round] = &[
     &[
         "CREATE TABLE t (a INT)",
         "INSERT INTO t VALUES (3), (1), (2)",
@@ -101,7 +101,7 @@ const TABLES_GO_AND_COME: [Round; 4] = [
 ];
 
 /// Sixteen sessions that drop one table.
-const ONE_IS_DROPPED: [Round; 16] = [
+const ONE_IS_DROPPED: &[Round] = &[
     &["CREATE TABLE t (a INT)", "DROP TABLE t"],
     &["DROP TABLE t"],
     &["DROP TABLE t"],
@@ -122,9 +122,9 @@ const ONE_IS_DROPPED: [Round; 16] = [
 
 /// Sessions that meet: what they do, their rounds, and how many rounds their scripts have.
 const MEETINGS: [(&str, &[Round], usize); 3] = [
-    ("rows change", &ROWS_CHANGE, 6),
-    ("columns are added", &COLUMNS_ARE_ADDED, 6),
-    ("tables go and come", &TABLES_GO_AND_COME, 6),
+    ("rows change", ROWS_CHANGE, 6),
+    ("columns are added", COLUMNS_ARE_ADDED, 6),
+    ("tables go and come", TABLES_GO_AND_COME, 6),
 ];
 
 /// Options of a run.
@@ -156,7 +156,7 @@ fn scripts_of(
 ) -> Result<Vec<(&'static str, Vec<u8>)>, Memory> {
     let mut scripts = Vec::new(alloc);
     for (name, round) in NAMES.iter().zip(sessions) {
-        scripts.push((*name, script_of(alloc, round, rounds)?))?;
+        scripts.push((*name, script_of(alloc, *round, rounds)?))?;
     }
     Ok(scripts)
 }
@@ -164,7 +164,7 @@ fn scripts_of(
 /// The words of a run of sessions with a log.
 fn line_of(alloc: Global, options: &str, sessions: &[Round]) -> Result<String, Memory> {
     let mut line = format!(in alloc; "run --events {options}")?;
-    for name in NAMES.iter().take(sessions.len()) {
+    for name in names_of(sessions.len()) {
         line.push_str(" ")?;
         line.push_str(name)?;
     }
@@ -200,7 +200,7 @@ fn number_of(word: &str) -> u32 {
 /// The places of the statements in the order of the log: of each its Write, or its Begin.
 fn order_of(alloc: Global, log: &str) -> Result<Vec<Place>, Memory> {
     let mut order = Vec::new(alloc);
-    let mut place = (0, 0);
+    let mut place: Place = (0, 0);
     for word in log.split_whitespace() {
         if word == "write" || word == "begin" {
             order.push(place)?;
@@ -210,12 +210,19 @@ fn order_of(alloc: Global, log: &str) -> Result<Vec<Place>, Memory> {
     Ok(order)
 }
 
+/// The names of so many scripts.
+fn names_of(count: usize) -> &'static [&'static str] {
+    match NAMES.get(..count) {
+        Some(names) => names,
+        None => NAMES,
+    }
+}
+
 /// The replies and the history that the plain programs give in the order of a log.
 fn wanted(alloc: Global, sessions: &[Round], log: &str) -> Result<Vec<u8>, Memory> {
     let order = order_of(alloc, log)?;
     let told = told_in_order(alloc, sessions, order.as_slice())?;
-    let names = NAMES.get(..sessions.len()).unwrap_or(&NAMES);
-    output_of(alloc, names, told.as_slice())
+    output_of(alloc, names_of(sessions.len()), told.as_slice())
 }
 
 /// Whether what was printed has the replies and the history that its own log asks for.
@@ -272,9 +279,9 @@ fn count_of(text: &str, part: &str) -> usize {
 fn one_of_sixteen_drops_the_table(rt: HostRuntime) -> Result<(), Fail> {
     let alloc = rt.alloc();
     for options in OPTIONS {
-        let text = printed(&rt, alloc, options, &ONE_IS_DROPPED, 1)?;
+        let text = printed(&rt, alloc, options, ONE_IS_DROPPED, 1)?;
         assert!(rt;
-            is_of_its_log(alloc, &ONE_IS_DROPPED, text.as_str())?,
+            is_of_its_log(alloc, ONE_IS_DROPPED, text.as_str())?,
             "{options}"
         );
         assert_eq!(rt;
@@ -282,10 +289,7 @@ fn one_of_sixteen_drops_the_table(rt: HostRuntime) -> Result<(), Fail> {
             1
         );
         assert_eq!(rt; count_of(text.as_str(), "DROP TABLE t;\n"), 1);
-        assert_eq!(rt;
-            count_of(text.as_str(), " refused 3 no such table t\n"),
-            15
-        );
+        assert_eq!(rt; count_of(text.as_str(), " refused 3 no such table t\n"), 15);
     }
     Ok(())
 }

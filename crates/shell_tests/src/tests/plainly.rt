@@ -23,7 +23,7 @@ pub(crate) type Place = (u32, u32);
 pub(crate) struct Told {
     place: Place,
     reply: Vec<u8>,
-    change: Vec<u8>,
+    accepted: Vec<u8>,
 }
 
 /// A table without its rows.
@@ -89,13 +89,13 @@ fn change_text(alloc: Global, stmt: &Stmt, shown: &Shown) -> Result<Vec<u8>, Mem
 /// What comes of a statement that was read.
 fn served(alloc: Global, place: Place, stmt: &Stmt, db: &mut Db) -> Result<Told, Memory> {
     let shown = replied(alloc, stmt, db)?;
-    let change = change_text(alloc, stmt, &shown)?;
+    let text = change_text(alloc, stmt, &shown)?;
     let mut reply = Vec::new(alloc);
     write_reply(alloc, place.1, &shown, &mut reply)?;
     Ok(Told {
         place,
         reply,
-        change,
+        accepted: text,
     })
 }
 
@@ -106,7 +106,7 @@ fn unread(alloc: Global, place: Place, refusal: Refusal) -> Result<Told, Memory>
     Ok(Told {
         place,
         reply,
-        change: Vec::new(alloc),
+        accepted: Vec::new(alloc),
     })
 }
 
@@ -123,7 +123,7 @@ fn read(alloc: Global, place: Place, text: &str, db: &mut Db) -> Result<Told, Me
 fn statement_at(sessions: &[Round], place: Place) -> &'static str {
     let session = (place.0 as usize).wrapping_sub(1);
     let round: Round = match sessions.get(session) {
-        Some(round) => round,
+        Some(round) => *round,
         None => &[],
     };
     let count = round.len();
@@ -131,7 +131,7 @@ fn statement_at(sessions: &[Round], place: Place) -> &'static str {
         return "";
     }
     match round.get((place.1 as usize).wrapping_sub(1) % count) {
-        Some(statement) => statement,
+        Some(statement) => *statement,
         None => "",
     }
 }
@@ -185,19 +185,19 @@ fn write_change(
     let (session, statement) = told.place;
     let front = format!(in alloc; "{number} {session} {statement} ")?;
     out.extend_from_slice(front.as_bytes())?;
-    out.extend_from_slice(told.change.as_slice())?;
+    out.extend_from_slice(told.accepted.as_slice())?;
     out.extend_from_slice(b";\n")?;
     Ok(())
 }
 
 /// Adds the history.
 fn write_changes(alloc: Global, told: &[Told], out: &mut Vec<u8>) -> Result<(), Memory> {
-    let count = told.iter().filter(|one| !one.change.is_empty()).count();
+    let count = told.iter().filter(|one| !one.accepted.is_empty()).count();
     let head = format!(in alloc; "history {count}\n")?;
     out.extend_from_slice(head.as_bytes())?;
     let mut number = 0usize;
     for one in told {
-        if !one.change.is_empty() {
+        if !one.accepted.is_empty() {
             number = number.saturating_add(1);
             write_change(alloc, number, one, out)?;
         }

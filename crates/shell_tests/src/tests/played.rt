@@ -17,7 +17,7 @@ pub(crate) fn run_line<R: Threads + Wait + Sync>(
     let words: Vec<&str> = line.split_whitespace().collect(alloc)?;
     let mut held = Vec::new(alloc);
     for (name, text) in files {
-        held.push((word_of(alloc, name)?, Vec::from_slice(alloc, text)?))?;
+        held.push((word_of(alloc, name)?, Vec::from_slice(alloc, *text)?))?;
     }
     run_words::<Brand, _>(rt, alloc, words.as_slice(), held, (0, 0), Blank::new(1))
 }

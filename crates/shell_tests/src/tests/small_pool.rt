@@ -8,6 +8,7 @@ use std::test::Fail;
 use std::thread::Threads;
 
 /// A worked session.
+#[derive(Clone, Copy)]
 struct Case {
     about: &'static str,
     /// The options but for the budget.
@@ -21,7 +22,7 @@ struct Case {
     replies: &'static str,
 }
 
-const CASES: [Case; 12] = [
+const CASES: &[Case] = &[
     Case {
         about: "spans < 5 and > 5 do not cover 4 to 6",
         options: "",
@@ -154,14 +155,15 @@ fn is_replied<R: Threads + Wait + Sync>(
     case: &Case,
 ) -> Result<bool, Memory> {
     let text = replayed(rt, alloc, budget, case)?;
-    let want = format!(in alloc; "{}{pool}", case.replies)?;
+    let replies = case.replies;
+    let want = format!(in alloc; "{replies}{pool}")?;
     Ok(text.as_slice().starts_with(want.as_bytes()))
 }
 
 #[test]
 fn small_pools_answer_alike(rt: HostRuntime) -> Result<(), Fail> {
     let alloc = rt.alloc();
-    for case in &CASES {
+    for case in CASES {
         for (budget, pool) in BUDGETS {
             let replied = is_replied(&rt, alloc, budget, pool, case)?;
             assert!(rt; replied, "{} with {budget}", case.about);
