@@ -158,14 +158,6 @@ const RESTS: &[(usize, usize, &str)] = &[
     (866, 868, ""),
 ];
 
-/// The part of the script of this length.
-fn part_of(length: usize) -> &'static [u8] {
-    match SCRIPT.as_bytes().get(..length) {
-        Some(part) => part,
-        None => &[],
-    }
-}
-
 /// The output for a part of the script, up to the number of changes.
 fn wanted(alloc: Global, part: &[u8], rest: &str) -> Result<String, Memory> {
     let whole = part.iter().filter(|byte| **byte == b';').count();
@@ -200,7 +192,10 @@ fn first_wrong<R: Threads + Wait + Sync>(
     rest: &str,
 ) -> Result<Option<usize>, Memory> {
     for length in least..above {
-        if !is_replied(rt, alloc, part_of(length), rest)? {
+        let Some(part) = SCRIPT.as_bytes().get(..length) else {
+            return Ok(Some(length));
+        };
+        if !is_replied(rt, alloc, part, rest)? {
             return Ok(Some(length));
         }
     }

@@ -164,7 +164,7 @@ fn scripts_of(
 /// The words of a run of sessions with a log.
 fn line_of(alloc: Global, options: &str, sessions: &[Round]) -> Result<String, Memory> {
     let mut line = format!(in alloc; "run --events {options}")?;
-    for name in names_of(sessions.len()) {
+    for name in NAMES.iter().take(sessions.len()) {
         line.push_str(" ")?;
         line.push_str(name)?;
     }
@@ -210,19 +210,11 @@ fn order_of(alloc: Global, log: &str) -> Result<Vec<Place>, Memory> {
     Ok(order)
 }
 
-/// The names of so many scripts.
-fn names_of(count: usize) -> &'static [&'static str] {
-    match NAMES.get(..count) {
-        Some(names) => names,
-        None => NAMES,
-    }
-}
-
 /// The replies and the history that the plain programs give in the order of a log.
 fn wanted(alloc: Global, sessions: &[Round], log: &str) -> Result<Vec<u8>, Memory> {
     let order = order_of(alloc, log)?;
     let told = told_in_order(alloc, sessions, order.as_slice())?;
-    output_of(alloc, names_of(sessions.len()), told.as_slice())
+    output_of(alloc, NAMES, sessions.len(), told.as_slice())
 }
 
 /// Whether what was printed has the replies and the history that its own log asks for.

@@ -119,24 +119,28 @@ fn read(alloc: Global, place: Place, text: &str, db: &mut Db) -> Result<Told, Me
     }
 }
 
-/// The statement at a place; nothing where there is none.
-fn statement_at(sessions: &[Round], place: Place) -> &'static str {
-    let session = (place.0 as usize).wrapping_sub(1);
-    let round: Round = match sessions.get(session) {
-        Some(round) => *round,
-        None => &[],
-    };
+/// The statement of this number, from 1, in a script of rounds.
+fn statement_of(round: Round, number: u32) -> Option<&'static str> {
     let count = round.len();
     if count == 0 {
-        return "";
+        return None;
     }
-    match round.get((place.1 as usize).wrapping_sub(1) % count) {
-        Some(statement) => *statement,
-        None => "",
+    match round.get((number as usize).wrapping_sub(1) % count) {
+        Some(statement) => Some(*statement),
+        None => None,
     }
 }
 
-/// What comes of the statements at these places, in this order.
+/// The statement at a place, if there is one.
+fn statement_at(sessions: &[Round], place: Place) -> Option<&'static str> {
+    match sessions.get((place.0 as usize).wrapping_sub(1)) {
+        Some(round) => statement_of(*round, place.1),
+        None => None,
+    }
+}
+
+/// What comes of the statements at these places, in this order. A place without a statement has no
+/// reply.
 pub(crate) fn told_in_order(
     alloc: Global,
     sessions: &[Round],
@@ -147,8 +151,9 @@ pub(crate) fn told_in_order(
     };
     let mut told = Vec::new(alloc);
     for place in order {
-        let text = statement_at(sessions, *place);
-        told.push(read(alloc, *place, text, &mut db)?)?;
+        if let Some(text) = statement_at(sessions, *place) {
+            told.push(read(alloc, *place, text, &mut db)?)?;
+        }
     }
     Ok(told)
 }
@@ -205,11 +210,16 @@ fn write_changes(alloc: Global, told: &[Told], out: &mut Vec<u8>) -> Result<(), 
     Ok(())
 }
 
-/// The output up to the pool's section, of sessions with these names.
-pub(crate) fn output_of(alloc: Global, names: &[&str], told: &[Told]) -> Result<Vec<u8>, Memory> {
+/// The output up to the pool's section, of so many sessions with these names.
+pub(crate) fn output_of(
+    alloc: Global,
+    names: &[&str],
+    sessions: usize,
+    told: &[Told],
+) -> Result<Vec<u8>, Memory> {
     let mut out = Vec::new(alloc);
     let mut session = 0u32;
-    for name in names {
+    for name in names.iter().take(sessions) {
         session = session.saturating_add(1);
         write_session(alloc, told, session, name, &mut out)?;
     }
