@@ -13,12 +13,14 @@ use std::thread::Threads;
 
 mod closures;
 mod counted;
+mod cuts;
+mod faults;
 mod gates;
 mod generated;
 mod giving_up;
-mod grown;
-mod kernels;
+mod largest;
 mod log_order;
+mod played;
 mod replays;
 mod replies;
 mod small_pool;

@@ -1,7 +1,7 @@
 //! Each operator of a plan is run once, by a session or by workers, and what the pool has is not run
 //! again. A run for which there is one call too few ends without output.
 use super::THREE;
-use super::kernels::{File, run_by};
+use crate::kernels::{NamedText, run_by};
 use bat_core::{Obj, Operate};
 use bat_kernel::Kernel;
 use cell_core::{Memory, Op, RunError, Steps};
@@ -108,7 +108,7 @@ const DELETE_AND_UPDATE_SERVED: &str =
 /// for all operators.
 type Counted = (
     &'static str,
-    &'static [File<'static>],
+    &'static [NamedText<'static>],
     &'static str,
     u128,
     &'static [(Option<Op>, u64)],

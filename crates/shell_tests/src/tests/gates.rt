@@ -1,5 +1,5 @@
 //! Sessions run beside one another, and so do the instructions of a query.
-use super::kernels::{File, run_by};
+use crate::kernels::{NamedText, run_by};
 use bat_core::{Obj, Operate};
 use bat_kernel::Kernel;
 use cell_core::{Memory, Op, RunError, Steps};
@@ -92,7 +92,7 @@ impl Operate for Holding {
 }
 
 /// Scripts without a table in common.
-const APART: &[File<'static>] = &[
+const APART: &[NamedText<'static>] = &[
     (
         "a.sql",
         "CREATE TABLE t (a INT); INSERT INTO t VALUES (3); SELECT a FROM t WHERE a BETWEEN 2 AND 3;",
@@ -104,14 +104,14 @@ const APART: &[File<'static>] = &[
 ];
 
 /// A query with two independent selections.
-const TOGETHER: &[File<'static>] = &[(
+const TOGETHER: &[NamedText<'static>] = &[(
     "a.sql",
     "CREATE TABLE t (a INT); INSERT INTO t VALUES (3); CREATE TABLE u (b INT); INSERT INTO u VALUES (4); \
      SELECT a, b FROM t, u WHERE t.a < 5 AND u.b < 5;",
 )];
 
 /// A query with three independent selections.
-const THREE_TOGETHER: &[File<'static>] = &[(
+const THREE_TOGETHER: &[NamedText<'static>] = &[(
     "a.sql",
     "CREATE TABLE t (a INT); INSERT INTO t VALUES (3); CREATE TABLE u (b INT); INSERT INTO u VALUES (4); \
      CREATE TABLE v (c INT); INSERT INTO v VALUES (2); \
@@ -123,7 +123,7 @@ type Case = (
     &'static str,
     Awaited,
     &'static str,
-    &'static [File<'static>],
+    &'static [NamedText<'static>],
 );
 
 const CASES: [Case; 5] = [
@@ -165,7 +165,7 @@ fn run_held<R: Threads + Wait + Sync>(
     alloc: Global,
     awaited: Awaited,
     words: &str,
-    scripts: &[File<'_>],
+    scripts: &[NamedText<'_>],
 ) -> Result<(u8, u64), Memory> {
     let kernel = Holding::new(awaited);
     let done = run_by(rt, alloc, words, scripts, &kernel)?;

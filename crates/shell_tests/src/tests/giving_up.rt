@@ -1,6 +1,6 @@
 //! A session that meets a kernel without memory ends, and the one beside it runs to its end.
 use super::gates::MOST_LOOKS;
-use super::kernels::{File, run_by};
+use crate::kernels::{NamedText, run_by};
 use bat_core::{Obj, Operate};
 use bat_kernel::Kernel;
 use cell_core::{Memory, Op, RunError, Steps};
@@ -67,7 +67,7 @@ impl Operate for GivingUp {
 /// Two sessions without a table in common. The first one meets the kernel that gives up. The other
 /// has a query, a change and a query after that: select, mirror, markT, reverse and join; mirror,
 /// markT, reverse, join and +; mirror, markT, reverse and count.
-const SESSIONS: &[File<'static>] = &[
+const SESSIONS: &[NamedText<'static>] = &[
     (
         "a.sql",
         "CREATE TABLE t (a INT); INSERT INTO t VALUES (3); SELECT SUM(a) FROM t;",

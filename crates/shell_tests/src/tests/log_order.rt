@@ -1,5 +1,5 @@
 //! Sessions in threads: the answers are those of the order that the printed log has.
-use super::kernels::{File, run_by};
+use crate::kernels::{NamedText, run_by};
 use bat_kernel::Kernel;
 use cell_core::Memory;
 use std::alloc::Global;
@@ -8,7 +8,7 @@ use std::test::Fail;
 use std::thread::Threads;
 
 /// Two sessions, of which the second one needs the first one's table.
-const SESSIONS: &[File<'static>] = &[
+const SESSIONS: &[NamedText<'static>] = &[
     (
         "a.sql",
         "CREATE TABLE t (a INT); INSERT INTO t VALUES (1); SELECT a FROM t;",

@@ -11,20 +11,20 @@ use std::sync::Wait;
 use std::sync::ledger::{Blank, Ledger};
 use std::thread::Threads;
 
-/// A file's name and its text.
-pub(super) type File<'a> = (&'a str, &'a str);
+/// The name of a file, and its text.
+pub type NamedText<'a> = (&'a str, &'a str);
 
 /// What a run did.
 #[derive(Drop)]
-pub(super) struct Done {
+pub struct ProgramRun {
     /// Its status.
-    pub(super) status: u8,
+    pub status: u8,
     /// The file or the line that the status is about.
-    pub(super) at: u64,
+    pub at: u64,
     /// Its work.
-    pub(super) work: u128,
+    pub work: u128,
     /// Its output.
-    pub(super) text: Vec<u8>,
+    pub text: Vec<u8>,
 }
 
 /// The bytes that an output may have.
@@ -40,7 +40,7 @@ fn words_of(alloc: Global, line: &str) -> Result<Vec<Word>, Memory> {
 }
 
 /// The files, in memory.
-fn scripts_of(alloc: Global, files: &[File<'_>]) -> Result<SureScripts, Memory> {
+fn scripts_of(alloc: Global, files: &[NamedText<'_>]) -> Result<SureScripts, Memory> {
     let mut held = Vec::new(alloc);
     for (name, text) in files {
         let text = Vec::from_slice(alloc, text.as_bytes())?;
@@ -57,7 +57,7 @@ fn run_words_by<L: Ledger, R: Threads + Wait + Sync, E: Operate + Sync>(
     mut scripts: SureScripts,
     kernel: &E,
     blank: Blank,
-) -> Result<Done, Memory>
+) -> Result<ProgramRun, Memory>
     requires name { blank.name ≡ L.name }
     requires parts { blank.parts ≡ L.parts }
     requires some { 0 < blank.parts }
@@ -74,7 +74,7 @@ fn run_words_by<L: Ledger, R: Threads + Wait + Sync, E: Operate + Sync>(
         &mut steps,
     );
     let text = Vec::from_slice(alloc, out.held())?;
-    Ok(Done {
+    Ok(ProgramRun {
         status: served.status,
         at: served.at,
         work: served.work,
@@ -83,13 +83,13 @@ fn run_words_by<L: Ledger, R: Threads + Wait + Sync, E: Operate + Sync>(
 }
 
 /// A run of the words over files.
-pub(super) fn run_by<R: Threads + Wait + Sync, E: Operate + Sync>(
+pub fn run_by<R: Threads + Wait + Sync, E: Operate + Sync>(
     rt: &R,
     alloc: Global,
     line: &str,
-    files: &[File<'_>],
+    files: &[NamedText<'_>],
     kernel: &E,
-) -> Result<Done, Memory> {
+) -> Result<ProgramRun, Memory> {
     let words = words_of(alloc, line)?;
     let scripts = scripts_of(alloc, files)?;
     run_words_by::<Brand, _, _>(rt, alloc, words, scripts, kernel, Blank::new(1))

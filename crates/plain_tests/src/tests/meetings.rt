@@ -2,8 +2,9 @@
 //! machine; the log says which it was. By the plain programs, that order has the replies and the history
 //! that are printed, which are compared whole.
 use super::plainly::{Place, Round, output_of, told_in_order};
-use super::played::run_line;
+use bat_kernel::Kernel;
 use cell_core::Memory;
+use shell_tests::run_by;
 use std::alloc::Global;
 use std::sync::Wait;
 use std::test::Fail;
@@ -137,12 +138,12 @@ const OPTIONS: [&str; 5] = [
 ];
 
 /// The script of a session.
-fn script_of(alloc: Global, round: Round, rounds: usize) -> Result<Vec<u8>, Memory> {
-    let mut script = Vec::new(alloc);
+fn script_of(alloc: Global, round: Round, rounds: usize) -> Result<String, Memory> {
+    let mut script = String::new(alloc);
     for _ in 0..rounds {
         for statement in round {
-            script.extend_from_slice(statement.as_bytes())?;
-            script.extend_from_slice(b";\n")?;
+            script.push_str(statement)?;
+            script.push_str(";\n")?;
         }
     }
     Ok(script)
@@ -153,7 +154,7 @@ fn scripts_of(
     alloc: Global,
     sessions: &[Round],
     rounds: usize,
-) -> Result<Vec<(&'static str, Vec<u8>)>, Memory> {
+) -> Result<Vec<(&'static str, String)>, Memory> {
     let mut scripts = Vec::new(alloc);
     for (name, round) in NAMES.iter().zip(sessions) {
         scripts.push((*name, script_of(alloc, *round, rounds)?))?;
@@ -183,10 +184,10 @@ fn printed<R: Threads + Wait + Sync>(
     let scripts = scripts_of(alloc, sessions, rounds)?;
     let mut files = Vec::new(alloc);
     for (name, script) in &scripts {
-        files.push((*name, script.as_slice()))?;
+        files.push((*name, script.as_str()))?;
     }
-    let (_, _, text) = run_line(rt, alloc, line.as_str(), files.as_slice())?;
-    String::from_utf8(text).map_err(|_| Memory)
+    let run = run_by(rt, alloc, line.as_str(), files.as_slice(), &Kernel::new())?;
+    String::from_utf8(run.text).map_err(|_| Memory)
 }
 
 /// The number that a word is, or 0.

@@ -4,9 +4,9 @@ ghost use Rattle.sql_definitions.specs.Answer.{query_of};
 ghost use Rattle.sql_grammar.specs.Formed.{IsFormed};
 ghost use Rattle.sql_tree.specs.Tree.{stmt_tree};
 
-use super::kernels::run_by;
 use bat_kernel::Kernel;
 use cell_core::{Cell, Column, Db, Kind, Memory, Sequence, Table, copy_columns, word_of};
+use shell_tests::run_by;
 use sql_check::check;
 use sql_definitions::{Schema, Source};
 use sql_meaning::slow_answer;

@@ -1,0 +1,3 @@
+mod grown;
+mod meetings;
+mod plainly;
