@@ -4,6 +4,7 @@ ghost use Rattle.score_hook.specs.declared.stats.Evict.TheVariants.{Lru};
 ghost use Rattle.score_hook.specs.Scores.{IsInRange, score_of};
 ghost use Rattle.sql_grammar.specs.Formed.{IsFormed};
 ghost use Rattle.sql_tree.specs.Tree.{stmt_tree};
+ghost use Rattle.pool_policy.specs.Scorers.{IsScorerOf};
 
 use bat_core::{Columns, Shared};
 use bat_kernel::Kernel;
@@ -32,8 +33,7 @@ pub(crate) struct Beside<L: Ledger> {
     steps: Steps<L>,
     /// The plain tables.
     pub(crate) db: Db,
-    ghost kind: { scorer.kind ≡ book.options.evict },
-    ghost weights: { scorer.weights.items ≡ book.options.weights },
+    ghost ruled: { IsScorerOf scorer.kind scorer.weights.items book.options },
 }
 
 // By a call of its own, so that proofs needn't go through its forms where one is dropped.

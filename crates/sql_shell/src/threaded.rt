@@ -8,6 +8,7 @@ ghost use Rattle.score_hook.specs.declared.stats.Evict.TheVariants.{Weighted};
 ghost use Rattle.score_hook.specs.Scores.{AreWeights, IsInRange, score_of};
 ghost use Rattle.sql_shell.specs.declared.inputs.Course.TheVariants.{InThreads};
 ghost use Rattle.sql_shell.specs.Ready.{AreReady, IsServedBy};
+ghost use Rattle.sql_shell.specs.Served.{pool_of};
 ghost use Rattle.pool_policy.specs.Scorers.{IsScorerOf};
 
 use crate::numbers::numbers_are_short;
