@@ -1,7 +1,7 @@
 //! Replays, each compared whole: answers, changes, the pool's section, and the log where it is asked
 //! for. The outputs are those of an independent implementation (`tools/oracle`).
 use super::THREE;
-use super::kernels::{File, run_by};
+use crate::kernels::{NamedText, run_by};
 use bat_kernel::Kernel;
 use cell_core::Memory;
 use std::alloc::Global;
@@ -12,7 +12,7 @@ use std::test::Fail;
 type Replay = (
     &'static str,
     &'static str,
-    &'static [File<'static>],
+    &'static [NamedText<'static>],
     &'static str,
     &'static [u64],
     &'static str,
