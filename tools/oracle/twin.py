@@ -263,7 +263,7 @@ class Twin:
         return set().union(*(self.binds(self.by_id(p)) for p in self.parents(e['key'])))
 
     def write(self, now, table, columns, old_rows=None, added=None):
-        """The work of the operators run on deltas."""
+        """Returns the work of what is computed for the entries that come back."""
         old = {e['id']: e for e in self.es}
         touched = [e for e in self.es if any(t == table and (columns is None or c in columns)
                                              for t, c in self.binds(e))]

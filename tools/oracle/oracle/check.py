@@ -1,6 +1,6 @@
 """The check of a statement over a schema: refusals 3 to 8, 12 and 14, in the order of the rules.
 
-A schema is a dict: table name -> list of Column.  `check` gives a Typed."""
+A schema is a dict: table name -> list of Column.  `check` returns a Typed."""
 from collections import namedtuple
 
 from .canon import name_text

@@ -22,7 +22,8 @@ def after(v):
 
 
 def rank(cut):
-    """The order of cuts: Low, Before(v), After(v), Before(w), High."""
+    """Where a cut is in the order of cuts, which begins with Low and ends
+    with High; Before(v) is just ahead of After(v)."""
     return cut[:3]
 
 
@@ -74,8 +75,8 @@ def greedy(spans, target):
 
 
 def chosen(spans, rows, target):
-    """The chain that is least by cost, then length, then its places;
-    (cost, chain) or None."""
+    """(cost, chain) of the cheapest chain, or None.  Equal costs go by
+    length, and equal lengths by the list of places."""
     if not less(target[0], target[1]):
         return None
     best = {}                   # rank of a cut -> (cost, length, places) from there
@@ -114,7 +115,7 @@ def cheapest(spans, rows, target):
 
 
 def piece_bounds(span):
-    """The constants of the select that gives the pairs of a span."""
+    """The constants of the select that returns the pairs of a span."""
     lo, up = span
     low, li = (NIL, True) if lo == LOW else (lo[3], lo[2] == 0)
     high, hi = (NIL, True) if up == HIGH else (up[3], up[2] == 1)
@@ -228,8 +229,8 @@ class Pool:
         return top * self.weights.get(e.key[0], 1), 1
 
     def next_to_go(self, now, gone=(), parents=()):
-        """The entry with the least (score, id) without pins and dependents
-        that is no parent of the new entry; None where there is none."""
+        """Of the entries that nobody pins, that have no child and are no
+        parent of the new entry, the first by score, then id; or None."""
         has_child = {p for e in self.entries.values() if e.id not in gone for p in e.parents()}
         best = None
         for e in self.entries.values():
@@ -331,8 +332,8 @@ class Pool:
     # -- Write
     def write(self, now, table, columns, old_rows=None, added=None):
         """An accepted write on these columns of the table.  Under INSERT
-        `added` has the new whole columns.  Gives the work of the operators
-        run on deltas."""
+        `added` has the new whole columns.  Returns the work of what is
+        computed for the entries that come back."""
         touched = [e for e in self.entries.values()
                    if any(t == table and (columns is None or c in columns) for t, c in e.binds)]
         names = {e.id for e in touched}

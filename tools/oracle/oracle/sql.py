@@ -262,7 +262,7 @@ _COND_WORDS = ('AND', 'OR', 'NOT', 'BETWEEN', 'IN', 'IS')
 
 
 class Parser:
-    """Recursive descent over the tokens.  Numbers are kept as they stand;
+    """Recursive descent over the tokens.  Numbers are kept as they are;
     ranges are looked at with the limits alone."""
 
     def __init__(self, tokens):
@@ -286,7 +286,7 @@ class Parser:
                 close[stack.pop()] = i
         return close
 
-    # -- small helpers
+    # -- tests of the next tokens
     def at_word(self, *words):
         return self.i < len(self.t) and self.t[self.i].type == 'word' \
             and self.t[self.i].value in words

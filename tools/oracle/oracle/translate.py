@@ -206,7 +206,7 @@ class Translator:
         return self.emit(ARITH[e[1]], a, b)
 
     def cond_value(self, c, leaf):
-        """The value of a condition; `leaf` gives that of a test's operand."""
+        """The value of a condition; `leaf` returns that of a test's operand."""
         if c[0] == 'cmp':
             a = leaf(c[2])
             b = leaf(c[3])
