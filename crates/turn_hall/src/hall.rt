@@ -10,7 +10,6 @@ use crate::view::View;
 use crate::waiters::{Waiters, Wake};
 use atomic_table::{Seat, Table};
 use cell_core::Memory;
-use crossbeam_utils::Backoff;
 use std::alloc::Global;
 use std::sync::Wait;
 
@@ -92,26 +91,29 @@ impl<V: Logged> Hall<V> {
         ensures kept_own { own_entries pass.new ≡ own_entries pass.old }
         ensures kept_place { KeepsPlace pass.old pass.new }
     {
-        let wake = self.wait(rt);
+        let mut wake = self.wait(rt);
         let ticket = self.draw(pass);
-        let backoff = Backoff::new();
         'watches: for _ in rt.forever() {
+            let served = self.served();
             if self.watch(pass, ticket) {
-                self.waiters.served(&wake);
+                self.waiters.leaves(&wake);
                 return Turn::new(self.take_value(pass));
             }
-            backoff.snooze();
+            if self.waiters.watched(&mut wake) {
+                self.sleep(rt, served);
+            }
         }
         unreachable!()
     }
 
-    /// Waits until no pass has the turn or a ticket for it, as far as one read shows. A pass that
-    /// waits here delays no other: a running pass takes its turn before a sleeping one.
+    /// Waits until no pass has the turn or a ticket for it, as far as one read shows, or until it
+    /// has lasted long. A pass that waits here delays no other: a running pass takes its turn before
+    /// a sleeping one.
     fn wait<R: Wait>(&self, rt: &R) -> Wake {
         let mut wake = Wake::new();
         'looks: for _ in rt.forever() {
             let ticket = self.served();
-            if self.is_next(ticket) {
+            if self.is_next(ticket) || wake.is_long() {
                 return wake;
             }
             if self.waiters.looked(&mut wake) {

@@ -9,6 +9,7 @@ use crate::logged::Logged;
 use crate::rule::{
     COUNT, Compare, DrawTicket, PassOn, Publish, SERVING, SplitJoin, TICKETS, VALUE, Watch,
 };
+use crate::waiters::Call;
 use std::sync::Wait;
 use std::time::Duration;
 
@@ -99,8 +100,8 @@ impl<V: Logged> Hall<V> {
             .store::<Publish<V>>(&mut pass.seat, COUNT, count);
     }
 
-    /// Passes the turn on, where the value in the slot stands for what the pass has seen. Wakes a
-    /// sleeping pass where none is awake to take the turn.
+    /// Passes the turn on, where the value in the slot stands for what the pass has seen. Wakes
+    /// sleeping passes where none is awake to take the turn.
     pub(crate) fn pass_on(&self, pass: &mut Pass<V>)
         requires hall { IsPassOf self.now pass.old }
         requires turn { IsAtTurn pass.old.seat.me.0.stage }
@@ -111,8 +112,10 @@ impl<V: Logged> Hall<V> {
         self.table
             .shared
             .fetch_add::<PassOn>(&mut pass.seat, SERVING, 1);
-        if self.waiters.wants_call() {
-            self.table.shared.wake_one(SERVING);
+        match self.waiters.to_call() {
+            Call::Nobody => {}
+            Call::One => self.table.shared.wake_one(SERVING),
+            Call::All => self.table.shared.wake_all(SERVING),
         }
     }
 
