@@ -59,7 +59,7 @@ impl Book {
         ensures logged { IfOk result (λ said. self.new.log ≡ self.old.log ++ event_of who (act.Admit instr key said) ∷ []) }
         ensures same { OnErr result (self.new ≡ self.old) }
     {
-        make_room(&mut self.log)?;
+        make_room(&mut self.log, 0)?;
         let now = self.log.len() as u64 + 1;
         let present = present_of(&self.store, &key);
         let named = key.share(alloc)?;

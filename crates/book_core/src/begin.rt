@@ -78,7 +78,8 @@ impl Begun {
 impl Book {
     /// Begins a query: it is checked, translated and optimised over the present tables, and gets a
     /// snapshot of them. The plan fits these tables, and its meaning over them is the query's
-    /// answer. From then on there is room for its End. `stmt` is its statement.
+    /// answer. From then on there is room for its End; there is room for its looks and admissions,
+    /// too, until other sessions' events use it. `stmt` is its statement.
     pub fn begin(
         &mut self,
         alloc: Global,
@@ -102,8 +103,6 @@ impl Book {
         ensures meaning { IfOk result (λ begun. IfOk begun.plan (λ plan. plan_rows plan (state_of self.old).db ≡ answer_of_stmt (stmt_tree stmt.now) (state_of self.old).db)) }
         ensures same { OnErr result (self.new ≡ self.old) }
     {
-        make_room(&mut self.log)?;
-        let at = self.log.len() as u64 + 1;
         let snap = self.store.snapshot(alloc)?;
         let plan = plan_or_refusal(alloc, &self.store, stmt, query)?;
         let marks = marks_of_outcome(alloc, &plan)?;
@@ -111,6 +110,10 @@ impl Book {
             code: code_of(&plan),
             plan: plan_to_log(alloc, stmt, &plan)?,
         };
+        // Each marked instruction may add a look, an admission and a shape.
+        self.pool.reserve(marks.len() as u64)?;
+        make_room(&mut self.log, marks.len() as u32)?;
+        let at = self.log.len() as u64 + 1;
         count_event(&mut self.totals, &self.pool);
         self.begun[who.session as usize] = true;
         let _ = push_event(&mut self.log, event(who, act));

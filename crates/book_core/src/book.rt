@@ -93,7 +93,7 @@ impl Book {
         ensures same { OnErr result (self.new ≡ self.old) }
         ensures none { OnErr result (parts.new.items ≡ []) }
     {
-        make_room(&mut self.log)?;
+        make_room(&mut self.log, 0)?;
         let now = self.log.len() as u64 + 1;
         let found = self.pool.look(who, now, &key, parts)?;
         let looked = looked(&found);
@@ -129,7 +129,7 @@ impl Book {
         ensures refused { OnOk result (IsUntouched (state_of self.old) (state_of self.new)) }
         ensures same { OnErr result (self.new ≡ self.old) }
     {
-        make_room(&mut self.log)?;
+        make_room(&mut self.log, 0)?;
         count_event(&mut self.totals, &self.pool);
         let act = Act::Write {
             stmt: None,

@@ -17,8 +17,9 @@ pub(crate) const MOST: usize = 1 << 29;
 /// One more than the number of sessions.
 pub(crate) const SESSIONS: usize = 17;
 
-/// Makes room for one event, and for the End of each session after it.
-pub(crate) fn make_room(log: &mut Vec<Event>) -> Result<(), Memory>
+/// Makes room for one event, for a look and an admission of so many instructions, and for the End
+/// of each session after these.
+pub(crate) fn make_room(log: &mut Vec<Event>, instrs: u32) -> Result<(), Memory>
     ensures items { log.new.items ≡ log.old.items }
     ensures room { OnOk result (vec_len log.new + 18 ≤ vec_capacity log.new) }
     ensures few { OnOk result (vec_len log.new < 2 ^ 29) }
@@ -27,7 +28,7 @@ pub(crate) fn make_room(log: &mut Vec<Event>) -> Result<(), Memory>
     if log.len() >= MOST {
         return Err(Memory);
     }
-    log.reserve(SESSIONS + 1)?;
+    log.reserve(2 * instrs as usize + SESSIONS + 1)?;
     Ok(())
 }
 

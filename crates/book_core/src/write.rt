@@ -186,7 +186,7 @@ impl Book {
         ensures logged { IfOk result (λ reply. self.new.log ≡ self.old.log ++ written_by who stmt reply ∷ []) }
         ensures same { OnErr result (self.new ≡ self.old) }
     {
-        make_room(&mut self.log)?;
+        make_room(&mut self.log, 0)?;
         make_room_for_work(&self.totals, load, 0)?;
         self.totals.note_work(load);
         count_event(&mut self.totals, &self.pool);
@@ -214,7 +214,7 @@ impl Book {
         ensures counted { OnOk result (steps.new ≡ steps.old + (write_of (touched_by (stmt_tree stmt) (state_of self.old).db) ((state_of self.old).at + 1) (state_of self.old).pool).work) }
         ensures same { OnErr result (self.new ≡ self.old) }
     {
-        make_room(&mut self.log)?;
+        make_room(&mut self.log, 0)?;
         let now = self.log.len() as u64 + 1;
         let Ready { change, rows } = ready;
         let touched = change.touched();
