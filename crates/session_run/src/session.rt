@@ -125,7 +125,8 @@ impl Session {
 
     /// Computes up to the next event. It also writes the reply to a statement that has ended, and
     /// parses the text of the next one. The counter rises by the work that is done; where the
-    /// query's plan overflows, by at most its load more.
+    /// query's plan overflows, by at most its load more. Where memory runs out, nothing is promised
+    /// of the session.
     pub fn outside<E: Operate, L: Ledger>(
         &mut self,
         alloc: Global,

@@ -54,7 +54,7 @@ pub(crate) fn do_event<K: HasOptions, R: Wait, E: Operate, L: Ledger>(
 }
 
 /// Computes a session's work outside turns and then does its next event. Returns whether it had
-/// one.
+/// one. Where memory runs out, nothing is promised of the session, and a turn adds nothing.
 pub fn take_turn<K: HasOptions, R: Wait, E: Operate, L: Ledger>(
     rt: &R,
     alloc: Global,

@@ -112,7 +112,9 @@ impl Waiters {
             WaitStage::Awake => {
                 if wake.snoozes() {
                     self.asleep.fetch_add(1, Ordering::SeqCst);
-                    self.awake.fetch_sub(1, Ordering::SeqCst);
+                    self.leaves(wake);
+                    // A call that was made before doesn't count for this pass.
+                    self.called.store(0, Ordering::SeqCst);
                     wake.place = WaitStage::Lying;
                 }
                 false
@@ -149,7 +151,7 @@ impl Waiters {
     }
 
     /// Notes that the pass waits no longer as it did. One that had noted that it sleeps may have
-    /// been called: whoever is to be woken next can be called again.
+    /// been called, so the next one can be called again.
     pub fn leaves(&self, wake: &Wake) {
         match wake.place {
             WaitStage::New => {}
@@ -162,6 +164,7 @@ impl Waiters {
             }
             WaitStage::Queued => {
                 self.queued.fetch_sub(1, Ordering::SeqCst);
+                self.called.store(0, Ordering::SeqCst);
             }
         }
     }

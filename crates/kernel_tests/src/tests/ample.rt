@@ -14,7 +14,7 @@ fn two_oids(alloc: Global) -> Result<Cells, Memory> {
     cells.finish(alloc)
 }
 
-/// The cells of a column that lie together at its start, behind Nil.
+/// The cells of a column that lie together at its start, after Nil.
 fn first_cells(alloc: Global, cells: &Cells) -> Result<Cells, Memory> {
     let mut first = CellsBuilder::new(alloc);
     first.push(alloc, Cell::Nil)?;

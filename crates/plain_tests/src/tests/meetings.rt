@@ -1,7 +1,7 @@
 //! Sessions in threads that meet on one table. In which order their statements come is left to the
 //! machine; the log says which it was. By the plain programs, that order has the replies and the history
 //! that are printed, which are compared whole.
-use super::plainly::{Place, Round, output_of, told_in_order};
+use super::plainly::{Place, Round, answers_in_order, output_of};
 use bat_kernel::Kernel;
 use cell_core::Memory;
 use shell_tests::run_by;
@@ -214,8 +214,8 @@ fn order_of(alloc: Global, log: &str) -> Result<Vec<Place>, Memory> {
 /// The replies and the history that the plain programs give in the order of a log.
 fn wanted(alloc: Global, sessions: &[Round], log: &str) -> Result<Vec<u8>, Memory> {
     let order = order_of(alloc, log)?;
-    let told = told_in_order(alloc, sessions, order.as_slice())?;
-    output_of(alloc, NAMES, sessions.len(), told.as_slice())
+    let answers = answers_in_order(alloc, sessions, order.as_slice())?;
+    output_of(alloc, NAMES, sessions.len(), answers.as_slice())
 }
 
 /// Whether what was printed has the replies and the history that its own log asks for.

@@ -1,5 +1,5 @@
-//! What sessions are told by the plain programs, which know no plan and no pool, where their statements
-//! come in a given order.
+//! What the plain programs, which know no plan and no pool, answer to sessions whose statements come
+//! in a given order.
 use answer_text::{write_reply, write_session_line};
 use cell_core::{Db, Memory, Sequence, Table, copy_columns};
 use reply_layout::Shown;
@@ -20,7 +20,7 @@ pub(crate) type Place = (u32, u32);
 
 /// What came of a statement: its place, its reply, and its text where it is an accepted change.
 #[derive(Drop)]
-pub(crate) struct Told {
+pub(crate) struct Answer {
     place: Place,
     reply: Vec<u8>,
     accepted: Vec<u8>,
@@ -87,12 +87,12 @@ fn change_text(alloc: Global, stmt: &Stmt, shown: &Shown) -> Result<Vec<u8>, Mem
 }
 
 /// What comes of a statement that was read.
-fn served(alloc: Global, place: Place, stmt: &Stmt, db: &mut Db) -> Result<Told, Memory> {
+fn served(alloc: Global, place: Place, stmt: &Stmt, db: &mut Db) -> Result<Answer, Memory> {
     let shown = replied(alloc, stmt, db)?;
     let text = change_text(alloc, stmt, &shown)?;
     let mut reply = Vec::new(alloc);
     write_reply(alloc, place.1, &shown, &mut reply)?;
-    Ok(Told {
+    Ok(Answer {
         place,
         reply,
         accepted: text,
@@ -100,10 +100,10 @@ fn served(alloc: Global, place: Place, stmt: &Stmt, db: &mut Db) -> Result<Told,
 }
 
 /// What comes of a text that is refused.
-fn unread(alloc: Global, place: Place, refusal: Refusal) -> Result<Told, Memory> {
+fn unread(alloc: Global, place: Place, refusal: Refusal) -> Result<Answer, Memory> {
     let mut reply = Vec::new(alloc);
     write_reply(alloc, place.1, &Shown::Refused(refusal), &mut reply)?;
-    Ok(Told {
+    Ok(Answer {
         place,
         reply,
         accepted: Vec::new(alloc),
@@ -111,7 +111,7 @@ fn unread(alloc: Global, place: Place, refusal: Refusal) -> Result<Told, Memory>
 }
 
 /// What comes of a text.
-fn read(alloc: Global, place: Place, text: &str, db: &mut Db) -> Result<Told, Memory> {
+fn read(alloc: Global, place: Place, text: &str, db: &mut Db) -> Result<Answer, Memory> {
     match parse(alloc, text) {
         Ok(stmt) => served(alloc, place, &stmt, db),
         Err(ParseError::Refused(refusal)) => unread(alloc, place, refusal),
@@ -141,26 +141,26 @@ fn statement_at(sessions: &[Round], place: Place) -> Option<&'static str> {
 
 /// What comes of the statements at these places, in this order. A place without a statement has no
 /// reply.
-pub(crate) fn told_in_order(
+pub(crate) fn answers_in_order(
     alloc: Global,
     sessions: &[Round],
     order: &[Place],
-) -> Result<Vec<Told>, Memory> {
+) -> Result<Vec<Answer>, Memory> {
     let mut db = Db {
         tables: Sequence::new(alloc),
     };
-    let mut told = Vec::new(alloc);
+    let mut answers = Vec::new(alloc);
     for place in order {
         if let Some(text) = statement_at(sessions, *place) {
-            told.push(read(alloc, *place, text, &mut db)?)?;
+            answers.push(read(alloc, *place, text, &mut db)?)?;
         }
     }
-    Ok(told)
+    Ok(answers)
 }
 
 /// Adds the replies of a session.
-fn write_replies(told: &[Told], session: u32, out: &mut Vec<u8>) -> Result<(), Memory> {
-    for one in told {
+fn write_replies(answers: &[Answer], session: u32, out: &mut Vec<u8>) -> Result<(), Memory> {
+    for one in answers {
         if one.place.0 == session {
             out.extend_from_slice(one.reply.as_slice())?;
         }
@@ -171,37 +171,40 @@ fn write_replies(told: &[Told], session: u32, out: &mut Vec<u8>) -> Result<(), M
 /// Adds the section of a session.
 fn write_session(
     alloc: Global,
-    told: &[Told],
+    answers: &[Answer],
     session: u32,
     name: &str,
     out: &mut Vec<u8>,
 ) -> Result<(), Memory> {
     write_session_line(alloc, session, name, out)?;
-    write_replies(told, session, out)
+    write_replies(answers, session, out)
 }
 
 /// Adds the line of an accepted change, which has this number.
 fn write_change(
     alloc: Global,
     number: usize,
-    told: &Told,
+    answer: &Answer,
     out: &mut Vec<u8>,
 ) -> Result<(), Memory> {
-    let (session, statement) = told.place;
+    let (session, statement) = answer.place;
     let front = format!(in alloc; "{number} {session} {statement} ")?;
     out.extend_from_slice(front.as_bytes())?;
-    out.extend_from_slice(told.accepted.as_slice())?;
+    out.extend_from_slice(answer.accepted.as_slice())?;
     out.extend_from_slice(b";\n")?;
     Ok(())
 }
 
 /// Adds the history.
-fn write_changes(alloc: Global, told: &[Told], out: &mut Vec<u8>) -> Result<(), Memory> {
-    let count = told.iter().filter(|one| !one.accepted.is_empty()).count();
+fn write_changes(alloc: Global, answers: &[Answer], out: &mut Vec<u8>) -> Result<(), Memory> {
+    let count = answers
+        .iter()
+        .filter(|one| !one.accepted.is_empty())
+        .count();
     let head = format!(in alloc; "history {count}\n")?;
     out.extend_from_slice(head.as_bytes())?;
     let mut number = 0usize;
-    for one in told {
+    for one in answers {
         if !one.accepted.is_empty() {
             number = number.saturating_add(1);
             write_change(alloc, number, one, out)?;
@@ -215,14 +218,14 @@ pub(crate) fn output_of(
     alloc: Global,
     names: &[&str],
     sessions: usize,
-    told: &[Told],
+    answers: &[Answer],
 ) -> Result<Vec<u8>, Memory> {
     let mut out = Vec::new(alloc);
     let mut session = 0u32;
     for name in names.iter().take(sessions) {
         session = session.saturating_add(1);
-        write_session(alloc, told, session, name, &mut out)?;
+        write_session(alloc, answers, session, name, &mut out)?;
     }
-    write_changes(alloc, told, &mut out)?;
+    write_changes(alloc, answers, &mut out)?;
     Ok(out)
 }
