@@ -111,8 +111,9 @@ impl Book {
             plan: plan_to_log(alloc, stmt, &plan)?,
         };
         // Each marked instruction may add a look, an admission and a shape.
-        self.pool.reserve(marks.len() as u64)?;
-        make_room(&mut self.log, marks.len() as u32)?;
+        let marked = u32::try_from(marks.len()).map_err(|_| Memory)?;
+        self.pool.reserve(u64::from(marked))?;
+        make_room(&mut self.log, marked)?;
         let at = self.log.len() as u64 + 1;
         count_event(&mut self.totals, &self.pool);
         self.begun[who.session as usize] = true;

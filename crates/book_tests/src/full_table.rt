@@ -2,8 +2,8 @@
 ghost use Rattle.std.specs.Prelude.{◌≡◌, ◌<◌};
 
 use crate::beside::{Beside, read};
-use bat_core::Columns;
-use cell_core::{Memory, word_of};
+use bat_core::{Bat, Columns};
+use cell_core::{Cell, Memory, word_of};
 use sql_definitions::{Refusal, Reply};
 use std::alloc::Global;
 use std::marker::Brand;
@@ -32,12 +32,34 @@ fn fills<L: Ledger>(alloc: Global, beside: &mut Beside<L>) -> Result<bool, Memor
     Ok(right)
 }
 
+/// Whether every pair of a column is of its place and 1.
+fn has_ones(column: &Bat) -> bool {
+    for place in 0..column.len() {
+        let (head, tail) = column.pair(place);
+        let is_one = matches!(tail.cell(), Cell::Int(1));
+        if !is_one || !matches!(head.cell(), Cell::Oid(at) if *at == place) {
+            return false;
+        }
+    }
+    true
+}
+
 /// How many rows the table has, and the version of its column.
 fn rows_now<L: Ledger>(alloc: Global, beside: &mut Beside<L>) -> Result<(u64, u64), Memory> {
     let snap = beside.snapshot(alloc)?;
     let (table, column) = (word_of(alloc, "t")?, word_of(alloc, "a")?);
     match snap.column(alloc, &table, &column)? {
         Some(found) => Ok((found.bat().len(), snap.version(&table, &column))),
+        None => Err(Memory),
+    }
+}
+
+/// Whether each row of the table is 1.
+fn are_ones<L: Ledger>(alloc: Global, beside: &mut Beside<L>) -> Result<bool, Memory> {
+    let snap = beside.snapshot(alloc)?;
+    let (table, column) = (word_of(alloc, "t")?, word_of(alloc, "a")?);
+    match snap.column(alloc, &table, &column)? {
+        Some(found) => Ok(has_ones(found.bat())),
         None => Err(Memory),
     }
 }
@@ -82,7 +104,7 @@ const INSERTS: [(u64, u64); 6] = [
     (1, 1_048_576),
 ];
 
-/// Fills a table. Returns whether each reply is right.
+/// Fills a table. Returns whether each reply is right, and each row at the end.
 fn is_filled<L: Ledger>(alloc: Global, blank: Blank) -> Result<bool, Memory>
     requires name { blank.name ≡ L.name }
     requires parts { blank.parts ≡ L.parts }
@@ -93,7 +115,7 @@ fn is_filled<L: Ledger>(alloc: Global, blank: Blank) -> Result<bool, Memory>
     for (count, after) in INSERTS {
         right &= leaves(alloc, &mut beside, count, after)?;
     }
-    Ok(right)
+    Ok(right && are_ones(alloc, &mut beside)?)
 }
 
 #[test]

@@ -1,3 +1,4 @@
 mod grown;
+mod held;
 mod meetings;
 mod plainly;

@@ -150,7 +150,7 @@ fn script_of(alloc: Global, round: Round, rounds: usize) -> Result<String, Memor
 }
 
 /// The scripts of sessions, each with its name.
-fn scripts_of(
+pub(super) fn scripts_of(
     alloc: Global,
     sessions: &[Round],
     rounds: usize,
@@ -163,7 +163,7 @@ fn scripts_of(
 }
 
 /// The words of a run of sessions with a log.
-fn line_of(alloc: Global, options: &str, sessions: &[Round]) -> Result<String, Memory> {
+pub(super) fn line_of(alloc: Global, options: &str, sessions: &[Round]) -> Result<String, Memory> {
     let mut line = format!(in alloc; "run --events {options}")?;
     for name in NAMES.iter().take(sessions.len()) {
         line.push_str(" ")?;
@@ -219,7 +219,11 @@ fn wanted(alloc: Global, sessions: &[Round], log: &str) -> Result<Vec<u8>, Memor
 }
 
 /// Whether what was printed has the replies and the history that its own log asks for.
-fn is_of_its_log(alloc: Global, sessions: &[Round], printed: &str) -> Result<bool, Memory> {
+pub(super) fn is_of_its_log(
+    alloc: Global,
+    sessions: &[Round],
+    printed: &str,
+) -> Result<bool, Memory> {
     let Some((front, log)) = printed.split_once("\nlog ") else {
         return Ok(false);
     };

@@ -7,8 +7,8 @@ use std::sync::Wait;
 use std::test::Fail;
 use std::thread::Threads;
 
-/// What is tried, the parts of the script, each with how often it comes, and the end of the output up
-/// to the history, or for the largest file all of it.
+/// What is tried, the parts of the script, each with how often it comes, and the output from its
+/// first byte, up to the number of changes; for the largest file it is all of it.
 type Case = (&'static str, &'static [(&'static str, usize)], &'static str);
 
 const TEXT_TABLE: (&str, usize) = ("CREATE TABLE t (a TEXT); INSERT INTO t VALUES ('", 1);
@@ -23,15 +23,6 @@ const LARGE_SCRIPTS: &[Case] = &[
         "a statement of 65,537 bytes",
         &[TEXT_TABLE, ("x", 65_512), ("')", 1)],
         "session 1 a.sql\n1 ok\n2 refused 11 limit statement\nhistory 1\n",
-    ),
-    (
-        "256 statements",
-        &[
-            ("CREATE TABLE t (a INT)", 1),
-            ("; INSERT INTO t VALUES (1)", 254),
-            ("; SELECT COUNT(*) FROM t", 1),
-        ],
-        "\n255 ok 1\n256 rows 1\n254\nhistory 255\n",
     ),
     ("1,048,576 spaces", &[(" ", 1_048_576)], NOTHING_SERVED),
     (
@@ -69,7 +60,8 @@ const FOUR_TABLES: (&str, usize) = (
     1,
 );
 
-/// Items of 64 columns, operators and aggregates.
+/// Items of 63 columns and operators, the most that are no more than 64: an item has an odd number of
+/// them. The aggregate isn't one.
 const SUM: &str =
     "SUM(a + b + c + d + a + b + c + d + a + b + c + d + a + b + c + d + a + b + c + d + a + b + c + d + a + b + c + d + a + b + c + d), ";
 
@@ -104,7 +96,7 @@ const QUERIES: &[Case] = &[
             MORE_TESTS,
             LAST_TESTS,
         ],
-        "8 ok 2\n9 rows 1\n576,576,576,576,576,576,576,576,576,576,576,576,576,576,576,576,152,152,152,152,152,152,152,152,152,152,152,152,152,152,152,4\nhistory 8\n",
+        "session 1 a.sql\n1 ok\n2 ok\n3 ok\n4 ok\n5 ok 2\n6 ok 2\n7 ok 2\n8 ok 2\n9 rows 1\n576,576,576,576,576,576,576,576,576,576,576,576,576,576,576,576,152,152,152,152,152,152,152,152,152,152,152,152,152,152,152,4\nhistory 8\n",
     ),
     (
         "a query with 33 items",
@@ -118,7 +110,7 @@ const QUERIES: &[Case] = &[
             MORE_TESTS,
             LAST_TESTS,
         ],
-        "8 ok 2\n9 refused 11 limit items\nhistory 8\n",
+        "session 1 a.sql\n1 ok\n2 ok\n3 ok\n4 ok\n5 ok 2\n6 ok 2\n7 ok 2\n8 ok 2\n9 refused 11 limit items\nhistory 8\n",
     ),
     (
         "a query over five tables",
@@ -132,7 +124,7 @@ const QUERIES: &[Case] = &[
             MORE_TESTS,
             LAST_TESTS,
         ],
-        "8 ok 2\n9 refused 11 limit tables\nhistory 8\n",
+        "session 1 a.sql\n1 ok\n2 ok\n3 ok\n4 ok\n5 ok 2\n6 ok 2\n7 ok 2\n8 ok 2\n9 refused 11 limit tables\nhistory 8\n",
     ),
     (
         "a query with 129 tests and operators",
@@ -146,7 +138,7 @@ const QUERIES: &[Case] = &[
             MORE_TESTS,
             LAST_TESTS,
         ],
-        "8 ok 2\n9 refused 11 limit conditions\nhistory 8\n",
+        "session 1 a.sql\n1 ok\n2 ok\n3 ok\n4 ok\n5 ok 2\n6 ok 2\n7 ok 2\n8 ok 2\n9 refused 11 limit conditions\nhistory 8\n",
     ),
     (
         "an item of 65 literals, columns and operators",
@@ -160,7 +152,7 @@ const QUERIES: &[Case] = &[
             MORE_TESTS,
             LAST_TESTS,
         ],
-        "8 ok 2\n9 refused 11 limit expression\nhistory 8\n",
+        "session 1 a.sql\n1 ok\n2 ok\n3 ok\n4 ok\n5 ok 2\n6 ok 2\n7 ok 2\n8 ok 2\n9 refused 11 limit expression\nhistory 8\n",
     ),
 ];
 
@@ -175,7 +167,7 @@ fn script_of(alloc: Global, parts: &[(&str, usize)]) -> Result<Vec<u8>, Memory> 
     Ok(script)
 }
 
-/// The status of the run of a script, and whether the output has this text.
+/// The status of the run of a script, and whether the output begins with this text.
 fn served<R: Threads + Wait + Sync>(
     rt: &R,
     alloc: Global,
@@ -185,7 +177,34 @@ fn served<R: Threads + Wait + Sync>(
     let script = script_of(alloc, parts)?;
     let (status, _, text) = run_line(rt, alloc, "run a.sql", &[("a.sql", script.as_slice())])?;
     let text = String::from_utf8(text).map_err(|_| Memory)?;
-    Ok((status, text.as_str().find(want).is_some()))
+    Ok((status, text.as_str().starts_with(want)))
+}
+
+/// The most statements that a script may have.
+const MOST_STATEMENTS: &[(&str, usize)] = &[
+    ("CREATE TABLE t (a INT)", 1),
+    ("; INSERT INTO t VALUES (1)", 254),
+    ("; SELECT COUNT(*) FROM t", 1),
+];
+
+/// Their replies, and the number of changes.
+fn replies_to_most(alloc: Global) -> Result<String, Memory> {
+    let mut text = format!(in alloc; "session 1 a.sql\n1 ok\n")?;
+    for number in 2..256 {
+        let line = format!(in alloc; "{number} ok 1\n")?;
+        text.push_str(line.as_str())?;
+    }
+    text.push_str("256 rows 1\n254\nhistory 255\n")?;
+    Ok(text)
+}
+
+#[test]
+fn each_of_256_statements_has_its_reply(rt: HostRuntime) -> Result<(), Fail> {
+    let alloc = rt.alloc();
+    let want = replies_to_most(alloc)?;
+    let served = served(&rt, alloc, MOST_STATEMENTS, want.as_str())?;
+    assert_eq!(rt; served, (0, true));
+    Ok(())
 }
 
 #[test]
