@@ -26,7 +26,7 @@ pub use cell::{Cell, Kind};
 pub use cut::{Cut, Span, compare_cuts};
 pub use form::{Form, takes_bat};
 pub use memory::{Memory, RunError};
-pub use operator::{Arg, Instr, Op, Value, class_of, copy_args, equal_instrs_are_the_same};
+pub use operator::{Arg, Instr, Op, Value, copy_args, equal_instrs_are_the_same};
 pub use order::{compare, stated_bytes};
 pub use rows::{compare_rows, compare_rows_by, sort_rows, sort_rows_by};
 pub use sequence::Sequence;

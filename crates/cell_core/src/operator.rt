@@ -1,5 +1,4 @@
-ghost use Rattle.std.specs.Prelude.{◌≡◌, ◌↔◌, Some, IfOk, slice_get, true};
-ghost use Rattle.cell_core.specs.Places.{operators};
+ghost use Rattle.std.specs.Prelude.{◌≡◌, ◌↔◌, IfOk, true};
 ghost use Rattle.cell_core.specs.SameInstr.{same_instr};
 
 use crate::cell::Cell;
@@ -80,13 +79,6 @@ pub enum Op {
     Not,
     /// Whether there is no value.
     IsNil,
-}
-
-/// The place of an operator in the table of operators, counted from 0: below 35.
-pub fn class_of(op: Op) -> u32
-    ensures { slice_get operators result ≡ Some op }
-{
-    op as u32
 }
 
 /// An argument of an instruction.

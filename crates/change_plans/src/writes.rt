@@ -46,7 +46,7 @@ fn places_of(alloc: Global, rows: &[Sequence<Cell>]) -> Result<Sequence<u64>, Me
 }
 
 /// The new cells of a row of a plan.
-fn cells_behind(alloc: Global, row: &[Cell]) -> Result<Sequence<Cell>, Memory>
+fn cells_after(alloc: Global, row: &[Cell]) -> Result<Sequence<Cell>, Memory>
     ensures { IfOk result (λ cells. cells ≡ drop 1 row.now) }
 {
     match row {
@@ -62,7 +62,7 @@ fn new_cells(alloc: Global, rows: &[Sequence<Cell>]) -> Result<Sequence<Sequence
     let mut cells = Sequence::new(alloc);
     let mut rest = rows;
     'rows: while let [row, more @ ..] = rest {
-        cells.push(cells_behind(alloc, row.as_slice())?)?;
+        cells.push(cells_after(alloc, row.as_slice())?)?;
         rest = more;
     }
     Ok(cells)

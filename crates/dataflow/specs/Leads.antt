@@ -28,4 +28,4 @@ pub record IsRun {F : Type 0} (b b' : Basis) (fixed fixed' : F) (valued needed :
   pub sound : OnOk result holds
   pub complete : OnOk result (IsComplete b' valued needed handed finished)
   pub overflow : result ≡ Err Overflow → HasFault b' handed
-  pub sound_behind_overflow : result ≡ Err Overflow → holds
+  pub sound_after_overflow : result ≡ Err Overflow → holds

@@ -31,7 +31,7 @@ pub(crate) fn run_alone<K: HasBasis, R: Wait, J: Jobs, E: Operate>(
     ensures sound { OnOk result (J.sound jobs.new) }
     ensures complete { OnOk result (IsComplete (J.basis jobs.new) (J.valued jobs.new) (J.needed jobs.new) (J.handed jobs.new) (J.finished jobs.new)) }
     ensures overflow { result ≡ Err RunError.Overflow → HasFault (J.basis jobs.new) (J.handed jobs.new) }
-    ensures sound_behind_overflow { result ≡ Err RunError.Overflow → J.sound jobs.new }
+    ensures sound_after_overflow { result ≡ Err RunError.Overflow → J.sound jobs.new }
 {
     'steps: for _ in rt.forever() {
         let Some(task) = take(rt, jobs, out)? else {
@@ -63,7 +63,7 @@ pub(crate) fn run_until_two<K: HasBasis, R: Wait, J: Jobs, E: Operate>(
     ensures pair { IfOk result (λ found. IfSome found (λ pair. IsPairOf K.basis pair out.new.items)) }
     ensures complete { IfOk result (λ found. IfNone found (IsComplete (J.basis jobs.new) (J.valued jobs.new) (J.needed jobs.new) (J.handed jobs.new) (J.finished jobs.new))) }
     ensures overflow { result ≡ Err RunError.Overflow → HasFault (J.basis jobs.new) (J.handed jobs.new) }
-    ensures sound_behind_overflow { result ≡ Err RunError.Overflow → J.sound jobs.new }
+    ensures sound_after_overflow { result ≡ Err RunError.Overflow → J.sound jobs.new }
 {
     'steps: for _ in rt.forever() {
         let Some(first) = take(rt, jobs, out)? else {
@@ -96,7 +96,7 @@ pub(crate) fn run_pair_alone<K: HasBasis, R: Wait, J: Jobs, E: Operate>(
     ensures sound { OnOk result (J.sound jobs.new) }
     ensures complete { OnOk result (IsComplete (J.basis jobs.new) (J.valued jobs.new) (J.needed jobs.new) (J.handed jobs.new) (J.finished jobs.new)) }
     ensures overflow { result ≡ Err RunError.Overflow → HasFault (J.basis jobs.new) (J.handed jobs.new) }
-    ensures sound_behind_overflow { result ≡ Err RunError.Overflow → J.sound jobs.new }
+    ensures sound_after_overflow { result ≡ Err RunError.Overflow → J.sound jobs.new }
 {
     let Pair { first, second } = pair;
     run_here::<K, R, J, E>(rt, alloc, jobs, kernel, out, first)?;

@@ -60,7 +60,7 @@ fn dispatch<K: HasBasis, R: Wait, J: Jobs, E: Operate>(
     ensures sound { OnOk result (J.sound jobs.new) }
     ensures known { OnOk result (KnowsOut (J.handed jobs.new) (J.finished jobs.new) out.new.items) }
     ensures overflow { result ≡ Err RunError.Overflow → HasFault (J.basis jobs.new) (J.handed jobs.new) }
-    ensures sound_behind_overflow { result ≡ Err RunError.Overflow → J.sound jobs.new }
+    ensures sound_after_overflow { result ≡ Err RunError.Overflow → J.sound jobs.new }
 {
     match team.queues.push_task(rt, hands, task) {
         Ok(()) => {
@@ -92,7 +92,7 @@ fn step<K: HasBasis, R: Wait, J: Jobs, E: Operate>(
     ensures known { OnOk result (KnowsOut (J.handed jobs.new) (J.finished jobs.new) out.new.items) }
     ensures complete { IfOk result (λ all. IsTrue all → IsComplete (J.basis jobs.new) (J.valued jobs.new) (J.needed jobs.new) (J.handed jobs.new) (J.finished jobs.new)) }
     ensures overflow { result ≡ Err RunError.Overflow → HasFault (J.basis jobs.new) (J.handed jobs.new) }
-    ensures sound_behind_overflow { result ≡ Err RunError.Overflow → J.sound jobs.new }
+    ensures sound_after_overflow { result ≡ Err RunError.Overflow → J.sound jobs.new }
 {
     if let Some(task) = take(rt, jobs, out)? {
         dispatch(rt, alloc, jobs, kernel, team, hands, out, task)?;
@@ -128,7 +128,7 @@ pub(crate) fn lead<K: HasBasis, R: Wait, J: Jobs, E: Operate>(
     ensures sound { OnOk result (J.sound jobs.new) }
     ensures complete { OnOk result (IsComplete (J.basis jobs.new) (J.valued jobs.new) (J.needed jobs.new) (J.handed jobs.new) (J.finished jobs.new)) }
     ensures overflow { result ≡ Err RunError.Overflow → HasFault (J.basis jobs.new) (J.handed jobs.new) }
-    ensures sound_behind_overflow { result ≡ Err RunError.Overflow → J.sound jobs.new }
+    ensures sound_after_overflow { result ≡ Err RunError.Overflow → J.sound jobs.new }
 {
     let Pair { first, second } = pair;
     dispatch(rt, alloc, jobs, kernel, team, hands, out, first)?;

@@ -86,7 +86,7 @@ pub(crate) fn settle<R: Wait, J: Jobs>(
     ensures known { OnOk result (KnowsOut (J.handed jobs.new) (J.finished jobs.new) out.new.items) }
     ensures less { OnOk result (out.new.items ≡ without out.old.items answer.instr) }
     ensures overflow { result ≡ Err RunError.Overflow → HasFault (J.basis jobs.new) (J.handed jobs.new) }
-    ensures sound_behind_overflow { result ≡ Err RunError.Overflow → J.sound jobs.new }
+    ensures sound_after_overflow { result ≡ Err RunError.Overflow → J.sound jobs.new }
 {
     let Answer { instr, result } = answer;
     if !out.contains(&instr) {
@@ -116,7 +116,7 @@ pub(crate) fn run_here<K: HasBasis, R: Wait, J: Jobs, E: Operate>(
     ensures known { OnOk result (KnowsOut (J.handed jobs.new) (J.finished jobs.new) out.new.items) }
     ensures less { OnOk result (out.new.items ≡ without out.old.items task.instr) }
     ensures overflow { result ≡ Err RunError.Overflow → HasFault (J.basis jobs.new) (J.handed jobs.new) }
-    ensures sound_behind_overflow { result ≡ Err RunError.Overflow → J.sound jobs.new }
+    ensures sound_after_overflow { result ≡ Err RunError.Overflow → J.sound jobs.new }
 {
     let answer = answer_to::<K, E>(alloc, task, kernel);
     settle(rt, jobs, out, answer)

@@ -252,7 +252,7 @@ pub fn flow<R: Threads + Wait + Sync, J: Jobs, E: Operate + Sync>(
     ensures sound { OnOk result (J.sound jobs.new) }
     ensures complete { OnOk result (IsComplete (J.basis jobs.new) (J.valued jobs.new) (J.needed jobs.new) (J.handed jobs.new) (J.finished jobs.new)) }
     ensures overflow { result ≡ Err RunError.Overflow → HasFault (J.basis jobs.new) (J.handed jobs.new) }
-    ensures sound_behind_overflow { result ≡ Err RunError.Overflow → J.sound jobs.new }
+    ensures sound_after_overflow { result ≡ Err RunError.Overflow → J.sound jobs.new }
     ensures no_rows { result ≡ Err RunError.Overflow → plan_rows (J.basis jobs.new).plan (J.basis jobs.new).database ≡ None }
 {
     flow_named::<Brand, R, J, E>(rt, alloc, jobs, kernel, workers)

@@ -14,7 +14,7 @@ ghost use Rattle.rows_to_mal.specs.Rows.{statement_scope};
 ghost use Rattle.group_to_mal.specs.QueryPlan.{query_plan};
 
 use crate::laws::{plans_mean_answers, query_plans_run};
-use crate::plan::plan_behind;
+use crate::plan::plan_after;
 use cell_core::{Memory, Sequence};
 use mal_check::checked_plans_run;
 use mal_meaning::Plan;
@@ -31,7 +31,7 @@ fn compile_over(alloc: Global, query: &Query, sources: &[Source]) -> Result<Plan
     let tables = Tables::new(&called, sources);
     let mut instrs = Sequence::new(alloc);
     let rows = tables.kept_rows(alloc, &mut instrs, query.cond.as_ref())?;
-    plan_behind(alloc, instrs, &tables, &called, &rows, query)
+    plan_after(alloc, instrs, &tables, &called, &rows, query)
 }
 
 /// The plan of a SELECT or an EXPLAIN.

@@ -21,5 +21,5 @@ pub use columns::ItemValue;
 pub use compile::compile_query;
 pub use form::Grouping;
 pub use laws::{plans_mean_answers, query_plans_run};
-pub use plan::plan_behind;
+pub use plan::plan_after;
 pub use shown::ShownColumns;

@@ -41,7 +41,7 @@ fn plan_with_items(
 }
 
 /// The plan of a query, after the instructions of the rows that its condition keeps.
-pub fn plan_behind(
+pub fn plan_after(
     alloc: Global,
     instrs: Sequence<Instr>,
     tables: &Tables<'_>,

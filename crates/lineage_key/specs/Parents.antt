@@ -53,7 +53,7 @@ column_of key = second_text key.args
 
 -- ## Shapes
 
--- a bind keeps its table and column; any other key keeps the numbers of its arguments' shapes, and 0 for a constant or for no argument
+-- a bind has the shape of its table and column; another key that of its arguments' shapes, with 0 where an argument is a constant or missing
 abbrev pub shape_of : List ℕ → Key → Shape
 shape_of numbers key =
     if is_bind key

@@ -13,4 +13,4 @@ mod phrases;
 
 pub use instruction::emit;
 pub use operators::{one, two};
-pub use phrases::{counted, gather, keep, selects};
+pub use phrases::{counted, gather, selects};

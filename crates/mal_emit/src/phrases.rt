@@ -1,7 +1,7 @@
 //! Phrases of several instructions.
 ghost use Rattle.std.specs.Prelude.{◌≡◌, IfOk};
 ghost use Rattle.cell_core.specs.declared.operator.Arg.TheVariants.{Var};
-ghost use Rattle.mal_emit.specs.Phrases.{variables, counted as counted_of, gather as gather_of, selects as selects_of, keep as keep_of};
+ghost use Rattle.mal_emit.specs.Phrases.{variables, counted as counted_of, gather as gather_of, selects as selects_of};
 
 use crate::instruction::emit;
 use cell_core::{Arg, Cell, Instr, Memory, Op, Sequence};
@@ -52,21 +52,4 @@ pub fn selects(
     let hi = Arg::Const(Cell::Bit(high_included));
     let args = vec![in alloc; Arg::Var(of), low, high, li, hi]?;
     emit(instrs, Op::Select, args)
-}
-
-/// Adds these BATs at the places where a value is true, counted from 0. On `Memory`, `instrs` keeps what
-/// it had, and the first of its new instructions may follow.
-pub fn keep(
-    alloc: Global,
-    instrs: &mut Sequence<Instr>,
-    value: u32,
-    rows: &[u32],
-) -> Result<Vec<u32>, Memory>
-    ensures { IfOk result (λ numbers. (instrs.new, variables numbers.items) ≡ (keep_of (Var value) (variables rows.now)).run instrs.old) }
-{
-    let low = Arg::Const(Cell::Bit(true));
-    let high = Arg::Const(Cell::Bit(true));
-    let kept = selects(alloc, instrs, value, low, high, true, true)?;
-    let by = counted(alloc, instrs, kept)?;
-    gather(alloc, instrs, by, rows)
 }

@@ -119,7 +119,7 @@ fn what_is_printed_reads_as_the_same(rt: HostRuntime) -> Result<(), Fail> {
 }
 
 #[test]
-fn plans_behind_each_optimiser(rt: HostRuntime) -> Result<(), Fail> {
+fn plans_after_each_optimiser(rt: HostRuntime) -> Result<(), Fail> {
     let alloc = rt.alloc();
     for (optimiser, text, want) in [
         (Optimiser::Fold, GIVEN, FOLDED),

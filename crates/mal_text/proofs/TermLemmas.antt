@@ -7,7 +7,7 @@ use Rattle.mal_tokens.specs.declared.token.MalToken.{MalToken}
 use Rattle.mal_tokens.specs.declared.token.MalToken.TheVariants.{Name, Digits, Text, Mark}
 use Rattle.mal_text.specs.Blocks.{write_each, write_sign, write_term, write_further, write_terms}
 use Rattle.text_bytes.specs.Found.{then_read}
-use Rattle.mal_text.specs.Reader.{Found, first_token, after_first, is_mark, skip_word, skip_mark, skip_zero, digits, repeated, text_behind, number_behind, digits_behind, negative_behind, term_at, term_of, goes_further, further, terms}
+use Rattle.mal_text.specs.Reader.{Found, first_token, after_first, is_mark, skip_word, skip_mark, skip_zero, digits, repeated, text_after, number_behind, digits_after, negative_after, term_at, term_of, goes_further, further, terms}
 use Rattle.text_bytes.proofs.FoundLemmas.{then_found, pair_found}
 use Rattle.mal_text.proofs.ReaderLemmas.{moved, then_told, mark_is, mark_told, skip_word_found, skip_mark_found, skip_zero_found, digits_found, skip_word_told, skip_mark_told, skip_zero_told, digits_told, repeated_found, repeated_told, each_longer}
 
@@ -29,8 +29,8 @@ oid_of found rest = Some (term.Oid found, rest)
 
 -- ## What is read is written
 
-text_found : (text : List ℕ) (ts : List MalToken) (t : Term) (rest : List MalToken) → text_behind text ts ≡ Some (t, rest) → write_term t rest ≡ Text text ∷ ts
-unfolding text_behind
+text_found : (text : List ℕ) (ts : List MalToken) (t : Term) (rest : List MalToken) → text_after text ts ≡ Some (t, rest) → write_term t rest ≡ Text text ∷ ts
+unfolding text_after
 text_found text ts t rest h = at (is_mark mark.Colon (first_token ts)) refl h
   where
     at : (b : Bool) → is_mark mark.Colon (first_token ts) ≡ b → cond b (then_read (skip_word (codes "date") (after_first ts)) (date_of text)) (text_of text ts) ≡ Some (t, rest) → write_term t rest ≡ Text text ∷ ts
@@ -51,8 +51,8 @@ number_found negative found ts t rest h = at (is_mark mark.Colon (first_token ts
         (ap (λ r. write_sign negative (Digits found ∷ Mark mark.Colon ∷ r)) (skip_word_found (codes "hge") (after_first ts) r word) ∙ ap (λ r. write_sign negative (Digits found ∷ r)) (mark_is mark.Colon ts e))
     at false e h = moved write_term (term.Int negative found) t ts rest (write_sign negative (Digits found ∷ ts)) h refl
 
-oid_found : (found : List ℕ) (ts : List MalToken) (t : Term) (rest : List MalToken) → digits_behind found ts ≡ Some (t, rest) → write_term t rest ≡ Digits found ∷ ts
-unfolding digits_behind
+oid_found : (found : List ℕ) (ts : List MalToken) (t : Term) (rest : List MalToken) → digits_after found ts ≡ Some (t, rest) → write_term t rest ≡ Digits found ∷ ts
+unfolding digits_after
 oid_found found ts t rest h = at (is_mark mark.At (first_token ts)) refl h
   where
     at : (b : Bool) → is_mark mark.At (first_token ts) ≡ b → cond b (then_read (skip_zero (after_first ts)) (oid_of found)) (number_behind false found ts) ≡ Some (t, rest) → write_term t rest ≡ Digits found ∷ ts
@@ -62,8 +62,8 @@ oid_found found ts t rest h = at (is_mark mark.At (first_token ts)) refl h
         (ap (λ r. Digits found ∷ Mark mark.At ∷ r) (skip_zero_found (after_first ts) r zero_) ∙ ap (λ r. Digits found ∷ r) (mark_is mark.At ts e))
     at false e h = number_found false found ts t rest h
 
-negative_found : (ts : List MalToken) (t : Term) (rest : List MalToken) → negative_behind ts ≡ Some (t, rest) → write_term t rest ≡ Mark mark.Minus ∷ ts
-unfolding negative_behind
+negative_found : (ts : List MalToken) (t : Term) (rest : List MalToken) → negative_after ts ≡ Some (t, rest) → write_term t rest ≡ Mark mark.Minus ∷ ts
+unfolding negative_after
 negative_found ts t rest h =
     let (found, read, more) = then_found (digits ts) _ (t, rest) h in
     number_found true found.0 found.1 t rest more ∙ ap (λ r. Mark mark.Minus ∷ r) (digits_found ts found.0 found.1 read)
@@ -100,12 +100,12 @@ pub record Ends (ts : List MalToken) : Type 0 where
   pub no_colon : is_mark mark.Colon (first_token ts) ≡ false
   pub no_at : is_mark mark.At (first_token ts) ≡ false
 
-text_told : (text : List ℕ) (rest : List MalToken) → Ends rest → text_behind text rest ≡ Some (term.Text text, rest)
-unfolding text_behind
+text_told : (text : List ℕ) (rest : List MalToken) → Ends rest → text_after text rest ≡ Some (term.Text text, rest)
+unfolding text_after
 text_told text rest ends = ap (λ b. cond b (then_read (skip_word (codes "date") (after_first rest)) (date_of text)) (text_of text rest)) ends.no_colon
 
-date_told : (text : List ℕ) (rest : List MalToken) → text_behind text (Mark mark.Colon ∷ Name (codes "date") ∷ rest) ≡ Some (term.Date text, rest)
-unfolding text_behind
+date_told : (text : List ℕ) (rest : List MalToken) → text_after text (Mark mark.Colon ∷ Name (codes "date") ∷ rest) ≡ Some (term.Date text, rest)
+unfolding text_after
 date_told text rest =
     ap (λ b. cond b (then_read (skip_word (codes "date") (Name (codes "date") ∷ rest)) (date_of text)) (text_of text (Mark mark.Colon ∷ Name (codes "date") ∷ rest))) (mark_told mark.Colon)
     ∙ ap (λ o. then_read o (date_of text)) (skip_word_told (codes "date") rest)
@@ -124,18 +124,18 @@ colon_no_at : is_mark mark.At (Some (Mark mark.Colon)) ≡ false
 unfolding is_mark
 colon_no_at = refl
 
-plain_told : (found : List ℕ) (ts : List MalToken) → is_mark mark.At (first_token ts) ≡ false → digits_behind found ts ≡ number_behind false found ts
-unfolding digits_behind
+plain_told : (found : List ℕ) (ts : List MalToken) → is_mark mark.At (first_token ts) ≡ false → digits_after found ts ≡ number_behind false found ts
+unfolding digits_after
 plain_told found ts h = ap (λ b. cond b (then_read (skip_zero (after_first ts)) (oid_of found)) (number_behind false found ts)) h
 
-oid_told : (found : List ℕ) (rest : List MalToken) → digits_behind found (Mark mark.At ∷ Digits (codes "0") ∷ rest) ≡ Some (term.Oid found, rest)
-unfolding digits_behind
+oid_told : (found : List ℕ) (rest : List MalToken) → digits_after found (Mark mark.At ∷ Digits (codes "0") ∷ rest) ≡ Some (term.Oid found, rest)
+unfolding digits_after
 oid_told found rest =
     ap (λ b. cond b (then_read (skip_zero (Digits (codes "0") ∷ rest)) (oid_of found)) (number_behind false found (Mark mark.At ∷ Digits (codes "0") ∷ rest))) (mark_told mark.At)
     ∙ ap (λ o. then_read o (oid_of found)) (skip_zero_told rest)
 
-negative_told : (found : List ℕ) (ts : List MalToken) → negative_behind (Digits found ∷ ts) ≡ number_behind true found ts
-unfolding negative_behind
+negative_told : (found : List ℕ) (ts : List MalToken) → negative_after (Digits found ∷ ts) ≡ number_behind true found ts
+unfolding negative_after
 negative_told found ts = ap (λ o. then_read o (λ f. number_behind true f.0 f.1)) (digits_told found ts)
 
 pub term_told : (t : Term) (rest : List MalToken) → Ends rest → term_of (write_term t rest) ≡ Some (t, rest)

@@ -94,8 +94,8 @@ repeated goes part (suc n) xs tokens =
 -- ## Arguments
 
 -- what follows a text: `:` and `date`, or nothing of it
-unfoldable pub text_behind : List ℕ → Parser Term
-text_behind text tokens =
+unfoldable pub text_after : List ℕ → Parser Term
+text_after text tokens =
     if is_mark mark.Colon (first_token tokens) then then_read (skip_word (codes "date") (after_first tokens)) (λ rest. Some (term.Date text, rest))
     else Some (term.Text text, tokens)
 
@@ -106,21 +106,21 @@ number_behind negative found tokens =
     else Some (term.Int negative found, tokens)
 
 -- what follows digits without a sign: `@` and `0`, or what may follow those of a number
-unfoldable pub digits_behind : List ℕ → Parser Term
-digits_behind found tokens =
+unfoldable pub digits_after : List ℕ → Parser Term
+digits_after found tokens =
     if is_mark mark.At (first_token tokens) then then_read (skip_zero (after_first tokens)) (λ rest. Some (term.Oid found, rest))
     else number_behind false found tokens
 
 -- what follows a `-`
-unfoldable pub negative_behind : Parser Term
-negative_behind tokens = then_read (digits tokens) (λ found. number_behind true found.0 found.1)
+unfoldable pub negative_after : Parser Term
+negative_after tokens = then_read (digits tokens) (λ found. number_behind true found.0 found.1)
 
 -- the argument that begins with the token
 abbrev pub term_at : Option MalToken → Parser Term
 term_at (Some (Name word)) rest = Some (term.Name word, rest)
-term_at (Some (Text text)) rest = text_behind text rest
-term_at (Some (Digits found)) rest = digits_behind found rest
-term_at (Some (Mark mark.Minus)) rest = negative_behind rest
+term_at (Some (Text text)) rest = text_after text rest
+term_at (Some (Digits found)) rest = digits_after found rest
+term_at (Some (Mark mark.Minus)) rest = negative_after rest
 term_at other rest = None
 
 unfoldable pub term_of : Parser Term

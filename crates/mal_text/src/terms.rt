@@ -89,18 +89,18 @@ pub(crate) fn term(tokens: &mut MalCursor<'_>) -> Result<Term, BlockError>
 {
     match tokens.next() {
         Some(MalToken::Name(word)) => Ok(Term::Name(word.share()?)),
-        Some(MalToken::Text(text)) => text_behind(text, tokens),
-        Some(MalToken::Digits(digits)) => digits_behind(digits, tokens),
-        Some(MalToken::Mark(Mark::Minus)) => negative_behind(tokens),
+        Some(MalToken::Text(text)) => text_after(text, tokens),
+        Some(MalToken::Digits(digits)) => digits_after(digits, tokens),
+        Some(MalToken::Mark(Mark::Minus)) => negative_after(tokens),
         _ => Err(BlockError::NoBlock),
     }
 }
 
 /// What follows a text: `:` and `date`, or nothing of it.
-#[tactic(auto, unfolding(crate::specs::Reader::text_behind))]
-fn text_behind(text: &Word, tokens: &mut MalCursor<'_>) -> Result<Term, BlockError>
-    ensures found { IfOk result (λ term. reader.text_behind text.now tokens.old.rest.now ≡ Some (term, tokens.new.rest.now)) }
-    ensures none { IsErrOf result BlockError.NoBlock → reader.text_behind text.now tokens.old.rest.now ≡ None }
+#[tactic(auto, unfolding(crate::specs::Reader::text_after))]
+fn text_after(text: &Word, tokens: &mut MalCursor<'_>) -> Result<Term, BlockError>
+    ensures found { IfOk result (λ term. reader.text_after text.now tokens.old.rest.now ≡ Some (term, tokens.new.rest.now)) }
+    ensures none { IsErrOf result BlockError.NoBlock → reader.text_after text.now tokens.old.rest.now ≡ None }
 {
     if !is_mark(tokens.peek(), Mark::Colon) {
         return Ok(Term::Text(text.share()?));
@@ -129,10 +129,10 @@ fn number_behind(
 }
 
 /// What follows digits without a sign: `@` and `0`, or what may follow those of a number.
-#[tactic(auto, unfolding(crate::specs::Reader::digits_behind))]
-fn digits_behind(digits: &Word, tokens: &mut MalCursor<'_>) -> Result<Term, BlockError>
-    ensures found { IfOk result (λ term. reader.digits_behind digits.now tokens.old.rest.now ≡ Some (term, tokens.new.rest.now)) }
-    ensures none { IsErrOf result BlockError.NoBlock → reader.digits_behind digits.now tokens.old.rest.now ≡ None }
+#[tactic(auto, unfolding(crate::specs::Reader::digits_after))]
+fn digits_after(digits: &Word, tokens: &mut MalCursor<'_>) -> Result<Term, BlockError>
+    ensures found { IfOk result (λ term. reader.digits_after digits.now tokens.old.rest.now ≡ Some (term, tokens.new.rest.now)) }
+    ensures none { IsErrOf result BlockError.NoBlock → reader.digits_after digits.now tokens.old.rest.now ≡ None }
 {
     if !is_mark(tokens.peek(), Mark::At) {
         return number_behind(false, digits, tokens);
@@ -143,10 +143,10 @@ fn digits_behind(digits: &Word, tokens: &mut MalCursor<'_>) -> Result<Term, Bloc
 }
 
 /// What follows a `-`.
-#[tactic(auto, unfolding(crate::specs::Reader::negative_behind))]
-fn negative_behind(tokens: &mut MalCursor<'_>) -> Result<Term, BlockError>
-    ensures found { IfOk result (λ term. reader.negative_behind tokens.old.rest.now ≡ Some (term, tokens.new.rest.now)) }
-    ensures none { IsErrOf result BlockError.NoBlock → reader.negative_behind tokens.old.rest.now ≡ None }
+#[tactic(auto, unfolding(crate::specs::Reader::negative_after))]
+fn negative_after(tokens: &mut MalCursor<'_>) -> Result<Term, BlockError>
+    ensures found { IfOk result (λ term. reader.negative_after tokens.old.rest.now ≡ Some (term, tokens.new.rest.now)) }
+    ensures none { IsErrOf result BlockError.NoBlock → reader.negative_after tokens.old.rest.now ≡ None }
 {
     let digits = tokens.digits()?;
     number_behind(true, &digits, tokens)

@@ -3,7 +3,7 @@ use Rattle.std.proofs.Common.{◌≡◌, ◌≢◌, ◌-◌, ℕ, zero, suc, Lis
 use Rattle.sql_grammar.specs.Grammar.{ExprRule, write_expr, expr_of, ValueRule, write_value, value_of, CondRule, write_cond, cond_of}
 use Rattle.read_laws.specs.Bounded.{Builder, as_written, bounded}
 use Rattle.read_laws.specs.Chain.{Found, Parser, chain}
-use Rattle.read_laws.specs.CondReader.{or_in, either_of, whole_expr, value, conjunction_behind, conjunction, condition_behind, condition, unit_of, unit, whole_cond}
+use Rattle.read_laws.specs.CondReader.{or_in, either_of, whole_expr, value, conjunction_after, conjunction, condition_after, condition, unit_of, unit, whole_cond}
 use Rattle.read_laws.specs.DerivedExprs.{expr_with, cond_with, IsCondOver, IsCond, IsHaving, IsReadCond}
 use Rattle.text_bytes.specs.Found.{then_read}
 use Rattle.read_laws.proofs.CondSound.{whole_found, value_sound, cond_found_by, unit_found}
@@ -28,13 +28,13 @@ unit_inner build operand zero ts h = absurd (h refl)
 unit_inner build operand (suc n) ts h = let e : n ≡ suc n - 1 = omega arith in ap (λ k. unit_of build operand (unit build operand k) ts) e
 
 -- a condition is its first unit and what follows that
-pub condition_goes_on : (build : Builder) (part : Parser CondTree) (ts : List Token) (first : CondTree) (rest : List Token) → part ts ≡ Some (first, rest) → condition build part ts ≡ condition_behind build part first rest
-unfolding condition conjunction condition_behind
-condition_goes_on build part ts first rest h = ap (λ o. then_read (then_read o (λ first. conjunction_behind build part first.0 first.1)) (λ first. chain or_in (either_of build) (conjunction build part) (length first.1) first.0 first.1)) h
+pub condition_goes_on : (build : Builder) (part : Parser CondTree) (ts : List Token) (first : CondTree) (rest : List Token) → part ts ≡ Some (first, rest) → condition build part ts ≡ condition_after build part first rest
+unfolding condition conjunction condition_after
+condition_goes_on build part ts first rest h = ap (λ o. then_read (then_read o (λ first. conjunction_after build part first.0 first.1)) (λ first. chain or_in (either_of build) (conjunction build part) (length first.1) first.0 first.1)) h
 
 pub condition_none : (build : Builder) (part : Parser CondTree) (ts : List Token) → part ts ≡ None → condition build part ts ≡ None
 unfolding condition conjunction
-condition_none build part ts h = ap (λ o. then_read (then_read o (λ first. conjunction_behind build part first.0 first.1)) (λ first. chain or_in (either_of build) (conjunction build part) (length first.1) first.0 first.1)) h
+condition_none build part ts h = ap (λ o. then_read (then_read o (λ first. conjunction_after build part first.0 first.1)) (λ first. chain or_in (either_of build) (conjunction build part) (length first.1) first.0 first.1)) h
 
 pub same_cond : (c : CondTree) → cond_with as_written c ≡ c
 same_cond (Compare op left right) = ap (λ l. Compare op l (expr_with as_written right)) (same_tree left) ∙ ap (λ r. Compare op left r) (same_tree right)

@@ -6,7 +6,7 @@ use Rattle.sql_grammar.specs.Grammar.{write_expr, expr_of}
 use Rattle.read_laws.specs.Bounded.{Builder, as_written, bounded}
 use Rattle.read_laws.specs.Chain.{Found, Parser, first_token, after_first, chain}
 use Rattle.read_laws.specs.DerivedExprs.{IsExpr, IsReadExpr, cell_with, expr_with}
-use Rattle.read_laws.specs.ExprReader.{sign_in, term_behind, term, expr_behind, expr, factor_at, factor}
+use Rattle.read_laws.specs.ExprReader.{sign_in, term_after, term, expr_after, expr, factor_at, factor}
 use Rattle.read_laws.proofs.ChainLemmas.{all_found}
 use Rattle.read_laws.proofs.ExprComplete.{expr_told, EndsExpr}
 use Rattle.read_laws.proofs.ExprSound.{expr_found, factor_found}
@@ -21,13 +21,13 @@ none_ends : EndsExpr []
 none_ends = record { term_ends = record { factor_ends = record { no_dot = refl }; no_star = refl }; no_sign = refl }
 
 -- an expression is its first factor and what follows that
-pub expr_goes_on : (build : Builder) (part : Parser ExprTree) (ts : List Token) (first : ExprTree) (rest : List Token) → part ts ≡ Some (first, rest) → expr build part ts ≡ expr_behind build part first rest
-unfolding expr term expr_behind
-expr_goes_on build part ts first rest h = ap (λ o. then_read (then_read o (λ first. term_behind build part first.0 first.1)) (λ first. chain sign_in build.operator (term build part) (length first.1) first.0 first.1)) h
+pub expr_goes_on : (build : Builder) (part : Parser ExprTree) (ts : List Token) (first : ExprTree) (rest : List Token) → part ts ≡ Some (first, rest) → expr build part ts ≡ expr_after build part first rest
+unfolding expr term expr_after
+expr_goes_on build part ts first rest h = ap (λ o. then_read (then_read o (λ first. term_after build part first.0 first.1)) (λ first. chain sign_in build.operator (term build part) (length first.1) first.0 first.1)) h
 
 pub expr_none : (build : Builder) (part : Parser ExprTree) (ts : List Token) → part ts ≡ None → expr build part ts ≡ None
 unfolding expr term
-expr_none build part ts h = ap (λ o. then_read (then_read o (λ first. term_behind build part first.0 first.1)) (λ first. chain sign_in build.operator (term build part) (length first.1) first.0 first.1)) h
+expr_none build part ts h = ap (λ o. then_read (then_read o (λ first. term_after build part first.0 first.1)) (λ first. chain sign_in build.operator (term build part) (length first.1) first.0 first.1)) h
 
 -- what tokens derive is read from them
 pub derived_told : (build : Builder) (ts : List Token) (e : ExprTree) → IsExpr ts e → expr build (factor build (length ts)) ts ≡ Some (expr_with build e, [])

@@ -4,7 +4,7 @@ use Rattle.std.specs.Prelude.{ℕ, zero, suc, List, length, Bool, true, false, i
 use Rattle.read_laws.specs.Bounded.{Builder}
 use Rattle.read_laws.specs.Chain.{Found, Parser, first_token, after_first, or_read, given, chain}
 use Rattle.read_laws.specs.Parts.{is_key, behind_key, behind_symbol, comma_in}
-use Rattle.read_laws.specs.ExprReader.{expr_behind, expr, factor, closed}
+use Rattle.read_laws.specs.ExprReader.{expr_after, expr, factor, closed}
 use Rattle.sql_tree.specs.Tree.{ExprTree, CondTree}
 use Rattle.sql_tree.specs.Tree.ExprTree.{AggregateAll, Aggregate}
 use Rattle.sql_tree.specs.Tree.CondTree.{Compare, Within, IsNull, Negation}
@@ -144,17 +144,17 @@ module _ (build : Builder) (operand : Parser ExprTree) where
 
 module _ (build : Builder) where
   -- the rest of a conjunction after its first unit
-  abbrev pub conjunction_behind : Parser CondTree → CondTree → Parser CondTree
-  conjunction_behind unit first tokens = chain and_in (both_of build) unit (length tokens) first tokens
+  abbrev pub conjunction_after : Parser CondTree → CondTree → Parser CondTree
+  conjunction_after unit first tokens = chain and_in (both_of build) unit (length tokens) first tokens
 
   -- conj = unit {AND unit}
   unfoldable pub conjunction : Parser CondTree → Parser CondTree
-  conjunction unit tokens = then_read (unit tokens) (λ first. conjunction_behind unit first.0 first.1)
+  conjunction unit tokens = then_read (unit tokens) (λ first. conjunction_after unit first.0 first.1)
 
   -- the rest of a condition after its first unit
-  unfoldable pub condition_behind : Parser CondTree → CondTree → Parser CondTree
-  condition_behind unit first tokens =
-      then_read (conjunction_behind unit first tokens) (λ first. chain or_in (either_of build) (conjunction unit) (length first.1) first.0 first.1)
+  unfoldable pub condition_after : Parser CondTree → CondTree → Parser CondTree
+  condition_after unit first tokens =
+      then_read (conjunction_after unit first tokens) (λ first. chain or_in (either_of build) (conjunction unit) (length first.1) first.0 first.1)
 
   -- cond = conj {OR conj}
   unfoldable pub condition : Parser CondTree → Parser CondTree
@@ -162,7 +162,7 @@ module _ (build : Builder) where
 
   -- the rest of a condition after its first unit, and the `)` after it
   abbrev pub closed_condition : Parser CondTree → CondTree → Parser CondTree
-  closed_condition unit first tokens = then_read (condition_behind unit first tokens) closed
+  closed_condition unit first tokens = then_read (condition_after unit first tokens) closed
 
   -- what follows a `(`, with its `)`: an expression, or a condition
   abbrev pub operand_inside : Parser ExprTree
@@ -173,7 +173,7 @@ module _ (build : Builder) where
 
   -- an expression after a `(`, of so many levels and after its first factor, and its `)`
   abbrev pub operand_from : ℕ → ExprTree → Parser ExprTree
-  operand_from levels first tokens = then_read (expr_behind build (factor build levels) first tokens) closed
+  operand_from levels first tokens = then_read (expr_after build (factor build levels) first tokens) closed
 
   -- "(" cond ")"
   unfoldable pub enclosed : Parser CondTree → Parser CondTree
@@ -193,7 +193,7 @@ module _ (build : Builder) where
 
     -- a test whose first operand has so many levels and begins with a factor that was read
     unfoldable pub test_from : ℕ → ExprTree → Parser CondTree
-    test_from levels first tokens = then_read (expr_behind build (factor build levels) first tokens) (λ of. test_behind build operand of.0 of.1)
+    test_from levels first tokens = then_read (expr_after build (factor build levels) first tokens) (λ of. test_behind build operand of.0 of.1)
 
     -- a condition after a `(` whose first unit is such a test, and its `)`
     abbrev pub condition_from : Parser CondTree → ℕ → ExprTree → Parser CondTree

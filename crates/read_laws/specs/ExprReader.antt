@@ -82,17 +82,17 @@ date tokens = then_read (text_in (first_token tokens)) (λ text. then_read (day_
 
 module _ (build : Builder) where
   -- the rest of a term after its first factor
-  abbrev pub term_behind : Parser ExprTree → ExprTree → Parser ExprTree
-  term_behind factor first tokens = chain star_in build.operator factor (length tokens) first tokens
+  abbrev pub term_after : Parser ExprTree → ExprTree → Parser ExprTree
+  term_after factor first tokens = chain star_in build.operator factor (length tokens) first tokens
 
   -- term = factor {"*" factor}
   unfoldable pub term : Parser ExprTree → Parser ExprTree
-  term factor tokens = then_read (factor tokens) (λ first. term_behind factor first.0 first.1)
+  term factor tokens = then_read (factor tokens) (λ first. term_after factor first.0 first.1)
 
   -- the rest of an expression after its first factor
-  unfoldable pub expr_behind : Parser ExprTree → ExprTree → Parser ExprTree
-  expr_behind factor first tokens =
-      then_read (term_behind factor first tokens) (λ first. chain sign_in build.operator (term factor) (length first.1) first.0 first.1)
+  unfoldable pub expr_after : Parser ExprTree → ExprTree → Parser ExprTree
+  expr_after factor first tokens =
+      then_read (term_after factor first tokens) (λ first. chain sign_in build.operator (term factor) (length first.1) first.0 first.1)
 
   -- expr = term {("+" | "-") term}
   unfoldable pub expr : Parser ExprTree → Parser ExprTree

@@ -10,7 +10,7 @@ use mal_meaning::Plan;
 use std::alloc::Global;
 
 /// Whether an instruction with these arguments is marked, after those of which this is known.
-fn is_marked_behind(is_bat: bool, marks: &[bool], args: &[Arg]) -> bool
+fn is_marked_after(is_bat: bool, marks: &[bool], args: &[Arg]) -> bool
     ensures { result ≡ (is_bat && list_all (is_marked marks.now) args.now) }
 {
     is_bat && all_marked(marks, args)
@@ -25,7 +25,7 @@ fn mark_next(
     ensures { OnOk result ((rest : List InstrSeen) → marks_from bats.new marks.new rest ≡ marks_from bats.old marks.old (instr.now ∷ rest)) }
 {
     let is_bat = gives_bat(bats.as_slice(), instr);
-    let is_marked = is_marked_behind(is_bat, marks.as_slice(), instr.args.as_slice());
+    let is_marked = is_marked_after(is_bat, marks.as_slice(), instr.args.as_slice());
     bats.push(is_bat)?;
     marks.push(is_marked)?;
     Ok(())

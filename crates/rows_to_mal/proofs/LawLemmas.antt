@@ -21,7 +21,7 @@ use Rattle.pick_laws.proofs.ListLemmas.{map_after, map_agree, filter_map_swaps}
 use Rattle.pick_laws.proofs.ShapeLemmas.{by_places}
 use Rattle.rows_to_mal.specs.Choices.{kept_numbers, choice_at, number_choices}
 use Rattle.rows_to_mal.specs.Conjuncts.{Scope}
-use Rattle.rows_to_mal.specs.Laws.{rows_in, oids_of_tables, values_behind, KeepsRows, StatementsKeepRows, NumbersAreChoices}
+use Rattle.rows_to_mal.specs.Laws.{rows_in, oids_of_tables, values_after, KeepsRows, StatementsKeepRows, NumbersAreChoices}
 use Rattle.rows_to_mal.specs.Rows.{kept_rows, condition_of}
 use Rattle.rows_to_mal.proofs.ChoiceLemmas.{numbers_of, choices_are}
 use Rattle.rows_to_mal.proofs.FoundLemmas.{InDb, all_in_db}
@@ -72,7 +72,7 @@ module _ (db : Db) (names : List (List ℕ)) (source : Source) (sources : List S
   columns_of None = refl
   columns_of (Some ps) = ap Some (columns_numbered ps these ∙ ap (λ n. oids_of_tables n (map (numbers_of these) ps)) count)
 
-  pub rows_meant : values_behind db ((kept_rows here condition).run []).0 ((kept_rows here condition).run []).1
+  pub rows_meant : values_after db ((kept_rows here condition).run []).0 ((kept_rows here condition).run []).1
       ≡ option_map (oids_of_tables (length (source ∷ sources))) (kept_numbers here.called condition (map (rows_in db) (source ∷ sources)))
   rows_meant =
       values_told db ((kept_rows here condition).run []).0 ((kept_rows here condition).run []).1 (option_map (λ ps. columns ps these) (picks_where db names source sources there condition checked))

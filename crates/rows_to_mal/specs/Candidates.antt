@@ -44,7 +44,7 @@ calc_of arith.Plus = op.Plus
 calc_of arith.Minus = op.Minus
 calc_of arith.Times = op.Times
 
--- an expression without columns: a literal is a constant, an operator is computed
+-- an expression that names no column: its literals are constants, and its operators are instructions
 abbrev pub constant : ExprTree → Emitter Arg
 constant (Literal cell) = gives (Const cell)
 constant (Operator operator left right) = followed (constant left) (λ x. followed (constant right) (λ y. emits (calc_of operator) (x ∷ y ∷ [])))

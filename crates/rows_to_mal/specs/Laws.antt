@@ -42,8 +42,8 @@ abbrev pub rows_in : Db → Source → List (List Cell)
 rows_in db source = option_map_or (λ (t : Table). t.rows) (named_table source.table db) []
 
 -- the values of arguments after instructions, or None where one of these has no value
-abbrev pub values_behind : Db → List Instr → List Arg → Option (List Value)
-values_behind db instrs args = option_map (λ values. map (value_in values) args) (all_or_none (plan_values db instrs))
+abbrev pub values_after : Db → List Instr → List Arg → Option (List Value)
+values_after db instrs args = option_map (λ values. map (value_in values) args) (all_or_none (plan_values db instrs))
 
 -- the oids of table n in choices that are given by their rows' numbers
 abbrev pub table_oids : List (List ℕ) → ℕ → Value
@@ -56,7 +56,7 @@ oids_of_tables count choices = map (table_oids choices) (range_with_len 0 count)
 -- the instructions of a statement's rows compute the oids of the choices that its condition keeps, in order; they have no value exactly where the condition overflows
 abbrev pub KeepsRows : StmtTree → List Source → Db → Type 0
 KeepsRows stmt sources db =
-    values_behind db ((statement_rows stmt sources).run []).0 ((statement_rows stmt sources).run []).1
+    values_after db ((statement_rows stmt sources).run []).0 ((statement_rows stmt sources).run []).1
     ≡ option_map (oids_of_tables (length sources)) (kept_numbers (sources_called stmt sources) (condition_of stmt) (map (rows_in db) sources))
 
 -- this holds of each checked statement with rows, over each database that has its tables

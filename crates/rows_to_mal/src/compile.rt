@@ -5,7 +5,7 @@ ghost use Rattle.cell_core.specs.declared.table.Db.{Db};
 ghost use Rattle.sql_tree.specs.Tree.{cond_tree, set_tree, stmt_tree};
 ghost use Rattle.mal_meaning.specs.Meaning.{plan_rows};
 ghost use Rattle.rows_to_mal.specs.Choices.{kept_numbers};
-ghost use Rattle.rows_to_mal.specs.Laws.{HoldsTables, RunsOver, rows_in, values_behind, oids_of_tables};
+ghost use Rattle.rows_to_mal.specs.Laws.{HoldsTables, RunsOver, rows_in, values_after, oids_of_tables};
 ghost use Rattle.sql_definitions.specs.Sources.{from_name as from_name_of, called_sources};
 ghost use Rattle.sql_definitions.specs.Typed.{typed_sources};
 ghost use Rattle.mal_emit.specs.Phrases.{variables};
@@ -128,7 +128,7 @@ pub fn compile_rows(alloc: Global, typed: &Typed) -> Result<Rows, Memory>
     requires { keeps_rows (stmt_tree typed.now.stmt) ≡ true }
     ensures rows { IfOk result (λ rows. (rows.instrs, variables rows.rows.items) ≡ (statement_rows (stmt_tree typed.now.stmt) typed.now.sources).run []) }
     ensures meaning { IfOk result (λ rows. (db : Db) → HoldsTables (stmt_tree typed.now.stmt) typed.now.sources db
-        → values_behind db rows.instrs (variables rows.rows.items) ≡ option_map (oids_of_tables (length typed.now.sources)) (kept_numbers (typed_sources typed.now) (condition_of (stmt_tree typed.now.stmt)) (map (rows_in db) typed.now.sources))) }
+        → values_after db rows.instrs (variables rows.rows.items) ≡ option_map (oids_of_tables (length typed.now.sources)) (kept_numbers (typed_sources typed.now) (condition_of (stmt_tree typed.now.stmt)) (map (rows_in db) typed.now.sources))) }
 {
     statements_keep_rows();
     statement_kept(alloc, typed)

@@ -6,7 +6,7 @@ use Rattle.std.proofs.Math.Nat.{mul-suc}
 use Rattle.std.proofs.lemmas.Bool.{ne_eqb}
 use Rattle.std.proofs.lemmas.List.FromFn.{length-map-range_with_len, map-range_with_len_more}
 use Rattle.sql_print.specs.Canon.{listed}
-use Rattle.sample_scripts.specs.Scripts.{changes, draw, inserts, insert_text, next_draw, queries, queries_behind, query_text, range_text}
+use Rattle.sample_scripts.specs.Scripts.{changes, draw, inserts, insert_text, next_draw, queries, queries_after, query_text, range_text}
 
 -- ## Draws
 
@@ -62,16 +62,16 @@ pub inserts-next : (k rows x : ℕ) → inserts k rows x ++ insert_text rows (dr
 unfolding inserts
 inserts-next k rows x = sym (map-range_with_len_more (λ k. insert_text rows (draw x (rows * k))) 0 k k (omega arith))
 
-pub queries-next : (k x : ℕ) → queries_behind k x ++ query_text (draw x (2 * k)) ∷ [] ≡ queries_behind (k + 1) x
-unfolding queries_behind
+pub queries-next : (k x : ℕ) → queries_after k x ++ query_text (draw x (2 * k)) ∷ [] ≡ queries_after (k + 1) x
+unfolding queries_after
 queries-next k x = sym (map-range_with_len_more (λ k. query_text (draw x (2 * k))) 0 k k (omega arith))
 
 pub inserts-none : (rows x : ℕ) → inserts 0 rows x ≡ []
 unfolding inserts
 inserts-none rows x = refl
 
-pub queries-none : (x : ℕ) → queries_behind 0 x ≡ []
-unfolding queries_behind
+pub queries-none : (x : ℕ) → queries_after 0 x ≡ []
+unfolding queries_after
 queries-none x = refl
 
 -- two draws make a query
@@ -90,5 +90,5 @@ unfolding changes inserts
 changes_few seed = let long = length-map-range_with_len (λ k. insert_text 500 (draw seed (500 * k))) 0 20 in omega (arith, long)
 
 pub queries_few : (seed : ℕ) → length (queries seed) ≤ 256
-unfolding queries queries_behind
+unfolding queries queries_after
 queries_few seed = let long = length-map-range_with_len (λ k. query_text (draw (draw seed (500 * 20)) (2 * k))) 0 100 in omega (arith, long)

@@ -10,7 +10,7 @@ use Rattle.std.proofs.lemmas.Str.Parse.{digit_at}
 use Rattle.sql_print.specs.Canon.{listed}
 use Rattle.sql_tree.specs.Pieces.{opened, pieces_of, runs_of, says_something, with_byte}
 use Rattle.sql_tree.specs.declared.inside.Inside.TheVariants.{Outside}
-use Rattle.sample_scripts.specs.Scripts.{changes, draw, insert_text, inserts, queries, queries_behind, query_text, range_text, row_text, script_text}
+use Rattle.sample_scripts.specs.Scripts.{changes, draw, insert_text, inserts, queries, queries_after, query_text, range_text, row_text, script_text}
 
 -- ## Bytes that open and end nothing
 
@@ -140,7 +140,7 @@ unfolding changes inserts
 changes_read seed = are_pieces (changes seed) (record { quiet = refl; says = refl }, each_piece (λ k. insert_text 500 (draw seed (500 * k))) (λ k. insert_piece 500 (draw seed (500 * k))) (range_with_len 0 20))
 
 pub queries_read : (seed : ℕ) → pieces_of (script_text (queries seed)) ≡ queries seed
-unfolding queries queries_behind
+unfolding queries queries_after
 queries_read seed =
     let last = draw seed (500 * 20) in
     are_pieces (queries seed) (each_piece (λ k. query_text (draw last (2 * k))) (λ k. query_piece (draw last (2 * k))) (range_with_len 0 100))

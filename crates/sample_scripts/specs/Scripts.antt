@@ -43,12 +43,12 @@ unfoldable pub query_text : ℕ → List ℕ
 query_text x = range_text (draw x 1 % 9000) (draw x 2 % 1000)
 
 -- `count` queries by the draws after x, two for each
-unfoldable pub queries_behind : ℕ → ℕ → List (List ℕ)
-queries_behind count x = map (λ k. query_text (draw x (2 * k))) (range_with_len 0 count)
+unfoldable pub queries_after : ℕ → ℕ → List (List ℕ)
+queries_after count x = map (λ k. query_text (draw x (2 * k))) (range_with_len 0 count)
 
 -- the statements of the second script: 100 queries, by the draws after those of the first
 unfoldable pub queries : ℕ → List (List ℕ)
-queries seed = queries_behind 100 (draw seed (500 * 20))
+queries seed = queries_after 100 (draw seed (500 * 20))
 
 -- ## Texts
 

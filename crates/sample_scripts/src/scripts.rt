@@ -1,7 +1,7 @@
 //! The statements that draws make.
 ghost use Rattle.std.specs.Prelude.{◌≡◌, ◌==◌, ◌+◌, ◌*◌, ◌<◌, ◌≤◌, ◌++◌, [], codes, decimal, length, if◌then◌else◌, string_bytes, OnOk, IfOk};
 ghost use Rattle.sample_scripts.specs.Scripts as told;
-ghost use Rattle.sample_scripts.specs.Scripts.{draw, insert_text, inserts, queries_behind, query_text, range_text, row_text};
+ghost use Rattle.sample_scripts.specs.Scripts.{draw, insert_text, inserts, queries_after, query_text, range_text, row_text};
 
 use crate::draws::next_draw;
 use cell_core::{Memory, Sequence, Word, word_of};
@@ -123,7 +123,7 @@ fn push_number(number: u64, text: &mut String) -> Result<(), Memory>
 /// `count` queries, by the draws after `x`, which goes on to the last of them.
 fn queries(alloc: Global, count: u64, x: &mut u64) -> Result<Sequence<Word>, Memory>
     requires { x.old < 2147483648 }
-    ensures { IfOk result (λ statements. statements ≡ queries_behind count x.old) }
+    ensures { IfOk result (λ statements. statements ≡ queries_after count x.old) }
 {
     let mut statements = Vec::new(alloc);
     'queries: for _k in 0..count {

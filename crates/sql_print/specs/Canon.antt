@@ -158,9 +158,9 @@ abbrev mutual
   part_text (Either left right) = enclosed (enclosed (cond_text left) ++ codes " OR " ++ enclosed (cond_text right))
 
 -- a word and a condition after it, where there is one
-abbrev pub cond_behind : List ℕ → Option CondTree → List ℕ
-cond_behind word None = []
-cond_behind word (Some cond) = word ++ cond_text cond
+abbrev pub cond_after : List ℕ → Option CondTree → List ℕ
+cond_after word None = []
+cond_after word (Some cond) = word ++ cond_text cond
 
 -- ## Statements
 
@@ -199,9 +199,9 @@ abbrev pub query_text : QueryTree → List ℕ
 query_text query =
     selected_text query
     ++ listed_behind (codes " FROM ") (map from_text query.froms)
-    ++ cond_behind (codes " WHERE ") query.cond
+    ++ cond_after (codes " WHERE ") query.cond
     ++ listed_behind (codes " GROUP BY ") (map reference_text query.groups)
-    ++ cond_behind (codes " HAVING ") query.having
+    ++ cond_after (codes " HAVING ") query.having
     ++ listed_behind (codes " ORDER BY ") (map key_text query.keys)
     ++ limit_text query.limit
 
@@ -215,7 +215,7 @@ canonical (CreateTable table columns) = codes "CREATE TABLE " ++ name_text table
 canonical (DropTable table) = codes "DROP TABLE " ++ name_text table
 canonical (AlterTable table column) = codes "ALTER TABLE " ++ name_text table ++ codes " ADD COLUMN " ++ column_text column
 canonical (InsertInto table columns rows) = codes "INSERT INTO " ++ name_text table ++ column_list_text columns ++ codes " VALUES " ++ listed (map row_text rows)
-canonical (DeleteFrom table cond) = codes "DELETE FROM " ++ name_text table ++ cond_behind (codes " WHERE ") cond
-canonical (UpdateTable table sets cond) = codes "UPDATE " ++ name_text table ++ codes " SET " ++ listed (map set_text sets) ++ cond_behind (codes " WHERE ") cond
+canonical (DeleteFrom table cond) = codes "DELETE FROM " ++ name_text table ++ cond_after (codes " WHERE ") cond
+canonical (UpdateTable table sets cond) = codes "UPDATE " ++ name_text table ++ codes " SET " ++ listed (map set_text sets) ++ cond_after (codes " WHERE ") cond
 canonical (Select query) = query_text query
 canonical (ExplainSelect query) = codes "EXPLAIN " ++ query_text query

@@ -6,7 +6,7 @@ ghost use Rattle.sql_tree.specs.Tree.{cond_tree, expr_tree, item_tree, query_tre
 
 use crate::print_expr::{write_cond, write_expr, write_literal, write_reference};
 use crate::print_parts::{
-    Listed, write_bytes, write_column, write_enclosed, write_listed, write_listed_behind,
+    Listed, write_bytes, write_column, write_enclosed, write_listed, write_listed_after,
     write_number,
 };
 use cell_core::{Cell, Column, Memory, Sequence, Word};
@@ -97,11 +97,11 @@ fn write_column_list(columns: &[Word], out: &mut Vec<u8>) -> Result<(), Memory>
 }
 
 fn write_delete(table: &Word, cond: Option<&Cond>, out: &mut Vec<u8>) -> Result<(), Memory>
-    ensures { OnOk result (out.new.items ≡ out.old.items ++ (codes "DELETE FROM " ++ name_text table.now ++ canon.cond_behind (codes " WHERE ") (option_map cond_tree (option_copied cond.entry)))) }
+    ensures { OnOk result (out.new.items ≡ out.old.items ++ (codes "DELETE FROM " ++ name_text table.now ++ canon.cond_after (codes " WHERE ") (option_map cond_tree (option_copied cond.entry)))) }
 {
     write_bytes(b"DELETE FROM ", out)?;
     write_name(table, out)?;
-    write_cond_behind(b" WHERE ", cond, out)
+    write_cond_after(b" WHERE ", cond, out)
 }
 
 fn write_update(
@@ -110,10 +110,10 @@ fn write_update(
     cond: Option<&Cond>,
     out: &mut Vec<u8>,
 ) -> Result<(), Memory>
-    ensures { OnOk result (out.new.items ≡ out.old.items ++ (codes "UPDATE " ++ name_text table.now ++ codes " SET " ++ canon.listed (map canon.set_text (map set_tree sets.now)) ++ canon.cond_behind (codes " WHERE ") (option_map cond_tree (option_copied cond.entry)))) }
+    ensures { OnOk result (out.new.items ≡ out.old.items ++ (codes "UPDATE " ++ name_text table.now ++ codes " SET " ++ canon.listed (map canon.set_text (map set_tree sets.now)) ++ canon.cond_after (codes " WHERE ") (option_map cond_tree (option_copied cond.entry)))) }
 {
     write_sets(table, sets, out)?;
-    write_cond_behind(b" WHERE ", cond, out)
+    write_cond_after(b" WHERE ", cond, out)
 }
 
 fn write_sets(table: &Word, sets: &[(Word, Expr)], out: &mut Vec<u8>) -> Result<(), Memory>
@@ -135,11 +135,11 @@ fn write_query(query: &Query, out: &mut Vec<u8>) -> Result<(), Memory>
     ensures { OnOk result (out.new.items ≡ out.old.items ++ canon.query_text (query_tree query.now)) }
 {
     write_selected(query, out)?;
-    write_listed_behind(b" FROM ", query.froms.as_slice(), out)?;
-    write_cond_behind(b" WHERE ", query.cond.as_ref(), out)?;
-    write_listed_behind(b" GROUP BY ", query.groups.as_slice(), out)?;
-    write_cond_behind(b" HAVING ", query.having.as_ref(), out)?;
-    write_listed_behind(b" ORDER BY ", query.keys.as_slice(), out)?;
+    write_listed_after(b" FROM ", query.froms.as_slice(), out)?;
+    write_cond_after(b" WHERE ", query.cond.as_ref(), out)?;
+    write_listed_after(b" GROUP BY ", query.groups.as_slice(), out)?;
+    write_cond_after(b" HAVING ", query.having.as_ref(), out)?;
+    write_listed_after(b" ORDER BY ", query.keys.as_slice(), out)?;
     write_limit(query.limit, out)
 }
 
@@ -169,8 +169,8 @@ fn write_items(items: &[Item], out: &mut Vec<u8>) -> Result<(), Memory>
     }
 }
 
-fn write_cond_behind(word: &[u8], cond: Option<&Cond>, out: &mut Vec<u8>) -> Result<(), Memory>
-    ensures { OnOk result (out.new.items ≡ out.old.items ++ canon.cond_behind word.now (option_map cond_tree (option_copied cond.entry))) }
+fn write_cond_after(word: &[u8], cond: Option<&Cond>, out: &mut Vec<u8>) -> Result<(), Memory>
+    ensures { OnOk result (out.new.items ≡ out.old.items ++ canon.cond_after word.now (option_map cond_tree (option_copied cond.entry))) }
 {
     let Some(cond) = cond else {
         return Ok(());

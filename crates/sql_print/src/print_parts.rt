@@ -57,7 +57,7 @@ pub(crate) fn write_enclosed<T: Listed>(things: &[T], out: &mut Vec<u8>) -> Resu
 }
 
 /// Appends a word and things after it, where there are any.
-pub(crate) fn write_listed_behind<T: Listed>(
+pub(crate) fn write_listed_after<T: Listed>(
     word: &[u8],
     things: &[T],
     out: &mut Vec<u8>,

@@ -10,7 +10,7 @@ use Rattle.sql_print_laws.proofs.ExprPrinted.{decimal_printed, reference_printed
 use Rattle.sql_print_laws.proofs.WordLemmas.{key, key_blank, spaced_key, name_printed}
 use Rattle.sql_print_laws.specs.CanonRules.{canon_all, canon_some, canon_any, canon_option, canon_where, canon_having, canon_alias, canon_item, canon_items, canon_source, canon_join, canon_column_of, canon_place, canon_order, canon_key, canon_limit, canon_sources, canon_query}
 use Rattle.sql_print_laws.specs.Printable.{EachOfSome, IfThere, IsName, IsReference, IsPrintableWhere, IsPrintableHaving, IsPrintableItem, IsPrintableSource, IsPrintablePlace, IsPrintableKey, IsPrintableLimit, IsPrintableQuery}
-use Rattle.sql_print.specs.Canon.{listed, listed_behind, reference_text, cond_behind, alias_text, item_text, from_text, place_text, key_text, items_text, limit_text, query_text}
+use Rattle.sql_print.specs.Canon.{listed, listed_behind, reference_text, cond_after, alias_text, item_text, from_text, place_text, key_text, items_text, limit_text, query_text}
 use Rattle.sql_tree.specs.Tree.{ItemTree, QueryTree}
 use Rattle.sql_tree.specs.declared.token.Keyword.{Keyword}
 use Rattle.sql_tree.specs.declared.token.Keyword.TheVariants as word
@@ -68,11 +68,11 @@ froms_printed : (froms : List FromItem) (each : EachOfSome IsPrintableSource fro
 froms_printed [] each = absurd each
 froms_printed (from ∷ froms) each = middle_then (spaced_key word.From) (then_tail (source_printed from each.0) (joins_printed froms each.1))
 
-pub where_behind : (o : Option _) (is : IfThere IsPrintableWhere o) → Tail (cond_behind (codes " WHERE ") o) (write_behind write_where (word.Where ∷ []) (canon_option IsPrintableWhere canon_where o is))
+pub where_behind : (o : Option _) (is : IfThere IsPrintableWhere o) → Tail (cond_after (codes " WHERE ") o) (write_behind write_where (word.Where ∷ []) (canon_option IsPrintableWhere canon_where o is))
 where_behind None is = no_tail
 where_behind (Some c) is = middle_then (spaced_key word.Where) (where_printed c is)
 
-having_behind : (o : Option _) (is : IfThere IsPrintableHaving o) → Tail (cond_behind (codes " HAVING ") o) (write_behind (write_cond write_value) (word.Having ∷ []) (canon_option IsPrintableHaving canon_having o is))
+having_behind : (o : Option _) (is : IfThere IsPrintableHaving o) → Tail (cond_after (codes " HAVING ") o) (write_behind (write_cond write_value) (word.Having ∷ []) (canon_option IsPrintableHaving canon_having o is))
 having_behind None is = no_tail
 having_behind (Some c) is = middle_then (spaced_key word.Having) (having_printed c is)
 

@@ -7,7 +7,7 @@ use Rattle.read_laws.specs.Chain.{Found, Parser, first_token, after_first, chain
 use Rattle.read_laws.specs.CondReader.{aggregate_in, whole_expr, value, operand, range, word_test, test_behind, any_test, condition, closed_condition, operand_inside, condition_inside, operand_from, enclosed, unit_of, unit, test_from, condition_from}
 use Rattle.sql_reader.specs.Inside.{IsInside}
 use Rattle.read_laws.specs.Parts.{is_key, is_symbol}
-use Rattle.read_laws.specs.ExprReader.{sign_in, closed, term_behind, term, expr_behind, expr, factor}
+use Rattle.read_laws.specs.ExprReader.{sign_in, closed, term_after, term, expr_after, expr, factor}
 use Rattle.sql_reader.specs.declared.conditions.Parenthesised.{Parenthesised}
 use Rattle.sql_reader.specs.declared.reading.TreeError.{TreeError}
 use Rattle.sql_reader.specs.declared.conditions.Parenthesised.TheVariants.{Operand, Condition}
@@ -38,12 +38,12 @@ whole_none : (ts : List Token) → operand_inside bounded ts ≡ None → whole_
 whole_none ts h = opens_none false ts h
 
 -- where one is, it is the first factor
-whole_goes_on : (ts : List Token) (e : ExprTree) (rest : List Token) → operand_inside bounded ts ≡ Some (e, rest) → whole_expr bounded (sign symbol.Open ∷ ts) ≡ expr_behind bounded (factor bounded (suc (length ts))) e rest
-unfolding whole_expr expr term factor expr_behind
+whole_goes_on : (ts : List Token) (e : ExprTree) (rest : List Token) → operand_inside bounded ts ≡ Some (e, rest) → whole_expr bounded (sign symbol.Open ∷ ts) ≡ expr_after bounded (factor bounded (suc (length ts))) e rest
+unfolding whole_expr expr term factor expr_after
 whole_goes_on ts e rest h =
-    ap (λ o. then_read (then_read o (λ first. term_behind bounded (factor bounded (suc (length ts))) first.0 first.1)) (λ first. chain sign_in bounded.operator (term bounded (factor bounded (suc (length ts)))) (length first.1) first.0 first.1)) h
+    ap (λ o. then_read (then_read o (λ first. term_after bounded (factor bounded (suc (length ts))) first.0 first.1)) (λ first. chain sign_in bounded.operator (term bounded (factor bounded (suc (length ts)))) (length first.1) first.0 first.1)) h
 
-operand_goes_on : (aggregates : Bool) (ts : List Token) (e : ExprTree) (rest : List Token) → operand_inside bounded ts ≡ Some (e, rest) → operand bounded aggregates (sign symbol.Open ∷ ts) ≡ expr_behind bounded (factor bounded (suc (length ts))) e rest
+operand_goes_on : (aggregates : Bool) (ts : List Token) (e : ExprTree) (rest : List Token) → operand_inside bounded ts ≡ Some (e, rest) → operand bounded aggregates (sign symbol.Open ∷ ts) ≡ expr_after bounded (factor bounded (suc (length ts))) e rest
 unfolding value
 operand_goes_on true ts e rest h = whole_goes_on ts e rest h
 operand_goes_on false ts e rest h = whole_goes_on ts e rest h
@@ -166,22 +166,22 @@ module _ (aggregates : Bool) where
   -- ## Behind a first factor
 
   -- what no expression begins is no condition
-  pub from_none : (part : Parser CondTree) (levels : ℕ) (first : ExprTree) (ts : List Token) → expr_behind bounded (factor bounded levels) first ts ≡ None → condition_from bounded (operand bounded aggregates) part levels first ts ≡ None
+  pub from_none : (part : Parser CondTree) (levels : ℕ) (first : ExprTree) (ts : List Token) → expr_after bounded (factor bounded levels) first ts ≡ None → condition_from bounded (operand bounded aggregates) part levels first ts ≡ None
   unfolding test_from
   from_none part levels first ts h = then_none _ _ (then_none _ _ h)
 
   -- the condition after an expression
-  pub from_test : (part : Parser CondTree) (levels : ℕ) (first : ExprTree) (ts : List Token) (of : ExprTree) (rest : List Token) (o : Found CondTree) → expr_behind bounded (factor bounded levels) first ts ≡ Some (of, rest) → test_behind bounded (operand bounded aggregates) of rest ≡ o → condition_from bounded (operand bounded aggregates) part levels first ts ≡ then_read o (λ (found : CondTree × List Token). closed_condition bounded part found.0 found.1)
+  pub from_test : (part : Parser CondTree) (levels : ℕ) (first : ExprTree) (ts : List Token) (of : ExprTree) (rest : List Token) (o : Found CondTree) → expr_after bounded (factor bounded levels) first ts ≡ Some (of, rest) → test_behind bounded (operand bounded aggregates) of rest ≡ o → condition_from bounded (operand bounded aggregates) part levels first ts ≡ then_read o (λ (found : CondTree × List Token). closed_condition bounded part found.0 found.1)
   unfolding test_from
   from_test part levels first ts of rest o h e = ap (λ o. then_read o (λ (found : CondTree × List Token). closed_condition bounded part found.0 found.1)) (then_told _ _ _ _ h e)
 
 -- the expression before a `)`, and before anything else
-pub from_closed : (levels : ℕ) (first : ExprTree) (ts : List Token) (of : ExprTree) (rest after : List Token) → expr_behind bounded (factor bounded levels) first ts ≡ Some (of, rest) → is_symbol symbol.Close (first_token rest) ≡ true → after ≡ after_first rest → operand_from bounded levels first ts ≡ Some (of, after)
+pub from_closed : (levels : ℕ) (first : ExprTree) (ts : List Token) (of : ExprTree) (rest after : List Token) → expr_after bounded (factor bounded levels) first ts ≡ Some (of, rest) → is_symbol symbol.Close (first_token rest) ≡ true → after ≡ after_first rest → operand_from bounded levels first ts ≡ Some (of, after)
 from_closed levels first ts of rest after h close e =
     let same : sign symbol.Close ∷ after ≡ rest = ap (λ a. sign symbol.Close ∷ a) e ∙ symbol_found symbol.Close rest close in
     then_told _ _ closed _ h (ap (λ (ts : List Token). closed (of, ts)) (sym same))
 
-pub from_open : (levels : ℕ) (first : ExprTree) (ts : List Token) (of : ExprTree) (rest : List Token) → expr_behind bounded (factor bounded levels) first ts ≡ Some (of, rest) → is_symbol symbol.Close (first_token rest) ≡ false → operand_from bounded levels first ts ≡ None
+pub from_open : (levels : ℕ) (first : ExprTree) (ts : List Token) (of : ExprTree) (rest : List Token) → expr_after bounded (factor bounded levels) first ts ≡ Some (of, rest) → is_symbol symbol.Close (first_token rest) ≡ false → operand_from bounded levels first ts ≡ None
 from_open levels first ts of rest h open_ = then_told _ _ closed _ h (at rest open_)
   where
     at : (rest : List Token) → is_symbol symbol.Close (first_token rest) ≡ false → closed (of, rest) ≡ None

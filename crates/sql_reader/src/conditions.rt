@@ -9,7 +9,7 @@ ghost use Rattle.read_laws.specs.CondReader as reader;
 ghost use Rattle.sql_reader.specs.Inside.{IsInside};
 
 use crate::cursor::{Cursor, and, beside, is_key, is_symbol, or};
-use crate::expressions::expr_behind;
+use crate::expressions::expr_after;
 use crate::predicates::{test, test_behind, whole_expr};
 use crate::reading::TreeError;
 use crate::signs::{self, both_boxed, with_cond_signs};
@@ -54,13 +54,13 @@ pub(crate) fn cond(
         (tokens_in tokens.old.rest.now) ≡ None }
 {
     let first = unit(alloc, tokens, aggregates, depth)?;
-    cond_behind(alloc, tokens, aggregates, depth, first)
+    cond_after(alloc, tokens, aggregates, depth, first)
 }
 
 /// The rest of a condition after its first unit.
 #[cycle(unit)]
-#[tactic(auto, unfolding(read_laws::specs::CondReader::condition_behind))]
-fn cond_behind(
+#[tactic(auto, unfolding(read_laws::specs::CondReader::condition_after))]
+fn cond_after(
     alloc: Global,
     tokens: &mut Cursor<'_>,
     aggregates: bool,
@@ -68,14 +68,14 @@ fn cond_behind(
     first: Cond,
 ) -> Result<Cond, TreeError>
     ensures found { IfOk result (λ c.
-        reader.condition_behind bounded (reader.unit bounded (reader.operand bounded aggregates) depth)
+        reader.condition_after bounded (reader.unit bounded (reader.operand bounded aggregates) depth)
         (cond_tree first) (tokens_in tokens.old.rest.now)
         ≡ Some (cond_tree c, tokens_in tokens.new.rest.now)) }
     ensures none { IsErrOf result TreeError.Syntax →
-        reader.condition_behind bounded (reader.unit bounded (reader.operand bounded aggregates) depth)
+        reader.condition_after bounded (reader.unit bounded (reader.operand bounded aggregates) depth)
         (cond_tree first) (tokens_in tokens.old.rest.now) ≡ None }
 {
-    let mut left = conj_behind(alloc, tokens, aggregates, depth, first)?;
+    let mut left = conj_after(alloc, tokens, aggregates, depth, first)?;
     'conjs: for turn in 0..tokens.len() {
         let Some(_) = or(tokens.peek()) else {
             return Ok(left);
@@ -104,12 +104,12 @@ fn conj(
         (tokens_in tokens.old.rest.now) ≡ None }
 {
     let first = unit(alloc, tokens, aggregates, depth)?;
-    conj_behind(alloc, tokens, aggregates, depth, first)
+    conj_after(alloc, tokens, aggregates, depth, first)
 }
 
 /// The rest of a conjunction after its first unit.
 #[cycle(unit)]
-fn conj_behind(
+fn conj_after(
     alloc: Global,
     tokens: &mut Cursor<'_>,
     aggregates: bool,
@@ -117,11 +117,11 @@ fn conj_behind(
     first: Cond,
 ) -> Result<Cond, TreeError>
     ensures found { IfOk result (λ c.
-        reader.conjunction_behind bounded (reader.unit bounded (reader.operand bounded aggregates) depth)
+        reader.conjunction_after bounded (reader.unit bounded (reader.operand bounded aggregates) depth)
         (cond_tree first) (tokens_in tokens.old.rest.now)
         ≡ Some (cond_tree c, tokens_in tokens.new.rest.now)) }
     ensures none { IsErrOf result TreeError.Syntax →
-        reader.conjunction_behind bounded (reader.unit bounded (reader.operand bounded aggregates) depth)
+        reader.conjunction_after bounded (reader.unit bounded (reader.operand bounded aggregates) depth)
         (cond_tree first) (tokens_in tokens.old.rest.now) ≡ None }
 {
     let mut left = first;
@@ -293,7 +293,7 @@ fn inside_from(
         (reader.unit bounded (reader.operand bounded aggregates) depth) levels (expr_tree first)
         (tokens_in tokens.old.rest.now) ≡ None }
 {
-    let operand = expr_behind(alloc, tokens, levels, first)?;
+    let operand = expr_after(alloc, tokens, levels, first)?;
     if is_symbol(tokens.peek(), Symbol::Close) {
         tokens.advance();
         return Ok(Parenthesised::Operand(operand));
@@ -320,7 +320,7 @@ fn closed_cond(
         reader.closed_condition bounded (reader.unit bounded (reader.operand bounded aggregates) depth)
         (cond_tree first) (tokens_in tokens.old.rest.now) ≡ None }
 {
-    let condition = cond_behind(alloc, tokens, aggregates, depth, first)?;
+    let condition = cond_after(alloc, tokens, aggregates, depth, first)?;
     tokens.closed(condition)
 }
 
@@ -351,7 +351,7 @@ fn test_from(
         reader.test_from bounded (reader.operand bounded aggregates) levels (expr_tree first)
         (tokens_in tokens.old.rest.now) ≡ None }
 {
-    let operand = expr_behind(alloc, tokens, levels, first)?;
+    let operand = expr_after(alloc, tokens, levels, first)?;
     test_behind(alloc, tokens, aggregates, operand)
 }
 

@@ -26,26 +26,26 @@ pub(crate) fn expr(alloc: Global, tokens: &mut Cursor<'_>, depth: usize) -> Resu
         reader.expr bounded (reader.factor bounded depth) (tokens_in tokens.old.rest.now) ≡ None }
 {
     let first = factor(alloc, tokens, depth)?;
-    expr_behind(alloc, tokens, depth, first)
+    expr_after(alloc, tokens, depth, first)
 }
 
 /// The rest of an expression after its first factor.
 #[cycle(expr)]
-#[tactic(auto, unfolding(read_laws::specs::ExprReader::expr_behind))]
-pub(crate) fn expr_behind(
+#[tactic(auto, unfolding(read_laws::specs::ExprReader::expr_after))]
+pub(crate) fn expr_after(
     alloc: Global,
     tokens: &mut Cursor<'_>,
     depth: usize,
     first: Expr,
 ) -> Result<Expr, TreeError>
     ensures found { IfOk result (λ e.
-        reader.expr_behind bounded (reader.factor bounded depth) (expr_tree first)
+        reader.expr_after bounded (reader.factor bounded depth) (expr_tree first)
         (tokens_in tokens.old.rest.now) ≡ Some (expr_tree e, tokens_in tokens.new.rest.now)) }
     ensures none { IsErrOf result TreeError.Syntax →
-        reader.expr_behind bounded (reader.factor bounded depth) (expr_tree first)
+        reader.expr_after bounded (reader.factor bounded depth) (expr_tree first)
         (tokens_in tokens.old.rest.now) ≡ None }
 {
-    let mut left = term_behind(alloc, tokens, depth, first)?;
+    let mut left = term_after(alloc, tokens, depth, first)?;
     'terms: for turn in 0..tokens.len() {
         let Some(op) = sign(tokens.peek()) else {
             return Ok(left);
@@ -67,22 +67,22 @@ fn term(alloc: Global, tokens: &mut Cursor<'_>, depth: usize) -> Result<Expr, Tr
         reader.term bounded (reader.factor bounded depth) (tokens_in tokens.old.rest.now) ≡ None }
 {
     let first = factor(alloc, tokens, depth)?;
-    term_behind(alloc, tokens, depth, first)
+    term_after(alloc, tokens, depth, first)
 }
 
 /// The rest of a term after its first factor.
 #[cycle(expr)]
-fn term_behind(
+fn term_after(
     alloc: Global,
     tokens: &mut Cursor<'_>,
     depth: usize,
     first: Expr,
 ) -> Result<Expr, TreeError>
     ensures found { IfOk result (λ e.
-        reader.term_behind bounded (reader.factor bounded depth) (expr_tree first)
+        reader.term_after bounded (reader.factor bounded depth) (expr_tree first)
         (tokens_in tokens.old.rest.now) ≡ Some (expr_tree e, tokens_in tokens.new.rest.now)) }
     ensures none { IsErrOf result TreeError.Syntax →
-        reader.term_behind bounded (reader.factor bounded depth) (expr_tree first)
+        reader.term_after bounded (reader.factor bounded depth) (expr_tree first)
         (tokens_in tokens.old.rest.now) ≡ None }
 {
     let mut left = first;

@@ -246,14 +246,14 @@ fn listed(
         reader.listed bounded (reader.operand bounded aggregates) (expr_tree of)
         (tokens_in tokens.old.rest.now) ≡ None }
 {
-    let read = list_behind(alloc, tokens, aggregates, &of);
+    let read = list_after(alloc, tokens, aggregates, &of);
     drop(of);
     read
 }
 
 /// The list after IN, of an operand that is lent.
 #[tactic(auto, unfolding(read_laws::specs::CondReader::listed))]
-fn list_behind(
+fn list_after(
     alloc: Global,
     tokens: &mut Cursor<'_>,
     aggregates: bool,

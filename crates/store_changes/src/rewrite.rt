@@ -127,7 +127,7 @@ fn carry_out(
 }
 
 /// Why a DELETE or an UPDATE is refused whose plan overflows.
-fn refusal_behind(alloc: Global, store: &Store, typed: &Typed) -> Result<Refusal, Memory>
+fn refusal_after(alloc: Global, store: &Store, typed: &Typed) -> Result<Refusal, Memory>
     requires write { is_write (stmt_tree typed.now.stmt) ≡ true }
     requires held { HoldsTables (stmt_tree typed.now.stmt) typed.now.sources store.now.db }
     requires overflows { plan_rows (write_plan (stmt_tree typed.now.stmt) typed.now.sources) store.now.db ≡ None }
@@ -172,7 +172,7 @@ pub(crate) fn rewrite<E: Operate, L: Ledger>(
             })
         }
         Err(RunError::Overflow) => {
-            let refusal = refusal_behind(alloc, store, typed)?;
+            let refusal = refusal_after(alloc, store, typed)?;
             Ok(Outcome {
                 ready: Err(refusal),
                 work: 0,

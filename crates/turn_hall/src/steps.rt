@@ -100,7 +100,7 @@ impl<V: Logged> Hall<V> {
             .store::<Publish<V>>(&mut pass.seat, COUNT, count);
     }
 
-    /// Passes the turn on, where the value in the slot stands for what the pass has seen. Wakes
+    /// Passes the turn on, once the value in the slot is that of what the pass has seen. Wakes
     /// sleeping passes where none is awake to take the turn.
     pub(crate) fn pass_on(&self, pass: &mut Pass<V>)
         requires hall { IsPassOf self.now pass.old }

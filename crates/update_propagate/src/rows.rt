@@ -9,7 +9,7 @@ use cell_core::{Memory, Word};
 use std::alloc::Global;
 
 /// The cells of a column from a place on.
-fn cells_behind(alloc: Global, cells: &Cells, count: u64) -> Result<Cells, Memory>
+fn cells_after(alloc: Global, cells: &Cells, count: u64) -> Result<Cells, Memory>
     ensures { IfOk result (λ out. out ≡ drop count cells.now) }
 {
     let mut out = CellsBuilder::new(alloc);
@@ -26,8 +26,8 @@ fn cells_behind(alloc: Global, cells: &Cells, count: u64) -> Result<Cells, Memor
 pub(crate) fn rows_behind(alloc: Global, bat: &Bat, count: u64) -> Result<Bat, Memory>
     ensures { IfOk result (λ out. out ≡ drop count bat.now) }
 {
-    let heads = cells_behind(alloc, bat.heads(), count)?;
-    let tails = cells_behind(alloc, bat.tails(), count)?;
+    let heads = cells_after(alloc, bat.heads(), count)?;
+    let tails = cells_after(alloc, bat.tails(), count)?;
     Ok(Bat::from_columns(heads, tails))
 }
 

@@ -15,7 +15,7 @@ returns c =
     let is : scope ≡ wanted =
     ap (λ called. record { called = called; sources = scope.sources }) (c.new-tables.ensures.called ∙ c.deref.ensures.value ∙ c.in_ok-called.ensures ∙ ap (λ froms. called_sources (map from_name froms) c.args.sources.now) c.as_slice.ensures)
     ∙ ap (λ sources. record { called = wanted.called; sources = sources }) c.new-tables.ensures.sources in
-    if_ok (λ plan. plan ≡ plan_of scope (query_tree c.args.query.now) ((shown_items scope (query_tree c.args.query.now) (variables c.deref-3.result.now)).run c.kept_rows.new.instrs)) (λ plan. plan ≡ query_plan wanted (query_tree c.args.query.now)) c.plan_behind.result
+    if_ok (λ plan. plan ≡ plan_of scope (query_tree c.args.query.now) ((shown_items scope (query_tree c.args.query.now) (variables c.deref-3.result.now)).run c.kept_rows.new.instrs)) (λ plan. plan ≡ query_plan wanted (query_tree c.args.query.now)) c.plan_after.result
     (λ plan p. over_is scope wanted (query_tree c.args.query.now) plan c.kept_rows.new.instrs c.new-instrs.result (variables c.deref-3.result.now) (option_map cond_tree (option_copied c.as_ref.result)) is c.new-instrs.ensures
     (ap (option_map cond_tree) c.as_ref.ensures.value) (ap (λ rows. (c.kept_rows.new.instrs, variables rows)) c.deref-3.ensures.value ∙ c.in_ok-rows.ensures) p)
-    c.plan_behind.ensures.plan
+    c.plan_after.ensures.plan

@@ -12,14 +12,14 @@ decreases-closed_cond l = 10 * l.depth + 6
 abbrev pub decreases-cond : goal.decreases-cond
 decreases-cond l = 10 * l.depth + 5
 
-abbrev pub decreases-cond_behind : goal.decreases-cond_behind
-decreases-cond_behind l = 10 * l.depth + 4
+abbrev pub decreases-cond_after : goal.decreases-cond_after
+decreases-cond_after l = 10 * l.depth + 4
 
 abbrev pub decreases-conj : goal.decreases-conj
 decreases-conj l = 10 * l.depth + 3
 
-abbrev pub decreases-conj_behind : goal.decreases-conj_behind
-decreases-conj_behind l = 10 * l.depth + 2
+abbrev pub decreases-conj_after : goal.decreases-conj_after
+decreases-conj_after l = 10 * l.depth + 2
 
 abbrev pub decreases-first_inside : goal.decreases-first_inside
 decreases-first_inside l = 10 * l.depth + 7
@@ -36,12 +36,12 @@ decreases-inside_from l = 10 * l.depth + 7
 abbrev pub decreases-unit : goal.decreases-unit
 decreases-unit l = 10 * l.depth + 1
 
-abbrev pub invariant-cond_behind-conjs : goal.invariant-cond_behind-conjs
-invariant-cond_behind-conjs l =
-    reader.condition_behind bounded (reader.unit bounded (reader.operand bounded l.aggregates) l.depth) (cond_tree l.fn.first) (tokens_in l.fn.tokens.rest.now)
+abbrev pub invariant-cond_after-conjs : goal.invariant-cond_after-conjs
+invariant-cond_after-conjs l =
+    reader.condition_after bounded (reader.unit bounded (reader.operand bounded l.aggregates) l.depth) (cond_tree l.fn.first) (tokens_in l.fn.tokens.rest.now)
     ≡ chain reader.or_in (reader.either_of bounded) (reader.conjunction bounded (reader.unit bounded (reader.operand bounded l.aggregates) l.depth)) (l.turn-end - l.turn) (cond_tree l.left) (tokens_in l.tokens.rest.now)
 
-abbrev pub invariant-conj_behind-units : goal.invariant-conj_behind-units
-invariant-conj_behind-units l =
-    reader.conjunction_behind bounded (reader.unit bounded (reader.operand bounded l.aggregates) l.depth) (cond_tree l.fn.first) (tokens_in l.fn.tokens.rest.now)
+abbrev pub invariant-conj_after-units : goal.invariant-conj_after-units
+invariant-conj_after-units l =
+    reader.conjunction_after bounded (reader.unit bounded (reader.operand bounded l.aggregates) l.depth) (cond_tree l.fn.first) (tokens_in l.fn.tokens.rest.now)
     ≡ chain reader.and_in (reader.both_of bounded) (reader.unit bounded (reader.operand bounded l.aggregates) l.depth) (l.turn-end - l.turn) (cond_tree l.left) (tokens_in l.tokens.rest.now)

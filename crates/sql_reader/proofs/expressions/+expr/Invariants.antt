@@ -9,8 +9,8 @@ use Rattle.sql_reader.proofs.expressions.+expr.Given as goal
 abbrev pub decreases-expr : goal.decreases-expr
 decreases-expr l = 6 * l.depth + 5
 
-abbrev pub decreases-expr_behind : goal.decreases-expr_behind
-decreases-expr_behind l = 6 * l.depth + 4
+abbrev pub decreases-expr_after : goal.decreases-expr_after
+decreases-expr_after l = 6 * l.depth + 4
 
 abbrev pub decreases-factor : goal.decreases-factor
 decreases-factor l = 6 * l.depth + 1
@@ -24,15 +24,15 @@ decreases-negative l = 6 * l.depth + 2
 abbrev pub decreases-term : goal.decreases-term
 decreases-term l = 6 * l.depth + 3
 
-abbrev pub decreases-term_behind : goal.decreases-term_behind
-decreases-term_behind l = 6 * l.depth + 2
+abbrev pub decreases-term_after : goal.decreases-term_after
+decreases-term_after l = 6 * l.depth + 2
 
-abbrev pub invariant-expr_behind-terms : goal.invariant-expr_behind-terms
-invariant-expr_behind-terms l =
-    reader.expr_behind bounded (reader.factor bounded l.depth) (expr_tree l.fn.first) (tokens_in l.fn.tokens.rest.now)
+abbrev pub invariant-expr_after-terms : goal.invariant-expr_after-terms
+invariant-expr_after-terms l =
+    reader.expr_after bounded (reader.factor bounded l.depth) (expr_tree l.fn.first) (tokens_in l.fn.tokens.rest.now)
     ≡ chain reader.sign_in bounded_operator (reader.term bounded (reader.factor bounded l.depth)) (l.turn-end - l.turn) (expr_tree l.left) (tokens_in l.tokens.rest.now)
 
-abbrev pub invariant-term_behind-factors : goal.invariant-term_behind-factors
-invariant-term_behind-factors l =
-    reader.term_behind bounded (reader.factor bounded l.depth) (expr_tree l.fn.first) (tokens_in l.fn.tokens.rest.now)
+abbrev pub invariant-term_after-factors : goal.invariant-term_after-factors
+invariant-term_after-factors l =
+    reader.term_after bounded (reader.factor bounded l.depth) (expr_tree l.fn.first) (tokens_in l.fn.tokens.rest.now)
     ≡ chain reader.star_in bounded_operator (reader.factor bounded l.depth) (l.turn-end - l.turn) (expr_tree l.left) (tokens_in l.tokens.rest.now)

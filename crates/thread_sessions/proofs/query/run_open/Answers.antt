@@ -4,7 +4,7 @@ use Rattle.thread_sessions.proofs.CrewLemmas.{ended_on}
 use Rattle.thread_sessions.proofs.query.run_open.Goals as goal
 
 pub give_up-requires-clause-sound : goal.give_up-requires-clause-sound
-give_up-requires-clause-sound g c = (c.in-Err-Overflow.ensures.sound_behind_overflow (ap Err c.in-Err-Overflow.field-0-is)).crew
+give_up-requires-clause-sound g c = (c.in-Err-Overflow.ensures.sound_after_overflow (ap Err c.in-Err-Overflow.field-0-is)).crew
 
 pub returns-in-Ok : goal.returns-in-Ok
 returns-in-Ok g c =

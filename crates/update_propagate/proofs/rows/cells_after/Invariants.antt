@@ -1,6 +1,6 @@
 -- What was added so far.
 use Rattle.std.proofs.Common.{◌≡◌, ◌-◌, ◌<◌, ◌≤◌, drop, length, take}
-use Rattle.update_propagate.proofs.rows.cells_behind.Given as goal
+use Rattle.update_propagate.proofs.rows.cells_after.Given as goal
 
 abbrev pub invariant-loop-from : goal.invariant-loop-from
 invariant-loop-from l = record {

@@ -5,7 +5,7 @@ use Rattle.sql_tree.specs.Tree.{stmt_tree}
 use Rattle.table_store.specs.Changes.{rows_of}
 use Rattle.store_changes.proofs.NamedLemmas.{has_name, not_missing, told_heading}
 use Rattle.store_changes.proofs.RewriteLemmas.{here, overflows_here}
-use Rattle.store_changes.proofs.rewrite.refusal_behind.Goals as goal
+use Rattle.store_changes.proofs.rewrite.refusal_after.Goals as goal
 
 pub unreachable-requires : goal.unreachable-requires
 unreachable-requires c =
