@@ -15,7 +15,7 @@ use Rattle.sql_tree.specs.Tree.StmtTree.{CreateTable, DropTable, AlterTable, Ins
 use Rattle.answer_text.specs.Layout.{printed}
 use Rattle.answer_text.specs.Log.{IsOrdered}
 use Rattle.reply_layout.specs.Layout.{history_of}
-use Rattle.audit_check.specs.Honest.{IsHonest, IsNoExplain}
+use Rattle.audit_definitions.specs.Honest.{IsHonest, IsNoExplain}
 use Rattle.audit_laws.specs.Laws.{HoldsNoExplain, IsNoExplainText, ServedIsHonest}
 use Rattle.audit_laws.proofs.LineLemmas.{lines_of, log_same}
 use Rattle.audit_laws.proofs.OrderLemmas.{ordered_same}

@@ -11,8 +11,8 @@ use Rattle.run_log.specs.declared.event.FoundLog.TheVariants as looked
 use Rattle.run_log.specs.Events.{ActTree, Begins, Looks, Admits, Writes, Ends, EventTree}
 use Rattle.answer_text.specs.Layout.{act_text as told_act, event_line, log_text}
 use Rattle.answer_text.specs.Log.{is_of_pool}
-use Rattle.audit_check.specs.Lines.{Form, form_of, pool_forms, Line, LineAct, IsPool, is_number, act_text, line_text, lines_text, log_part}
-use Rattle.audit_check.specs.Lines.{LineAct as line}
+use Rattle.audit_definitions.specs.Lines.{Form, form_of, pool_forms, Line, LineAct, IsPool, is_number, act_text, line_text, lines_text, log_part}
+use Rattle.audit_definitions.specs.Lines.{LineAct as line}
 use Rattle.sql_shell.specs.Numbers.{AreBelow, admitted_numbers, looked_numbers, pool_numbers}
 use Rattle.audit_laws.proofs.NumberLemmas.{decimal_short, decimals_short}
 

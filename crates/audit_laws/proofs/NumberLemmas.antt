@@ -5,7 +5,7 @@ use Rattle.std.proofs.lemmas.Bool.{and_from}
 use Rattle.std.proofs.lemmas.Fmt.{decimal_by_steps_wide}
 use Rattle.std.proofs.lemmas.List.Folds.{list_all-append}
 use Rattle.sql_tree.specs.Bytes.{is_digit}
-use Rattle.audit_check.specs.Lines.{is_number}
+use Rattle.audit_definitions.specs.Lines.{is_number}
 
 -- the first byte is no 0
 abbrev leads : List ℕ → Bool

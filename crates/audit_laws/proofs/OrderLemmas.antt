@@ -18,9 +18,9 @@ use Rattle.sql_tree.specs.Tree.StmtTree.{CreateTable, DropTable, AlterTable, Ins
 use Rattle.run_log.specs.Events.{ActTree, EventTree}
 use Rattle.answer_text.specs.Log.{IsOrdered, acts_in, doing_over, is_of_pool, logged_of, tables_met}
 use Rattle.answer_text.specs.Log as log_specs
-use Rattle.audit_check.specs.Honest.{AreOrdered, AreStatements, IsNoExplain, own_acts, plain_doing, told_of, with_between}
-use Rattle.audit_check.specs.Lines.{Line, LineAct, IsPool}
-use Rattle.audit_check.specs.Places.{tables_before}
+use Rattle.audit_definitions.specs.Honest.{AreOrdered, AreStatements, IsNoExplain, own_acts, plain_doing, told_of, with_between}
+use Rattle.audit_definitions.specs.Lines.{Line, LineAct, IsPool}
+use Rattle.audit_definitions.specs.Places.{tables_before}
 use Rattle.audit_laws.proofs.LineLemmas.{IsShort, act_of, line_of, lines_of, pool_same}
 use Rattle.audit_laws.proofs.PlaceLemmas.{tables_same}
 

@@ -7,7 +7,7 @@ use Rattle.sql_definitions.specs.Effect.{replay}
 use Rattle.run_log.specs.Events.{ActTree, Begins, Looks, Admits, Writes, Ends, EventTree, commits, committed}
 use Rattle.answer_text.specs.Layout.{changes_of}
 use Rattle.answer_text.specs.Log.{is_opening as opens_there, is_place, statement_place, tables_met}
-use Rattle.audit_check.specs.Places.{accepted_by, accepted_in, changes_in, is_opening, lines_before, opens, tables_before}
+use Rattle.audit_definitions.specs.Places.{accepted_by, accepted_in, changes_in, is_opening, lines_before, opens, tables_before}
 use Rattle.audit_laws.proofs.LineLemmas.{act_of, line_of, lines_of}
 
 -- ## Places

@@ -10,8 +10,8 @@ use Rattle.sql_tree.specs.Tree.{StmtTree}
 use Rattle.run_log.specs.declared.event.Totals.{Totals}
 use Rattle.run_log.specs.Events.{EventTree}
 use Rattle.answer_text.specs.Layout.{sessions_text, shown_at, totals_text}
-use Rattle.audit_check.specs.Honest.{IsNoExplain, pool_names, pool_text, shown_by_lines}
-use Rattle.audit_check.specs.Lines.{is_number}
+use Rattle.audit_definitions.specs.Honest.{IsNoExplain, pool_names, pool_text, shown_by_lines}
+use Rattle.audit_definitions.specs.Lines.{is_number}
 use Rattle.sql_shell.specs.Numbers.{AreBelow, count_numbers}
 use Rattle.audit_laws.proofs.LineLemmas.{lines_of}
 use Rattle.audit_laws.proofs.NumberLemmas.{and_parts, decimal_wide, decimals_short}

@@ -1,7 +1,7 @@
 -- The law that a served run is honest.
 use Rattle.std.specs.Prelude.{◌≡◌, ℕ, List, map, true, Ok}
 use Rattle.std.specs.List.{AllByRecursion}
-use Rattle.audit_check.specs.Honest.{IsHonest}
+use Rattle.audit_definitions.specs.Honest.{IsHonest}
 use Rattle.command_line.specs.declared.command.RunOptions.{RunOptions}
 use Rattle.read_laws.specs.Answered.{Reads}
 use Rattle.run_log.specs.Events.{EventTree}

@@ -4,7 +4,7 @@ use Rattle.cell_core.specs.declared.table.Db.{Db}
 use Rattle.reply_layout.specs.Layout.{Change, change_from}
 use Rattle.sql_definitions.specs.Effect.{replay}
 use Rattle.sql_tree.specs.Tree.{StmtTree}
-use Rattle.audit_check.specs.Lines.{Line, LineAct, Begins, Writes}
+use Rattle.audit_definitions.specs.Lines.{Line, LineAct, Begins, Writes}
 
 -- the act that marks the place of a statement
 abbrev pub is_opening : LineAct → Bool

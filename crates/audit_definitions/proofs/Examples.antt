@@ -18,9 +18,9 @@ use Rattle.sql_definitions.specs.declared.refusal.Refusal.{Refusal}
 use Rattle.sql_definitions.specs.declared.refusal.Refusal.TheVariants.{Syntax}
 use Rattle.read_laws.specs.Readings.{AreAllRead}
 use Rattle.reply_layout.specs.Layout.{history_of, sessions_by}
-use Rattle.audit_check.specs.Lines.{form_of, is_number, Line, LineAct, Begins, Pools, Writes, Ends, IsPool, act_text, log_part}
-use Rattle.audit_check.specs.Places.{changes_in, tables_before}
-use Rattle.audit_check.specs.Honest.{AreOrdered, AreStatements, IsHonest, own_acts, plain_doing, pool_names, pool_text, shown_by_lines, told_of, with_between}
+use Rattle.audit_definitions.specs.Lines.{form_of, is_number, Line, LineAct, Begins, Pools, Writes, Ends, IsPool, act_text, log_part}
+use Rattle.audit_definitions.specs.Places.{changes_in, tables_before}
+use Rattle.audit_definitions.specs.Honest.{AreOrdered, AreStatements, IsHonest, own_acts, plain_doing, pool_names, pool_text, shown_by_lines, told_of, with_between}
 
 -- ## Free numbers
 

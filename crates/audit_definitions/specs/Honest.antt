@@ -10,8 +10,8 @@ use Rattle.sql_definitions.specs.declared.refusal.Refusal.{Refusal}
 use Rattle.sql_tree.specs.Pieces.{pieces_of}
 use Rattle.sql_tree.specs.Tree.{StmtTree}
 use Rattle.sql_tree.specs.Tree.StmtTree.{ExplainSelect}
-use Rattle.audit_check.specs.Lines.{Line, LineAct, Begins, Writes, Ends, IsPool, is_number, log_part}
-use Rattle.audit_check.specs.Places.{changes_in, tables_before}
+use Rattle.audit_definitions.specs.Lines.{Line, LineAct, Begins, Writes, Ends, IsPool, is_number, log_part}
+use Rattle.audit_definitions.specs.Places.{changes_in, tables_before}
 
 -- ## What a statement does
 
