@@ -8,7 +8,9 @@ use sql_shell::top;
 use std::alloc::Global;
 use std::marker::Brand;
 use std::sync::Wait;
+use std::sync::atomic::{AtomicU64, Ordering};
 use std::sync::ledger::{Blank, Ledger};
+use std::thread;
 use std::thread::Threads;
 
 /// The name of a file, and its text.
@@ -29,6 +31,21 @@ pub struct ProgramRun {
 
 /// The bytes that an output may have.
 const ROOM: usize = 2_000_000;
+
+/// The most looks at a count that is awaited.
+const MOST_LOOKS: u64 = 10_000_000;
+
+/// Waits until a count is as high as this, and returns whether it came to be: a kernel that holds a call
+/// until another one has started.
+pub fn await_count(count: &AtomicU64, least: u64) -> bool {
+    for _ in 0..MOST_LOOKS {
+        if count.load(Ordering::SeqCst) >= least {
+            return true;
+        }
+        thread::yield_now();
+    }
+    false
+}
 
 /// The words of a command line.
 fn words_of(alloc: Global, line: &str) -> Result<Vec<Word>, Memory> {

@@ -5,16 +5,13 @@ use super::plainly::Round;
 use bat_core::{Obj, Operate};
 use bat_kernel::Kernel;
 use cell_core::{Memory, Op, RunError, Steps};
-use shell_tests::run_by;
+use shell_tests::{await_count, run_by};
 use std::alloc::Global;
 use std::sync::Wait;
 use std::sync::atomic::{AtomicU64, Ordering};
 use std::sync::ledger::Ledger;
 use std::test::Fail;
 use std::thread::Threads;
-
-/// The most looks for what is awaited.
-const MOST_LOOKS: u64 = 100_000_000;
 
 /// The kernel. It holds the first selection until a product is computed, and sums until a selection
 /// has started.
@@ -37,11 +34,8 @@ impl Holding {
 
     /// Waits until a count isn't 0.
     fn hold(&self, awaited: &AtomicU64) {
-        for _ in 0..MOST_LOOKS {
-            if awaited.load(Ordering::SeqCst) > 0 {
-                self.met.fetch_add(1, Ordering::SeqCst);
-                return;
-            }
+        if await_count(awaited, 1) {
+            self.met.fetch_add(1, Ordering::SeqCst);
         }
     }
 }

@@ -1,5 +1,5 @@
 //! Sessions run beside one another, and so do the instructions of a query.
-use crate::kernels::{NamedText, run_by};
+use crate::kernels::{NamedText, await_count, run_by};
 use bat_core::{Obj, Operate};
 use bat_kernel::Kernel;
 use cell_core::{Memory, Op, RunError, Steps};
@@ -9,9 +9,6 @@ use std::sync::atomic::{AtomicU64, Ordering};
 use std::sync::ledger::Ledger;
 use std::test::Fail;
 use std::thread::Threads;
-
-/// The most looks of a selection for what it awaits.
-pub(super) const MOST_LOOKS: u64 = 100_000_000;
 
 /// What selections await.
 #[derive(Clone, Copy)]
@@ -52,21 +49,14 @@ impl Holding {
         }
     }
 
-    /// Whether what is awaited has started.
-    fn is_met(&self) -> bool {
-        match self.awaited {
-            Awaited::Selections(count) => self.selections.load(Ordering::SeqCst) >= count,
-            Awaited::Mirror => self.mirrors.load(Ordering::SeqCst) > 0,
-        }
-    }
-
     /// Waits for what is awaited.
     fn hold(&self) {
-        for _ in 0..MOST_LOOKS {
-            if self.is_met() {
-                self.met.fetch_add(1, Ordering::SeqCst);
-                return;
-            }
+        let is_met = match self.awaited {
+            Awaited::Selections(count) => await_count(&self.selections, count),
+            Awaited::Mirror => await_count(&self.mirrors, 1),
+        };
+        if is_met {
+            self.met.fetch_add(1, Ordering::SeqCst);
         }
     }
 }

@@ -1,6 +1,5 @@
 //! A session that meets a kernel without memory ends, and the one beside it runs to its end.
-use super::gates::MOST_LOOKS;
-use crate::kernels::{NamedText, run_by};
+use crate::kernels::{NamedText, await_count, run_by};
 use bat_core::{Obj, Operate};
 use bat_kernel::Kernel;
 use cell_core::{Memory, Op, RunError, Steps};
@@ -31,15 +30,6 @@ impl GivingUp {
     fn has_given_up(&self) -> bool {
         self.given_up.load(Ordering::SeqCst) > 0
     }
-
-    /// Waits until it has given up.
-    fn hold(&self) {
-        for _ in 0..MOST_LOOKS {
-            if self.has_given_up() {
-                return;
-            }
-        }
-    }
 }
 
 impl Operate for GivingUp {
@@ -55,7 +45,7 @@ impl Operate for GivingUp {
             return Err(RunError::Memory);
         }
         if matches!(op, Op::Select) {
-            self.hold();
+            await_count(&self.given_up, 1);
         }
         if self.has_given_up() {
             self.served.fetch_add(1, Ordering::SeqCst);

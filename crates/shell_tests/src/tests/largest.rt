@@ -7,9 +7,12 @@ use std::sync::Wait;
 use std::test::Fail;
 use std::thread::Threads;
 
-/// What is tried, the parts of the script, each with how often it comes, and the output from its
-/// first byte, up to the number of changes; for the largest file it is all of it.
-type Case = (&'static str, &'static [(&'static str, usize)], &'static str);
+/// Parts of a text, each with how often it comes.
+type Parts = &'static [(&'static str, usize)];
+
+/// What is tried, the script, and the output from its first byte, up to the pool or to the number of
+/// changes; for the largest file it is all of it.
+type Case = (&'static str, Parts, Parts);
 
 const TEXT_TABLE: (&str, usize) = ("CREATE TABLE t (a TEXT); INSERT INTO t VALUES ('", 1);
 
@@ -17,33 +20,54 @@ const LARGE_SCRIPTS: &[Case] = &[
     (
         "a statement of 65,536 bytes",
         &[TEXT_TABLE, ("x", 65_511), ("')", 1)],
-        "session 1 a.sql\n1 ok\n2 ok 1\nhistory 2\n",
+        &[
+            (
+                "session 1 a.sql\n1 ok\n2 ok 1\nhistory 2\n1 1 1 CREATE TABLE t (a TEXT);\n2 1 2 INSERT INTO t VALUES ('",
+                1,
+            ),
+            ("x", 65_511),
+            ("');\npool\n", 1),
+        ],
     ),
     (
         "a statement of 65,537 bytes",
         &[TEXT_TABLE, ("x", 65_512), ("')", 1)],
-        "session 1 a.sql\n1 ok\n2 refused 11 limit statement\nhistory 1\n",
+        &[(
+            "session 1 a.sql\n1 ok\n2 refused 11 limit statement\nhistory 1\n",
+            1,
+        )],
     ),
-    ("1,048,576 spaces", &[(" ", 1_048_576)], NOTHING_SERVED),
+    (
+        "1,048,576 spaces",
+        &[(" ", 1_048_576)],
+        &[(NOTHING_SERVED, 1)],
+    ),
     (
         "a name of 64 bytes",
         &[("CREATE TABLE ", 1), ("n", 64), (" (a INT)", 1)],
-        "session 1 a.sql\n1 ok\nhistory 1\n",
+        &[
+            ("session 1 a.sql\n1 ok\nhistory 1\n1 1 1 CREATE TABLE ", 1),
+            ("n", 64),
+            (" (a INT);\npool\n", 1),
+        ],
     ),
     (
         "a name of 65 bytes",
         &[("CREATE TABLE ", 1), ("n", 65), (" (a INT)", 1)],
-        "session 1 a.sql\n1 refused 11 limit name\nhistory 0\n",
+        &[("session 1 a.sql\n1 refused 11 limit name\nhistory 0\n", 1)],
     ),
     (
         "512 levels",
         &[ONE_ROW, ("(", 512), ("a = 1", 1), (")", 512)],
-        "session 1 a.sql\n1 ok\n2 ok 2\n3 rows 1\n1\nhistory 2\n",
+        &[("session 1 a.sql\n1 ok\n2 ok 2\n3 rows 1\n1\nhistory 2\n", 1)],
     ),
     (
         "513 levels",
         &[ONE_ROW, ("(", 513), ("a = 1", 1), (")", 513)],
-        "session 1 a.sql\n1 ok\n2 ok 2\n3 refused 11 limit nesting\nhistory 2\n",
+        &[(
+            "session 1 a.sql\n1 ok\n2 ok 2\n3 refused 11 limit nesting\nhistory 2\n",
+            1,
+        )],
     ),
 ];
 
@@ -57,6 +81,12 @@ const FOUR_TABLES: (&str, usize) = (
     "CREATE TABLE t (a INT); CREATE TABLE u (b INT); CREATE TABLE v (c INT); CREATE TABLE w (d INT); \
      INSERT INTO t VALUES (1), (2); INSERT INTO u VALUES (3), (4); INSERT INTO v VALUES (5), (6); \
      INSERT INTO w VALUES (7), (8); SELECT ",
+    1,
+);
+
+/// The replies to the tables and their rows, and the number of the reply to the query.
+const EIGHT_REPLIES: (&str, usize) = (
+    "session 1 a.sql\n1 ok\n2 ok\n3 ok\n4 ok\n5 ok 2\n6 ok 2\n7 ok 2\n8 ok 2\n9 ",
     1,
 );
 
@@ -96,7 +126,13 @@ const QUERIES: &[Case] = &[
             MORE_TESTS,
             LAST_TESTS,
         ],
-        "session 1 a.sql\n1 ok\n2 ok\n3 ok\n4 ok\n5 ok 2\n6 ok 2\n7 ok 2\n8 ok 2\n9 rows 1\n576,576,576,576,576,576,576,576,576,576,576,576,576,576,576,576,152,152,152,152,152,152,152,152,152,152,152,152,152,152,152,4\nhistory 8\n",
+        &[
+            EIGHT_REPLIES,
+            ("rows 1\n576", 1),
+            (",576", 15),
+            (",152", 15),
+            (",4\nhistory 8\n", 1),
+        ],
     ),
     (
         "a query with 33 items",
@@ -110,7 +146,7 @@ const QUERIES: &[Case] = &[
             MORE_TESTS,
             LAST_TESTS,
         ],
-        "session 1 a.sql\n1 ok\n2 ok\n3 ok\n4 ok\n5 ok 2\n6 ok 2\n7 ok 2\n8 ok 2\n9 refused 11 limit items\nhistory 8\n",
+        &[EIGHT_REPLIES, ("refused 11 limit items\nhistory 8\n", 1)],
     ),
     (
         "a query over five tables",
@@ -124,7 +160,7 @@ const QUERIES: &[Case] = &[
             MORE_TESTS,
             LAST_TESTS,
         ],
-        "session 1 a.sql\n1 ok\n2 ok\n3 ok\n4 ok\n5 ok 2\n6 ok 2\n7 ok 2\n8 ok 2\n9 refused 11 limit tables\nhistory 8\n",
+        &[EIGHT_REPLIES, ("refused 11 limit tables\nhistory 8\n", 1)],
     ),
     (
         "a query with 129 tests and operators",
@@ -138,7 +174,10 @@ const QUERIES: &[Case] = &[
             MORE_TESTS,
             LAST_TESTS,
         ],
-        "session 1 a.sql\n1 ok\n2 ok\n3 ok\n4 ok\n5 ok 2\n6 ok 2\n7 ok 2\n8 ok 2\n9 refused 11 limit conditions\nhistory 8\n",
+        &[
+            EIGHT_REPLIES,
+            ("refused 11 limit conditions\nhistory 8\n", 1),
+        ],
     ),
     (
         "an item of 65 literals, columns and operators",
@@ -152,19 +191,22 @@ const QUERIES: &[Case] = &[
             MORE_TESTS,
             LAST_TESTS,
         ],
-        "session 1 a.sql\n1 ok\n2 ok\n3 ok\n4 ok\n5 ok 2\n6 ok 2\n7 ok 2\n8 ok 2\n9 refused 11 limit expression\nhistory 8\n",
+        &[
+            EIGHT_REPLIES,
+            ("refused 11 limit expression\nhistory 8\n", 1),
+        ],
     ),
 ];
 
-/// The text of the parts, each as often as it comes.
-fn script_of(alloc: Global, parts: &[(&str, usize)]) -> Result<Vec<u8>, Memory> {
-    let mut script = Vec::new(alloc);
+/// The text of the parts.
+fn text_of(alloc: Global, parts: &[(&str, usize)]) -> Result<Vec<u8>, Memory> {
+    let mut text = Vec::new(alloc);
     for (part, times) in parts {
         for _ in 0..*times {
-            script.extend_from_slice(part.as_bytes())?;
+            text.extend_from_slice(part.as_bytes())?;
         }
     }
-    Ok(script)
+    Ok(text)
 }
 
 /// The status of the run of a script, and whether the output begins with this text.
@@ -172,12 +214,11 @@ fn served<R: Threads + Wait + Sync>(
     rt: &R,
     alloc: Global,
     parts: &[(&str, usize)],
-    want: &str,
+    want: &[u8],
 ) -> Result<(u8, bool), Memory> {
-    let script = script_of(alloc, parts)?;
+    let script = text_of(alloc, parts)?;
     let (status, _, text) = run_line(rt, alloc, "run a.sql", &[("a.sql", script.as_slice())])?;
-    let text = String::from_utf8(text).map_err(|_| Memory)?;
-    Ok((status, text.as_str().starts_with(want)))
+    Ok((status, text.as_slice().starts_with(want)))
 }
 
 /// The most statements that a script may have.
@@ -202,7 +243,7 @@ fn replies_to_most(alloc: Global) -> Result<String, Memory> {
 fn each_of_256_statements_has_its_reply(rt: HostRuntime) -> Result<(), Fail> {
     let alloc = rt.alloc();
     let want = replies_to_most(alloc)?;
-    let served = served(&rt, alloc, MOST_STATEMENTS, want.as_str())?;
+    let served = served(&rt, alloc, MOST_STATEMENTS, want.as_bytes())?;
     assert_eq!(rt; served, (0, true));
     Ok(())
 }
@@ -211,7 +252,8 @@ fn each_of_256_statements_has_its_reply(rt: HostRuntime) -> Result<(), Fail> {
 fn the_largest_scripts(rt: HostRuntime) -> Result<(), Fail> {
     let alloc = rt.alloc();
     for (name, parts, want) in LARGE_SCRIPTS {
-        let served = served(&rt, alloc, parts, want)?;
+        let want = text_of(alloc, want)?;
+        let served = served(&rt, alloc, parts, want.as_slice())?;
         assert_eq!(rt; served, (0, true), "{name}");
     }
     Ok(())
@@ -221,7 +263,8 @@ fn the_largest_scripts(rt: HostRuntime) -> Result<(), Fail> {
 fn the_largest_queries(rt: HostRuntime) -> Result<(), Fail> {
     let alloc = rt.alloc();
     for (name, parts, want) in QUERIES {
-        let served = served(&rt, alloc, parts, want)?;
+        let want = text_of(alloc, want)?;
+        let served = served(&rt, alloc, parts, want.as_slice())?;
         assert_eq!(rt; served, (0, true), "{name}");
     }
     Ok(())

@@ -127,13 +127,13 @@ const BUDGETS: [(&str, &str); 2] = [
     ("64", "pool\nentries "),
 ];
 
-/// The output of a replay of a case with a budget.
+/// The status and the output of a replay of a case with a budget.
 fn replayed<R: Threads + Wait + Sync>(
     rt: &R,
     alloc: Global,
     budget: &str,
     case: &Case,
-) -> Result<Vec<u8>, Memory> {
+) -> Result<(u8, Vec<u8>), Memory> {
     let second = if case.second.is_empty() { "" } else { "b.sql" };
     let options = case.options;
     let line = format!(in alloc; "replay --budget {budget} {options} order a.sql {second}")?;
@@ -142,11 +142,11 @@ fn replayed<R: Threads + Wait + Sync>(
         ("a.sql", case.first.as_bytes()),
         ("b.sql", case.second.as_bytes()),
     ];
-    let (_, _, text) = run_line(rt, alloc, line.as_str(), &files)?;
-    Ok(text)
+    let (status, _, text) = run_line(rt, alloc, line.as_str(), &files)?;
+    Ok((status, text))
 }
 
-/// Whether the replies of a case with a budget are those with room for everything.
+/// Whether a case with a budget ends with status 0, and its replies are those with room for everything.
 fn is_replied<R: Threads + Wait + Sync>(
     rt: &R,
     alloc: Global,
@@ -154,10 +154,10 @@ fn is_replied<R: Threads + Wait + Sync>(
     pool: &str,
     case: &Case,
 ) -> Result<bool, Memory> {
-    let text = replayed(rt, alloc, budget, case)?;
+    let (status, text) = replayed(rt, alloc, budget, case)?;
     let replies = case.replies;
     let want = format!(in alloc; "{replies}{pool}")?;
-    Ok(text.as_slice().starts_with(want.as_bytes()))
+    Ok(status == 0 && text.as_slice().starts_with(want.as_bytes()))
 }
 
 #[test]
